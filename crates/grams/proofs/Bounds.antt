@@ -1,0 +1,42 @@
+-- Bounds on sums and products of bounded numbers, put together as the expression is: `p ⊗ q ⊕ num 27000 ⊗ r` bounds `a * b + 27000 * c`.
+-- The bound is a numeral, which antt computes. Assumes nothing.
+use mathlib.Core.Path.{_≡_}
+use Prim.Native.Nat.{ℕ, _+_, _-_, _*_, _^_, _<_, _≤_}
+use native.Mathlib.Nat.{le-refl, le-trans, sub-le, add-le-add, mul-le-mul, lt-of-le-of-lt}
+use mir.Val.{Fits}
+use mir.Syntax.{w64}
+use lib.Dec.{T, leb, ltb, lit<, lit≤}
+use Rattle.grams.specs.Round.{roundDiv, round-le}
+use Rattle.grams.specs.Figure.{Figure, Gas}
+use Rattle.grams.specs.declared.units.N2o.{N2o}
+
+infixl 70 _⊗_
+infixl 65 _⊕_
+pub _⊗_ : {a b A B : ℕ} → a ≤ A → b ≤ B → a * b ≤ A * B
+p ⊗ q = mul-le-mul p q
+
+pub _⊕_ : {a b A B : ℕ} → a ≤ A → b ≤ B → a + b ≤ A + B
+p ⊕ q = add-le-add p q
+
+pub num : (k : ℕ) → k ≤ k
+num k = le-refl k
+
+-- a difference is at most what it is taken from
+pub less : {a A : ℕ} (b : ℕ) → a ≤ A → a - b ≤ A
+less b p = le-trans (sub-le _ b) p
+
+-- a number within N fits 64 bits, N being a numeral below 2 ^ 64
+pub fits : {n N : ℕ} → n ≤ N → T (ltb N (2 ^ 64)) → Fits w64 n
+fits p t = record { fits = lt-of-le-of-lt p (lit< t) }
+
+-- n within N rounds to at most b where N is within b * d, all three numerals
+pub rounds : {n N : ℕ} (d b : ℕ) → n ≤ N → T (ltb 0 d) → T (leb N (b * d)) → roundDiv n d ≤ b
+rounds d b p t u = round-le _ d b (lit< t) (le-trans p (lit≤ u))
+
+-- a number known to be the rule's value answers a contract by the value's bound
+pub figure : {value most r : ℕ} → r ≡ value → value ≤ most → Figure value most r
+figure e p = record { exact = e; small = rw e p }
+
+-- the same of N2O
+pub gas : {value r : N2o} {most : ℕ} → r ≡ value → value .0 ≤ most → Gas value most r
+gas e p = record { exact = e; small = rw e p }

@@ -1,0 +1,5 @@
+pub mod Bounds
+pub mod Parts
+pub mod Small
+pub mod Cases
+pub mod OneAnswer

@@ -1,0 +1,38 @@
+-- The bound of each separately rounded figure, over the plain ranges of what goes into it. Assumes nothing.
+use Prim.Native.Nat.{ℕ, _+_, _-_, _*_, _^_, _≤_}
+use Rattle.grams.specs.Cattle as cattle
+use Rattle.grams.specs.Pig as pig
+use Rattle.grams.proofs.Bounds.{_⊗_, _⊕_, num, less, rounds}
+
+module _ {x head days : ℕ} (p : x ≤ 3200000000) (h : head ≤ 20000) (d : days ≤ 366) where
+  pub cattle-excreted-most : cattle.excretedOf x head days ≤ 10 ^ 11
+  cattle-excreted-most = rounds _ _ (p ⊗ h ⊗ d) tt tt
+
+module _ {n solid liquid : ℕ} (p : n ≤ 10 ^ 11) (s : solid ≤ 10000) (l : liquid ≤ 10000) where
+  pub cattle-direct-most : cattle.directOf n solid liquid .0 ≤ 5 * 10 ^ 9
+  cattle-direct-most = rounds _ _ (p ⊗ num _ ⊗ (s ⊕ l)) tt tt
+
+  pub cattle-indirect-most : cattle.indirectOf n solid liquid .0 ≤ 5 * 10 ^ 9
+  cattle-indirect-most = rounds _ _ (p ⊗ (num _ ⊗ s ⊕ num _ ⊗ l)) tt tt
+
+module _ {feed vs vsfactor : ℕ} (f : feed ≤ 1000) (v : vs ≤ 5000) (k : vsfactor ≤ 2000) where
+  pub pig-solids-most : pig.solidsOf feed vs vsfactor ≤ 10 ^ 7
+  pig-solids-most = rounds _ _ (f ⊗ v ⊗ k) tt tt
+
+module _ {v mcf head days : ℕ} (p : v ≤ 10 ^ 7) (m : mcf ≤ 1000) (h : head ≤ 20000) (d : days ≤ 366) where
+  pub pig-ch4-most : pig.ch4Of v mcf head days ≤ 10 ^ 11
+  pig-ch4-most = rounds _ _ (p ⊗ m ⊗ h ⊗ d ⊗ num _) tt tt
+
+module _ {feed protein nfactor head days : ℕ} (f : feed ≤ 1000) (p : protein ≤ 4000) (k : nfactor ≤ 2000) (h : head ≤ 20000) (d : days ≤ 366) where
+  pub pig-nitrogen-most : pig.nitrogenOf feed protein nfactor head days ≤ 7 * 10 ^ 9
+  pig-nitrogen-most = rounds _ _ (f ⊗ p ⊗ k ⊗ h ⊗ d ⊗ num _) tt tt
+
+module _ {n : ℕ} (p : n ≤ 7 * 10 ^ 9) where
+  pub pig-direct-most : {ef : ℕ} → ef ≤ 10000 → pig.directOf n ef .0 ≤ 5 * 10 ^ 9
+  pig-direct-most e = rounds _ _ (p ⊗ e ⊗ num _) tt tt
+
+  pub pig-indirect-most : {volatilised volatilisedef leached leachedef : ℕ} → volatilised ≤ 1000 → volatilisedef ≤ 10000 → leached ≤ 1000 → leachedef ≤ 10000 → pig.indirectOf n volatilised volatilisedef leached leachedef .0 ≤ 5 * 10 ^ 9
+  pig-indirect-most v e l f = rounds _ _ (p ⊗ (v ⊗ e ⊕ l ⊗ f) ⊗ num _) tt tt
+
+  pub pig-land-most : (volatilised leached : ℕ) → pig.landOf n volatilised leached ≤ 7 * 10 ^ 9
+  pig-land-most volatilised leached = rounds _ _ (p ⊗ less leached (less volatilised (num _))) tt tt

@@ -1,0 +1,19 @@
+-- `grams::cattle::indirect` meets its contract. Assumes nothing.
+use borrow.Author.Needs.{needs}
+use mathlib.Core.Path.{ap}
+use Rattle.grams.specs.Units.{gramsN2o}
+use Rattle.grams.proofs.Bounds.{_⊗_, _⊕_, num, fits, gas}
+use Rattle.grams.proofs.Parts.{cattle-indirect-most}
+use Rattle.grams.proofs.cattle.indirect.Statement.{statement}
+use Rattle.grams.proofs.cattle.indirect.Tie as tie
+
+pub indirect-spec : {M : Type 1} → statement M
+indirect-spec =
+    tie.close
+    (tie.spec
+    (λ c. search needs)
+    (λ c. search needs)
+    (λ c. search needs)
+    (λ c. let p = c .pre in fits (p .0 ⊗ (num _ ⊗ p .1 ⊕ num _ ⊗ p .2)) tt)
+    (λ c κs. search needs)
+    (λ c. let p = c .before .pre in gas (ap gramsN2o (c .round-div .ensures)) (cattle-indirect-most (p .0) (p .1) (p .2))))

@@ -1,0 +1,19 @@
+-- `grams::farm::energy` meets its contract. Assumes nothing.
+use borrow.Author.Needs.{needs}
+use Rattle.grams.specs.Farm.{energyOf}
+use Rattle.grams.proofs.Bounds.{_⊗_, fits, figure}
+use Rattle.grams.proofs.Small.{energy-small}
+use Rattle.grams.proofs.farm.energy.Statement.{statement}
+use Rattle.grams.proofs.farm.energy.Tie as tie
+
+returns : tie.Need-returns
+unfolding energyOf
+returns c = figure (c .round-div .ensures) (energy-small (c .before .pre))
+
+pub energy-spec : {M : Type 1} → statement M
+energy-spec =
+    tie.close
+    (tie.spec
+    (λ c. let p = c .pre in fits (p .amount-in ⊗ p .factor-in) tt)
+    (λ c κs. search needs)
+    returns)

@@ -1,0 +1,57 @@
+-- Document 01, "The arithmetic": energy, organic soil, and the total's CO2e. Assumes nothing.
+use Prim.Native.Nat.{ℕ, _+_, _*_, _^_, _≤_}
+use lib.Dec.{eqb}
+use Rattle.grams.specs.Pick.{pick}
+use Rattle.grams.specs.Round.{roundDiv}
+use Rattle.grams.specs.Figure.{Figure}
+use Rattle.grams.specs.declared.farm.Warming.{Warming}
+use Rattle.grams.specs.declared.farm.Warming.the-variants.{First, Second}
+
+-- the ranges of an energy record, from above
+pub record EnergyIn (amount factor : ℕ) : Type 0 where
+  pub amount-in : amount ≤ 10000000
+  pub factor-in : factor ≤ 10000000
+
+-- CO2 = round(amount × factor / 10)
+unfoldable pub energyOf : ℕ → ℕ → ℕ
+energyOf amount factor = roundDiv (amount * factor) 10
+
+-- what `energy` answers
+abbrev pub Energy : ℕ → ℕ → ℕ → Type 0
+Energy amount factor r = Figure (energyOf amount factor) (10 ^ 13) r
+
+-- the range of an organic soil record, from above
+pub record SoilIn (area : ℕ) : Type 0 where
+  pub area-in : area ≤ 10000000
+
+-- CO2 = round(area × 550000 / 3)
+unfoldable pub soilOf : ℕ → ℕ
+soilOf area = roundDiv (area * 550000) 3
+
+-- what `soil` answers
+abbrev pub Soil : ℕ → ℕ → Type 0
+Soil area r = Figure (soilOf area) (10 ^ 13) r
+
+-- a and b
+pub record Factors : Type 0 where
+  pub ch4 : ℕ
+  pub n2o : ℕ
+
+-- (a, b) = (21, 310) in set 1, (23, 296) in set 2
+abbrev pub factorsOf : Warming → Factors
+factorsOf First = record { ch4 = 21; n2o = 310 }
+factorsOf Second = record { ch4 = 23; n2o = 296 }
+
+-- the warming set by its number, 1 or 2
+abbrev pub warmingOf : ℕ → Warming
+warmingOf set = pick (eqb set 1) First Second
+
+-- the most that the sums of 4,096 records reach
+pub record SumsIn (co2 ch4 n2o : ℕ) : Type 0 where
+  pub co2-in : co2 ≤ 4096 * 10 ^ 13
+  pub ch4-in : ch4 ≤ 4096 * 10 ^ 11
+  pub n2o-in : n2o ≤ 4096 * 10 ^ 10
+
+-- CO2e = CO2 + a × CH4 + b × N2O
+unfoldable pub co2eOf : Warming → ℕ → ℕ → ℕ → ℕ
+co2eOf w co2 ch4 n2o = co2 + factorsOf w .ch4 * ch4 + factorsOf w .n2o * n2o

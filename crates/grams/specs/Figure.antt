@@ -1,0 +1,14 @@
+-- Document 01, "Lines, calls and state": a figure is what its rule gives, and it keeps within its bound for a record. Assumes nothing.
+use mathlib.Core.Path.{_≡_}
+use Prim.Native.Nat.{ℕ, _≤_}
+use Rattle.grams.specs.declared.units.N2o.{N2o}
+
+-- r is the rule's value, and at most so much
+pub record Figure (value most r : ℕ) : Type 0 where
+  pub exact : r ≡ value
+  pub small : r ≤ most
+
+-- the same of grams of N2O
+pub record Gas (value : N2o) (most : ℕ) (r : N2o) : Type 0 where
+  pub exact : r ≡ value
+  pub small : r .0 ≤ most

@@ -1,0 +1,6 @@
+// The arithmetic of the farm book: each figure in whole grams, by what its contract states.
+pub mod cattle;
+pub mod farm;
+pub mod pig;
+pub mod rounding;
+pub mod units;
