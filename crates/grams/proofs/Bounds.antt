@@ -34,9 +34,9 @@ pub rounds : {n N : ℕ} (d b : ℕ) → n ≤ N → T (ltb 0 d) → T (leb N (b
 rounds d b p t u = round-le _ d b (lit< t) (le-trans p (lit≤ u))
 
 -- a number known to be the rule's value answers a contract by the value's bound
-pub figure : {value most r : ℕ} → r ≡ value → value ≤ most → Figure value most r
-figure e p = record { exact = e; small = rw e p }
+pub figure : {value most r : ℕ} → value ≤ most → r ≡ value → Figure value most r
+figure p e = record { exact = e; small = rw e p }
 
 -- the same of N2O
-pub gas : {value r : N2o} {most : ℕ} → r ≡ value → value .0 ≤ most → Gas value most r
-gas e p = record { exact = e; small = rw e p }
+pub gas : {value r : N2o} {most : ℕ} → value .0 ≤ most → r ≡ value → Gas value most r
+gas p e = record { exact = e; small = rw e p }

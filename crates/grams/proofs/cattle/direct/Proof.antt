@@ -15,4 +15,4 @@ direct-spec =
     (λ c. search needs)
     (λ c. let p = c .pre in fits (p .0 ⊗ num _ ⊗ (p .1 ⊕ p .2)) tt)
     (λ c κs. search needs)
-    (λ c. let p = c .before .pre in gas (ap gramsN2o (c .round-div .ensures)) (cattle-direct-most (p .0) (p .1) (p .2))))
+    (λ c. let p = c .before .pre in gas (cattle-direct-most (p .0) (p .1) (p .2)) (ap gramsN2o (c .round-div .ensures))))

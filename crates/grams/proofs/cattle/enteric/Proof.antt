@@ -8,7 +8,7 @@ use Rattle.grams.proofs.cattle.enteric.Tie as tie
 
 returns : tie.Need-returns
 unfolding entericOf
-returns c = figure (c .round-div .ensures) (enteric-small (c .before .pre))
+returns c = figure (enteric-small (c .before .pre)) (c .round-div .ensures)
 
 pub enteric-spec : {M : Type 1} → statement M
 enteric-spec =

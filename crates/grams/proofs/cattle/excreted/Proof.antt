@@ -12,4 +12,4 @@ excreted-spec =
     (λ c. let p = c .pre in fits (p .0 ⊗ p .1) tt)
     (λ c. let p = c .pre in fits (p .0 ⊗ p .1 ⊗ p .2) tt)
     (λ c κs. search needs)
-    (λ c. let p = c .before .pre in figure (c .round-div .ensures) (cattle-excreted-most (p .0) (p .1) (p .2))))
+    (λ c. let p = c .before .pre in figure (cattle-excreted-most (p .0) (p .1) (p .2)) (c .round-div .ensures)))

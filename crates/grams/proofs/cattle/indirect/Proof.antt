@@ -16,4 +16,4 @@ indirect-spec =
     (λ c. search needs)
     (λ c. let p = c .pre in fits (p .0 ⊗ (num _ ⊗ p .1 ⊕ num _ ⊗ p .2)) tt)
     (λ c κs. search needs)
-    (λ c. let p = c .before .pre in gas (ap gramsN2o (c .round-div .ensures)) (cattle-indirect-most (p .0) (p .1) (p .2))))
+    (λ c. let p = c .before .pre in gas (cattle-indirect-most (p .0) (p .1) (p .2)) (ap gramsN2o (c .round-div .ensures))))

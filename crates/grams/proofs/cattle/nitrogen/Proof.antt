@@ -3,11 +3,11 @@ use borrow.Author.Needs.{needs}
 use borrow.Author.Tests.{lt-ltb, le-ltb}
 use native.Mathlib.Omega.{arith}
 use mathlib.Core.Path.{_≡_}
-use Prim.Native.Nat.{ℕ, _+_, _-_, _*_, _≤_}
+use Prim.Native.Nat.{ℕ, _+_, _-_, _*_, _<_, _≤_}
 use Rattle.grams.specs.Cattle.{CattleIn, fedOf, keptOf, belowZero, excretedOf, storageOf, manureOf, nitrogenOf}
 use Rattle.grams.specs.declared.units.N2o.{N2o}
 use Rattle.grams.specs.declared.cattle.CattleRation.{CattleRation}
-use Rattle.grams.specs.declared.cattle.CattleNitrogen.the-variants.{Given}
+use Rattle.grams.specs.declared.cattle.CattleNitrogen.the-variants.{BelowZero, Given}
 use Rattle.grams.proofs.Bounds.{_⊗_, num}
 use Rattle.grams.proofs.cattle.nitrogen.Statement.{statement}
 use Rattle.grams.proofs.cattle.nitrogen.Tie as tie
@@ -20,14 +20,20 @@ module _ {r : CattleRation} {head : ℕ} (p : CattleIn r head) where
   milk-room : 157 * r .milk * r .milkprotein ≤ 1004800000
   milk-room = num _ ⊗ p .milk-in ⊗ p .milkprotein-in
 
+-- the answer where milk and gain keep more
+below-is : (r : CattleRation) (head : ℕ) → fedOf r < keptOf r → BelowZero ≡ nitrogenOf r head
+unfolding belowZero
+below-is r head p = simp (lt-ltb _ _ p)
+
 -- the answer where the feed brings enough
 given-is : (r : CattleRation) (head n : ℕ) (g : N2o) → keptOf r ≤ fedOf r → n ≡ excretedOf (fedOf r - keptOf r) head (r .days) → g ≡ storageOf n (r .solid) (r .liquid) → Given (record { excreted = n; n2o = g }) ≡ nitrogenOf r head
 unfolding belowZero manureOf
 given-is r head n g p e f = simp (le-ltb _ _ p) (cc)
 
 returns : tie.Need-returns
-unfolding belowZero
-returns c = record { exact = simp (lt-ltb _ _ (c .if1 .taken)); small = tt }
+returns c =
+    let a = c .before .before .before .before .before .before .args in
+    record { exact = below-is (a .r) (a .head) (c .if1 .taken); small = tt }
 
 returns-2 : tie.Need-returns-2
 returns-2 c = record { exact = search (needs, given-is); small = search needs }

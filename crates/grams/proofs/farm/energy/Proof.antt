@@ -8,7 +8,7 @@ use Rattle.grams.proofs.farm.energy.Tie as tie
 
 returns : tie.Need-returns
 unfolding energyOf
-returns c = figure (c .round-div .ensures) (energy-small (c .before .pre))
+returns c = figure (energy-small (c .before .pre)) (c .round-div .ensures)
 
 pub energy-spec : {M : Type 1} → statement M
 energy-spec =

@@ -8,7 +8,7 @@ use Rattle.grams.proofs.farm.soil.Tie as tie
 
 returns : tie.Need-returns
 unfolding soilOf
-returns c = figure (c .round-div .ensures) (soil-small (c .before .pre))
+returns c = figure (soil-small (c .before .pre)) (c .round-div .ensures)
 
 pub soil-spec : {M : Type 1} → statement M
 soil-spec = tie.close (tie.spec (λ c. search needs) (λ c κs. search needs) returns)

@@ -14,4 +14,4 @@ ch4-spec =
     (λ c. let p = c .pre in fits (p .0 ⊗ p .1 ⊗ p .2 ⊗ p .3) tt)
     (λ c. let p = c .pre in fits (p .0 ⊗ p .1 ⊗ p .2 ⊗ p .3 ⊗ num _) tt)
     (λ c κs. search needs)
-    (λ c. let p = c .before .pre in figure (c .round-div .ensures) (pig-ch4-most (p .0) (p .1) (p .2) (p .3))))
+    (λ c. let p = c .before .pre in figure (pig-ch4-most (p .0) (p .1) (p .2) (p .3)) (c .round-div .ensures)))

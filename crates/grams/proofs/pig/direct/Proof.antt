@@ -28,4 +28,4 @@ direct-spec =
     (λ c κs. let p = c .before .pre in rw (c .of .ensures) (omega (arith, p .0 ⊗ p .1)))
     (λ c.
     let s = c .before .before in
-    gas (c .to-n2o .ensures ∙ ap asN2o (c .before .of .ensures) ∙ scaled (s .args .n) (s .args .ef)) (pig-direct-most (s .pre .0) (s .pre .1))))
+    gas (pig-direct-most (s .pre .0) (s .pre .1)) (c .to-n2o .ensures ∙ ap asN2o (c .before .of .ensures) ∙ scaled (s .args .n) (s .args .ef))))

@@ -20,4 +20,4 @@ indirect-spec =
     (λ c κs. let p = c .before .pre in rw (c .of .ensures) (omega (arith, p .0 ⊗ (p .1 ⊗ p .2 ⊕ p .3 ⊗ p .4))))
     (λ c.
     let p = c .before .before .pre in
-    gas (c .to-n2o .ensures ∙ ap asN2o (c .before .of .ensures)) (pig-indirect-most (p .0) (p .1) (p .2) (p .3) (p .4))))
+    gas (pig-indirect-most (p .0) (p .1) (p .2) (p .3) (p .4)) (c .to-n2o .ensures ∙ ap asN2o (c .before .of .ensures))))

@@ -13,4 +13,4 @@ land-spec =
     (λ c. search needs)
     (λ c. fits (c .pre .0 ⊗ less _ (less _ (num _))) tt)
     (λ c κs. search needs)
-    (λ c. let s = c .before in figure (c .round-div .ensures) (pig-land-most (s .pre .0) (s .args .volatilised) (s .args .leached))))
+    (λ c. let s = c .before in figure (pig-land-most (s .pre .0) (s .args .volatilised) (s .args .leached)) (c .round-div .ensures)))

@@ -15,4 +15,4 @@ nitrogen-spec =
     (λ c. let p = c .pre in fits (p .0 ⊗ p .1 ⊗ p .2 ⊗ p .3 ⊗ p .4) tt)
     (λ c. let p = c .pre in fits (p .0 ⊗ p .1 ⊗ p .2 ⊗ p .3 ⊗ p .4 ⊗ num _) tt)
     (λ c κs. search needs)
-    (λ c. let p = c .before .pre in figure (c .round-div .ensures) (pig-nitrogen-most (p .0) (p .1) (p .2) (p .3) (p .4))))
+    (λ c. let p = c .before .pre in figure (pig-nitrogen-most (p .0) (p .1) (p .2) (p .3) (p .4)) (c .round-div .ensures)))
