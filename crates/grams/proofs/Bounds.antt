@@ -1,7 +1,7 @@
 -- Bounds on sums and products of bounded numbers, put together as the expression is: `p ⊗ q ⊕ num 27000 ⊗ r` bounds `a * b + 27000 * c`.
 -- The bound is a numeral, which antt computes. Assumes nothing.
 use mathlib.Core.Path.{_≡_}
-use Prim.Native.Nat.{ℕ, _+_, _-_, _*_, _^_, _<_, _≤_}
+use Prim.Native.Nat.{ℕ, _+_, _-_, _*_, _^_, _≤_}
 use native.Mathlib.Nat.{le-refl, le-trans, sub-le, add-le-add, mul-le-mul, lt-of-le-of-lt}
 use mir.Val.{Fits}
 use mir.Syntax.{w64}

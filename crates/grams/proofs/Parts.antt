@@ -1,5 +1,5 @@
 -- The bound of each separately rounded figure, over the plain ranges of what goes into it. Assumes nothing.
-use Prim.Native.Nat.{ℕ, _+_, _-_, _*_, _^_, _≤_}
+use Prim.Native.Nat.{ℕ, _*_, _^_, _≤_}
 use Rattle.grams.specs.Cattle as cattle
 use Rattle.grams.specs.Pig as pig
 use Rattle.grams.proofs.Bounds.{_⊗_, _⊕_, num, less, rounds}

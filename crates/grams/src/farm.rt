@@ -2,7 +2,6 @@
 use crate::rounding::round_div;
 use crate::units::N2o;
 ghost use mathlib.Core.Path.{_≡_};
-ghost use Prim.Native.Nat.{_*_, _^_, _≤_};
 ghost use Rattle.grams.specs.Farm.{EnergyIn, Energy, SoilIn, Soil, SumsIn, co2eOf};
 
 // Grams of CO2.
