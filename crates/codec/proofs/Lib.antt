@@ -1,0 +1,4 @@
+pub mod BigEndian
+pub mod Stores
+pub mod Values
+pub mod InRange

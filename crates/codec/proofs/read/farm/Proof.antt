@@ -1,0 +1,19 @@
+-- `codec::read::farm` meets its contract.
+-- Assumes nothing.
+use Rattle.codec.specs.Table.{table}
+use Rattle.codec.proofs.Values.{values-placed}
+use borrow.Author.Needs.{needs}
+use Rattle.codec.proofs.read.farm.Statement.{statement}
+use Rattle.codec.proofs.read.farm.Tie as tie
+
+pub farm-spec : {M : Type 1} → statement M
+unfolding table
+farm-spec =
+    tie.close
+    (tie.spec
+    (λ c κs. search needs)
+    (λ c. search needs)
+    (λ c κs. search needs)
+    (λ c. search needs)
+    (λ c κs. search needs)
+    (λ c. rw values-placed (cc)))

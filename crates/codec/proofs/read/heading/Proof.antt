@@ -1,0 +1,19 @@
+-- `codec::read::heading` meets its contract.
+-- Assumes nothing.
+use Rattle.codec.specs.Table.{table}
+use Rattle.codec.proofs.Values.{values-placed}
+use borrow.Author.Needs.{needs}
+use Rattle.codec.proofs.read.heading.Statement.{statement}
+use Rattle.codec.proofs.read.heading.Tie as tie
+
+pub heading-spec : {M : Type 1} → statement M
+unfolding table
+heading-spec =
+    tie.close
+    (tie.spec
+    (λ c κs. search needs)
+    (λ c. search needs)
+    (λ c κs. search needs)
+    (λ c. search needs)
+    (λ c κs. search needs)
+    (λ c. rw values-placed (cc)))
