@@ -32,6 +32,29 @@ pub fn be32(s: &[u8], at: usize) -> u64
     ((wide(s[at]) * 256 + wide(s[at + 1])) * 256 + wide(s[at + 2])) * 256 + wide(s[at + 3])
 }
 
+pub fn put1(out: &mut [u8], at: usize, v: u64)
+    requires { ⌜ at + 1 ≤ length (now out) ⌝ }
+    ensures { λ _. ⌜ now (out .exit) ≡ sets (now (out .entry)) at (be 1 v) ⌝ }
+{
+    out[at] = (v % 256) as u8;
+}
+
+pub fn put2(out: &mut [u8], at: usize, v: u64)
+    requires { ⌜ at + 2 ≤ length (now out) ⌝ }
+    ensures { λ _. ⌜ now (out .exit) ≡ sets (now (out .entry)) at (be 2 v) ⌝ }
+{
+    out[at] = (v / 256 % 256) as u8;
+    out[at + 1] = (v % 256) as u8;
+}
+
+pub fn put4(out: &mut [u8], at: usize, v: u64)
+    requires { ⌜ at + 4 ≤ length (now out) ⌝ }
+    ensures { λ _. ⌜ now (out .exit) ≡ sets (now (out .entry)) at (be 4 v) ⌝ }
+{
+    put2(out, at, v / 256 / 256);
+    put2(out, at + 2, v);
+}
+
 // An array of its own, so that the compiler stores one swapped word.
 pub fn bytes8(v: u64) -> [u8; 8]
     ensures { λ r. ⌜ r ≡ be 8 v ⌝ }
