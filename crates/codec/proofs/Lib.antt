@@ -1,4 +1,6 @@
 pub mod BigEndian
 pub mod Stores
 pub mod Values
-pub mod InRange
+pub mod Within
+pub mod Rows
+pub mod Round

@@ -1,7 +1,7 @@
 -- Laws of runs of stores into a slice.
 -- Assumes nothing.
 use mathlib.Core.Path.{_≡_, refl, sym, ap, _∙_}
-use mathlib.Core.List.{List, [], _∷_, _++_}
+use mathlib.Core.List.{List, [], _∷_, _++_, append-assoc}
 use Prim.Native.Nat.{ℕ, suc, _+_, _/_, _<_, _≤_}
 use native.Mathlib.Omega.{arith}
 use native.Mathlib.Nat.{zero-add, add-zero, add-suc, add-assoc}
@@ -57,5 +57,5 @@ pub bytes-stored : (f : Field) (fs : List Field) (vs l : List ℕ) (at : ℕ) �
 bytes-stored f fs vs l at = ap (λ k. sets l k (bytesOf (f ∷ fs) vs 0)) (sym (add-zero at)) ∙ stores-all (f ∷ fs) vs 0 l at 0 ∙ rw (add-zero, zero-add)
 
 -- a run of n stores, as the parts before and after it
-pub sets-at : (n : ℕ) (vs l : List ℕ) (i : ℕ) → length vs ≡ n → i + n ≤ length l → sets l i vs ≡ take i l ++ vs ++ drop (i + n) l
-sets-at n vs l i e h = sets-eq vs l i (rw e h) ∙ ap (λ k. take i l ++ vs ++ drop (i + k) l) e
+pub sets-at : (n : ℕ) (vs l : List ℕ) (i : ℕ) → length vs ≡ n → i + n ≤ length l → sets l i vs ≡ take i l ++ (vs ++ drop (i + n) l)
+sets-at n vs l i e h = sets-eq vs l i (rw e h) ∙ append-assoc (take i l) vs (drop (i + length vs) l) ∙ ap (λ k. take i l ++ (vs ++ drop (i + k) l)) e

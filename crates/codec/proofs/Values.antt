@@ -29,7 +29,7 @@ pub values-same : (fs : List Field) (s t : List ℕ) (p q : ℕ) → ((k : ℕ) 
 unfolding valuesAt size
 values-same [] s t p q h = refl
 values-same (f ∷ fs) s t p q h =
-    rw (valAt-same s t p q (f .0) (λ k l. h k (omega arith)), values-same fs s t (p + f .0) (q + f .0) (λ k l. rw (add-assoc, add-assoc) (h (f .0 + k) (omega arith))))
+    rw (valAt-same s t p q (f .0) (λ k l. h k (omega arith)), values-same fs s t (p + f .0) (q + f .0) (λ k l. rw (add-assoc p (f .0) k, add-assoc q (f .0) k) (h (f .0 + k) (omega arith))))
 
 -- the values of a part of the bytes
 pub values-drop : (fs : List Field) (s : List ℕ) (n : ℕ) → valuesAt fs (drop n s) 0 ≡ valuesAt fs s n

@@ -2,7 +2,7 @@
 -- Assumes nothing.
 use lib.Dec.{lit<, lit≤}
 use Rattle.codec.specs.Table.{table, fields}
-use Rattle.codec.proofs.InRange.{too-low, too-high, none-bad}
+use Rattle.codec.proofs.Within.{too-low, too-high, none-bad}
 use borrow.Author.Needs.{needs}
 use Rattle.codec.proofs.ranges.enteric.Statement.{statement}
 use Rattle.codec.proofs.ranges.enteric.Tie as tie

@@ -3,7 +3,7 @@
 use mathlib.Core.Path.{_≡_, refl, sym, ap, _∙_}
 use mathlib.Core.Bool.{Bool, true, false}
 use mathlib.Core.List.{List, [], _∷_}
-use Prim.Native.Nat.{ℕ, zero, suc, _+_, _<_, _≤_}
+use Prim.Native.Nat.{ℕ, zero, suc, _+_, _<_, _≤_, suc-le-suc}
 use native.Mathlib.Omega.{arith}
 use native.Mathlib.Nat.{zero-add, add-zero, add-suc, suc-add, not-suc-le-zero, le-of-suc-le-suc}
 use borrow.Author.Tests.{leb-true, le-leb, lt-leb}
@@ -18,26 +18,44 @@ use Rattle.codec.specs.Codec.{firstBad, pick}
 abbrev pub none : Field
 none = field 0 0 0
 
-pub record InRange (f : Field) (v : ℕ) : Type 0 where
+pub record Within (f : Field) (v : ℕ) : Type 0 where
   pub above : f .1 ≤ v
   pub below : v ≤ f .2
 
-head-ok : (f : Field) (v r i : ℕ) (a b : Bool) → leb (f .1) v ≡ a → leb v (f .2) ≡ b → pick a (pick b r (suc i)) (suc i) ≡ 0 → InRange f v × (r ≡ 0)
+head-ok : (f : Field) (v r i : ℕ) (a b : Bool) → leb (f .1) v ≡ a → leb v (f .2) ≡ b → pick a (pick b r (suc i)) (suc i) ≡ 0 → Within f v × (r ≡ 0)
 head-ok f v r i true true d e p = (record { above = leb-true _ _ d; below = leb-true _ _ e }, p)
 head-ok f v r i true false d e p = absurd (omega arith)
 head-ok f v r i false b d e p = absurd (omega arith)
 
--- where no value is out of its range, each is in it
-pub ranges : (vs : List ℕ) (fs : List Field) (i : ℕ) → firstBad fs vs i ≡ 0 → (j : ℕ) → j < length fs → InRange (getD fs j none) (getD vs (i + j) 0)
+-- where no value is out of its range, the first is in it, and no other is out of its own
+pub first-within : (f : Field) (fs : List Field) (vs : List ℕ) (i : ℕ) → firstBad (f ∷ fs) vs i ≡ 0 → Within f (getD vs i 0) × (firstBad fs vs (suc i) ≡ 0)
 unfolding firstBad
+first-within f fs vs i p = head-ok f (getD vs i 0) (firstBad fs vs (suc i)) i (leb (f .1) (getD vs i 0)) (leb (getD vs i 0) (f .2)) refl refl p
+
+-- and so each is in its range
+pub ranges : (vs : List ℕ) (fs : List Field) (i : ℕ) → firstBad fs vs i ≡ 0 → (j : ℕ) → j < length fs → Within (getD fs j none) (getD vs (i + j) 0)
 ranges vs [] i p j h = absurd (not-suc-le-zero h)
-ranges vs (f ∷ fs) i p j h =
-    let o = head-ok f (getD vs i 0) (firstBad fs vs (suc i)) i (leb (f .1) (getD vs i 0)) (leb (getD vs i 0) (f .2)) refl refl p in
-    go j h (o .0) (ranges vs fs (suc i) (o .1))
-  where
-    go : (j : ℕ) → j < suc (length fs) → InRange f (getD vs i 0) → ((j : ℕ) → j < length fs → InRange (getD fs j none) (getD vs (suc i + j) 0)) → InRange (getD (f ∷ fs) j none) (getD vs (i + j) 0)
-    go zero h a b = rw add-zero a
-    go (suc j) h a b = rw (add-suc, ← suc-add) (b j (le-of-suc-le-suc h))
+ranges vs (f ∷ fs) i p zero h = rw add-zero (first-within f fs vs i p .0)
+ranges vs (f ∷ fs) i p (suc j) h = rw (add-suc, ← suc-add) (ranges vs fs (suc i) (first-within f fs vs i p .1) j (le-of-suc-le-suc h))
+
+-- the converse
+pub no-bad : (vs : List ℕ) (fs : List Field) (i : ℕ) → ((j : ℕ) → j < length fs → Within (getD fs j none) (getD vs (i + j) 0)) → firstBad fs vs i ≡ 0
+unfolding firstBad
+no-bad vs [] i h = refl
+no-bad vs (f ∷ fs) i h =
+    let o : Within f (getD vs i 0) = rw add-zero at (h 0 (omega arith)) in
+    rw (le-leb _ _ (o .above), le-leb _ _ (o .below)) (no-bad vs fs (suc i) (λ j k. rw (suc-add, ← add-suc) (h (suc j) (suc-le-suc k))))
+
+pick-le : (a b : Bool) (r m n : ℕ) → r ≤ n → m ≤ n → pick a (pick b r m) m ≤ n
+pick-le true true r m n h k = h
+pick-le true false r m n h k = k
+pick-le false b r m n h k = k
+
+-- the position is one of the fields'
+pub bad-position : (fs : List Field) (vs : List ℕ) (i : ℕ) → firstBad fs vs i ≤ i + length fs
+unfolding firstBad
+bad-position [] vs i = omega arith
+bad-position (f ∷ fs) vs i = pick-le (leb (f .1) (getD vs i 0)) (leb (getD vs i 0) (f .2)) _ _ _ (omega (arith, bad-position fs vs (suc i))) (omega arith)
 
 -- ---- what a chain of tests has found out
 
