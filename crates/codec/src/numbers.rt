@@ -22,14 +22,20 @@ pub fn be16(s: &[u8], at: usize) -> u64
     requires { ⌜ at + 2 ≤ length (now s) ⌝ }
     ensures { λ r. ⌜ r ≡ valAt (now (s .entry)) at 2 ⌝ }
 {
-    wide(s[at]) * 256 + wide(s[at + 1])
+    let high = wide(s[at]);
+    let low = wide(s[at + 1]);
+    high * 256 + low
 }
 
 pub fn be32(s: &[u8], at: usize) -> u64
     requires { ⌜ at + 4 ≤ length (now s) ⌝ }
     ensures { λ r. ⌜ r ≡ valAt (now (s .entry)) at 4 ⌝ }
 {
-    ((wide(s[at]) * 256 + wide(s[at + 1])) * 256 + wide(s[at + 2])) * 256 + wide(s[at + 3])
+    let a = wide(s[at]);
+    let b = wide(s[at + 1]);
+    let c = wide(s[at + 2]);
+    let d = wide(s[at + 3]);
+    ((a * 256 + b) * 256 + c) * 256 + d
 }
 
 pub fn put1(out: &mut [u8], at: usize, v: u64)
