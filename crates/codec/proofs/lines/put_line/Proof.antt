@@ -3,7 +3,7 @@
 use Rattle.codec.specs.Table.{lineFields}
 use Rattle.codec.specs.Codec.{lineBytes}
 use Rattle.codec.proofs.Stores.{bytes-stored}
-use borrow.Author.Needs.{needs}
+use native.Mathlib.Omega.{arith}
 use Rattle.codec.proofs.lines.put_line.Statement.{statement}
 use Rattle.codec.proofs.lines.put_line.Tie as tie
 
@@ -12,9 +12,9 @@ unfolding lineBytes lineFields
 put-line-spec =
     tie.close
     (tie.spec
-    (λ c κs. search needs)
-    (λ c. search needs)
-    (λ c κs. search needs)
-    (λ c κs. search needs)
-    (λ c. search needs)
+    (λ c κs. omega arith)
+    (λ c. omega arith)
+    (λ c κs. omega arith)
+    (λ c κs. omega arith)
+    (λ c. omega arith)
     (λ c. rw (bytes-stored, c .before .before .five .ensures, c .before .before .before .before .before .before .put2 .ensures, c .before .before .before .before .before .before .before .before .before .before .start .ensures)))

@@ -3,7 +3,7 @@
 use Rattle.codec.specs.Table.{totalFields}
 use Rattle.codec.specs.Codec.{totalBytes}
 use Rattle.codec.proofs.Stores.{bytes-stored}
-use borrow.Author.Needs.{needs}
+use native.Mathlib.Omega.{arith}
 use Rattle.codec.proofs.lines.put_total.Statement.{statement}
 use Rattle.codec.proofs.lines.put_total.Tie as tie
 
@@ -12,11 +12,11 @@ unfolding totalBytes totalFields
 put-total-spec =
     tie.close
     (tie.spec
-    (λ c κs. search needs)
-    (λ c. search needs)
-    (λ c κs. search needs)
-    (λ c κs. search needs)
-    (λ c. search needs)
-    (λ c κs. search needs)
-    (λ c. search needs)
+    (λ c κs. omega arith)
+    (λ c. omega arith)
+    (λ c κs. omega arith)
+    (λ c κs. omega arith)
+    (λ c. omega arith)
+    (λ c κs. omega arith)
+    (λ c. omega arith)
     (λ c. rw (bytes-stored, c .before .before .put8 .ensures, c .before .before .before .before .before .before .five .ensures, c .before .before .before .before .before .before .before .before .before .before .put2 .ensures, c .before .before .before .before .before .before .before .before .before .before .before .before .before .before .start .ensures)))

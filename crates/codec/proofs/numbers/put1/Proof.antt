@@ -1,8 +1,9 @@
 -- `codec::numbers::put1` meets its contract.
 -- Assumes nothing.
 use mathlib.Core.Path.{refl}
+use lib.ListN.{length-set}
 use Rattle.codec.specs.Codec.{be}
-use borrow.Author.Needs.{needs}
+use native.Mathlib.Omega.{arith}
 use Rattle.codec.proofs.numbers.put1.Statement.{statement}
 use Rattle.codec.proofs.numbers.put1.Tie as tie
 
@@ -11,7 +12,7 @@ unfolding be
 put1-spec =
     tie.close
     (tie.spec
-    (λ c. search needs)
-    (λ c. search needs)
-    (λ c. search needs)
+    (λ c. omega arith)
+    (λ c. omega arith)
+    (λ c. simp length-set)
     (λ c. refl))

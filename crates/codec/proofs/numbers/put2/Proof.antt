@@ -4,7 +4,6 @@ use native.Mathlib.Omega.{arith}
 use native.Mathlib.Numerals.{add-one}
 use lib.ListN.{length-set}
 use Rattle.codec.specs.Codec.{be}
-use borrow.Author.Needs.{needs}
 use Rattle.codec.proofs.numbers.put2.Statement.{statement}
 use Rattle.codec.proofs.numbers.put2.Tie as tie
 
@@ -13,10 +12,10 @@ unfolding be
 put2-spec =
     tie.close
     (tie.spec
-    (λ c. search needs)
-    (λ c. search needs)
-    (λ c. search needs)
-    (λ c. search needs)
+    (λ c. omega arith)
+    (λ c. omega arith)
+    (λ c. omega arith)
+    (λ c. omega arith)
     (λ c. simp length-set (omega arith))
-    (λ c. search needs)
+    (λ c. simp length-set)
     (λ c. rw add-one))

@@ -3,7 +3,6 @@
 use mathlib.Core.Path.{_≡_, refl, ap, sym, _∙_}
 use Prim.Native.Nat.{_+_, _-_, _≤_, _<_}
 use native.Mathlib.Omega.{arith}
-use borrow.Author.Needs.{needs}
 use lib.ListN.{length, drop, length-set}
 use lib.Seq.{sets}
 use Rattle.codec.proofs.BigEndian.{be-length}
@@ -26,13 +25,13 @@ put8-spec =
     (tie.spec
     Inv-loop
     μ-loop
-    (λ c κs. search needs)
+    (λ c κs. omega arith)
     (λ c. (omega arith, refl, ap (λ k. sets (c .before .before .args .out .now) k (c .bytes8 .result)) (omega arith)))
-    (λ c. search needs)
-    (λ c. search needs)
     (λ c. omega arith)
-    (λ c. search needs)
-    (λ c. search needs)
+    (λ c. omega arith)
+    (λ c. omega arith)
+    (λ c. omega arith)
+    (λ c. omega arith)
     (λ c. let l = c .before .loop in (
       omega arith,
       simp length-set (l .inv .1),

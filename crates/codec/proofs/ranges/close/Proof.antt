@@ -3,7 +3,7 @@
 use lib.Dec.{lit<, lit≤}
 use Rattle.codec.specs.Table.{table, fields}
 use Rattle.codec.proofs.Within.{too-low, too-high, none-bad}
-use borrow.Author.Needs.{needs}
+use native.Mathlib.Omega.{arith}
 use Rattle.codec.proofs.ranges.close.Statement.{statement}
 use Rattle.codec.proofs.ranges.close.Tie as tie
 
@@ -12,6 +12,6 @@ unfolding table
 close-spec =
     tie.close
     (tie.spec
-    (λ c. search needs)
-    (λ c. too-high 0 (fields 8) _ (search needs) (lit< tt) (search needs))
-    (λ c. none-bad 1 (fields 8) _ (search needs) (lit≤ tt)))
+    (λ c. omega arith)
+    (λ c. too-high 0 (fields 8) _ (omega arith) (lit< tt) (omega arith))
+    (λ c. none-bad 1 (fields 8) _ (omega arith) (lit≤ tt)))

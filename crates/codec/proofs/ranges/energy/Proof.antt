@@ -3,7 +3,7 @@
 use lib.Dec.{lit<, lit≤}
 use Rattle.codec.specs.Table.{table, fields}
 use Rattle.codec.proofs.Within.{too-low, too-high, none-bad}
-use borrow.Author.Needs.{needs}
+use native.Mathlib.Omega.{arith}
 use Rattle.codec.proofs.ranges.energy.Statement.{statement}
 use Rattle.codec.proofs.ranges.energy.Tie as tie
 
@@ -12,12 +12,12 @@ unfolding table
 energy-spec =
     tie.close
     (tie.spec
-    (λ c. search needs)
-    (λ c. too-low 0 (fields 6) _ (search needs) (lit< tt) (search needs))
-    (λ c. search needs)
-    (λ c. too-high 0 (fields 6) _ (search needs) (lit< tt) (search needs))
-    (λ c. search needs)
-    (λ c. too-high 1 (fields 6) _ (search needs) (lit< tt) (search needs))
-    (λ c. search needs)
-    (λ c. too-high 2 (fields 6) _ (search needs) (lit< tt) (search needs))
-    (λ c. none-bad 3 (fields 6) _ (search needs) (lit≤ tt)))
+    (λ c. omega arith)
+    (λ c. too-low 0 (fields 6) _ (omega arith) (lit< tt) (omega arith))
+    (λ c. omega arith)
+    (λ c. too-high 0 (fields 6) _ (omega arith) (lit< tt) (omega arith))
+    (λ c. omega arith)
+    (λ c. too-high 1 (fields 6) _ (omega arith) (lit< tt) (omega arith))
+    (λ c. omega arith)
+    (λ c. too-high 2 (fields 6) _ (omega arith) (lit< tt) (omega arith))
+    (λ c. none-bad 3 (fields 6) _ (omega arith) (lit≤ tt)))

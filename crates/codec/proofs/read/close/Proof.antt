@@ -2,7 +2,7 @@
 -- Assumes nothing.
 use Rattle.codec.specs.Table.{table}
 use Rattle.codec.proofs.Values.{values-placed}
-use borrow.Author.Needs.{needs}
+use native.Mathlib.Omega.{arith}
 use Rattle.codec.proofs.read.close.Statement.{statement}
 use Rattle.codec.proofs.read.close.Tie as tie
 
@@ -11,5 +11,5 @@ unfolding table
 close-spec =
     tie.close
     (tie.spec
-    (λ c κs. search needs)
-    (λ c. rw values-placed (cc)))
+    (λ c κs. omega arith)
+    (λ c. rw (values-placed, c .be16 .ensures)))

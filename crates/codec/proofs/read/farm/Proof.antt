@@ -2,7 +2,7 @@
 -- Assumes nothing.
 use Rattle.codec.specs.Table.{table}
 use Rattle.codec.proofs.Values.{values-placed}
-use borrow.Author.Needs.{needs}
+use native.Mathlib.Omega.{arith}
 use Rattle.codec.proofs.read.farm.Statement.{statement}
 use Rattle.codec.proofs.read.farm.Tie as tie
 
@@ -11,9 +11,9 @@ unfolding table
 farm-spec =
     tie.close
     (tie.spec
-    (λ c κs. search needs)
-    (λ c. search needs)
-    (λ c κs. search needs)
-    (λ c. search needs)
-    (λ c κs. search needs)
-    (λ c. rw values-placed (cc)))
+    (λ c κs. omega arith)
+    (λ c. omega arith)
+    (λ c κs. omega arith)
+    (λ c. omega arith)
+    (λ c κs. omega arith)
+    (λ c. rw (values-placed, c .be8 .ensures, c .before .be16 .ensures, c .before .before .be32 .ensures)))

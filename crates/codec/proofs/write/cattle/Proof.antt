@@ -5,7 +5,7 @@ use mathlib.Core.Path.{_≡_}
 use Rattle.codec.specs.Table.{table, size}
 use Rattle.codec.specs.Codec.{bytesOf}
 use Rattle.codec.proofs.Stores.{record-stored}
-use borrow.Author.Needs.{needs}
+use native.Mathlib.Omega.{arith}
 use Rattle.codec.proofs.write.cattle.Statement.{statement}
 use Rattle.codec.proofs.write.cattle.Tie as tie
 
@@ -14,11 +14,11 @@ unfolding table size bytesOf
 cattle-spec =
     tie.close
     (tie.spec
-    (λ c κs. search needs)
-    (λ c. search needs)
-    (λ c. search needs)
-    (λ c κs. search needs)
-    (λ c. search needs)
+    (λ c κs. omega arith)
+    (λ c. omega arith)
+    (λ c. omega arith)
+    (λ c κs. omega arith)
+    (λ c. omega arith)
     (λ c.
-    let count : length (c .before .before .before .before .before .before .before .before .before .before .args .t3) ≡ 9 = search needs in
+    let count : length (c .before .before .before .before .before .before .before .before .before .before .args .t3) ≡ 9 = omega arith in
     rw (record-stored, c .before .before .twos .ensures, c .before .before .before .before .before .before .before .start .ensures, count)))

@@ -2,7 +2,7 @@
 -- Assumes nothing.
 use Rattle.codec.specs.Table.{table, size}
 use Rattle.codec.proofs.Stores.{fields-stored}
-use borrow.Author.Needs.{needs}
+use native.Mathlib.Omega.{arith}
 use Rattle.codec.proofs.write.close.Statement.{statement}
 use Rattle.codec.proofs.write.close.Tie as tie
 
@@ -11,9 +11,9 @@ unfolding table size
 close-spec =
     tie.close
     (tie.spec
-    (λ c κs. search needs)
-    (λ c. search needs)
-    (λ c. search needs)
-    (λ c κs. search needs)
-    (λ c. search needs)
+    (λ c κs. omega arith)
+    (λ c. omega arith)
+    (λ c. omega arith)
+    (λ c κs. omega arith)
+    (λ c. omega arith)
     (λ c. rw (fields-stored, c .before .before .put2 .ensures, c .before .before .before .before .before .before .start .ensures)))
