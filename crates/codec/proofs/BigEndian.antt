@@ -18,6 +18,21 @@ unfolding valAt room
 valAt-lt s b at zero = omega arith
 valAt-lt s b at (suc w) = omega (arith, valAt-lt s b at w, b (at + w))
 
+pub bytes-append : (xs ys : List ℕ) → Bytes xs → Bytes ys → Bytes (xs ++ ys)
+bytes-append [] ys b d i = d i
+bytes-append (x ∷ xs) ys b d zero = b 0
+bytes-append (x ∷ xs) ys b d (suc i) = bytes-append xs ys (λ j. b (suc j)) d i
+
+one-bytes : (b : ℕ) → b < 256 → Bytes (b ∷ [])
+one-bytes b h zero = h
+one-bytes b h (suc i) = omega arith
+
+-- what is written is bytes
+pub be-bytes : (w v : ℕ) → Bytes (be w v)
+unfolding be
+be-bytes zero v i = omega arith
+be-bytes (suc w) v i = bytes-append (be w (v / 256)) (v % 256 ∷ []) (be-bytes w (v / 256)) (one-bytes (v % 256) (omega arith)) i
+
 pub be-length : (w v : ℕ) → length (be w v) ≡ w
 unfolding be
 be-length zero v = refl

@@ -4,3 +4,4 @@ pub mod Values
 pub mod Within
 pub mod Rows
 pub mod Round
+pub mod Sample

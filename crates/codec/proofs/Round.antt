@@ -8,11 +8,11 @@ use lib.ListN.{length, getD, take, drop, length-append, length-drop, take-append
 use lib.Seq.{sets, take-all, length-take-le, take-add, drop-drop, drop-cons}
 use Rattle.codec.specs.declared.Field.{Field}
 use Rattle.codec.specs.Table.{fields, size, lengthOf, lineFields, totalFields}
-use Rattle.codec.specs.Codec.{valAt, be, valuesAt, bytesOf, firstBad, recordBytes, lineBytes, totalBytes}
-use Rattle.codec.proofs.BigEndian.{Bytes, be-length, valAt-be, be-valAt}
+use Rattle.codec.specs.Codec.{room, valAt, be, valuesAt, bytesOf, firstBad, recordBytes, lineBytes, totalBytes}
+use Rattle.codec.proofs.BigEndian.{Bytes, bytes-append, be-bytes, be-length, valAt-be, be-valAt}
 use Rattle.codec.proofs.Stores.{sets-at}
-use Rattle.codec.proofs.Values.{bytes-length}
-use Rattle.codec.proofs.Rows.{Fit, fit-kind}
+use Rattle.codec.proofs.Values.{bytes-length, bytes-bytes}
+use Rattle.codec.proofs.Rows.{Fit, fit-kind, length-most}
 
 -- ---- values, bytes, values
 
@@ -100,6 +100,20 @@ record-again kind r w =
     let fs : bytesOf (fields kind) (valuesAt (fields kind) r 4) 0 ≡ drop 4 r =
     encode-decode (fields kind) r (w .bytes) 4 (omega arith) ∙ take-all (size (fields kind)) (drop 4 r) (rw length-drop (omega arith)) in
     cc (take-append-drop 2 r, take-append-drop 1 (drop 2 r), drop-drop 1 2 r, take-append-drop 1 (drop 3 r), drop-drop 1 3 r)
+
+-- and what is written is a whole record
+pub record-whole : (kind : ℕ) (vs : List ℕ) → kind < 256 → Whole kind (recordBytes kind vs)
+unfolding recordBytes be room
+record-whole kind vs h =
+    let fs : List ℕ = bytesOf (fields kind) vs 0 in
+    record {
+      bytes = bytes-append (be 2 (lengthOf kind)) (be 1 1 ++ (be 1 kind ++ fs)) (be-bytes 2 (lengthOf kind))
+          (bytes-append (be 1 1) (be 1 kind ++ fs) (be-bytes 1 1) (bytes-append (be 1 kind) fs (be-bytes 1 kind) (bytes-bytes (fields kind) vs 0)));
+      complete = record-length kind vs;
+      length-is = valAt-be 2 (lengthOf kind) [] (be 1 1 ++ (be 1 kind ++ fs)) (omega (arith, length-most kind));
+      version-is = valAt-be 1 1 (be 2 (lengthOf kind)) (be 1 kind ++ fs) (omega arith);
+      kind-is = valAt-be 1 kind (be 2 (lengthOf kind) ++ be 1 1) fs (omega arith);
+    }
 
 -- a line is 46 bytes, the close's 54
 pub line-length : (kind group ch4 n2o co2 excreted land : ℕ) → length (lineBytes kind group ch4 n2o co2 excreted land) ≡ 46

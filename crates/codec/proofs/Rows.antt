@@ -3,9 +3,9 @@
 use mathlib.Core.Path.{_≡_, refl}
 use mathlib.Core.Bool.{Bool, true, false}
 use mathlib.Core.List.{List, [], _∷_, map}
-use Prim.Native.Nat.{ℕ, zero, suc, _<_}
+use Prim.Native.Nat.{ℕ, zero, suc, _<_, _≤_}
 use native.Mathlib.Omega.{arith}
-use lib.Dec.{T, leb, ltb, ltb→lt}
+use lib.Dec.{T, leb, ltb, leb→le, ltb→lt}
 use lib.ListN.{getD}
 use Rattle.codec.specs.declared.Field.{Field}
 use Rattle.codec.specs.Table.{table, fields, size, lengthOf, lineFields, totalFields}
@@ -22,14 +22,18 @@ right-row : List Field → Bool
 right-row [] = true
 right-row (f ∷ fs) = pick (right-field f) (right-row fs) false
 
-right-rows : List (List Field) → Bool
-right-rows [] = true
-right-rows (r ∷ t) = pick (right-row r) (right-rows t) false
+-- the fields take at most 24 bytes
+short-row : List Field → Bool
+short-row r = leb (size r) 24
+
+every : (List Field → Bool) → List (List Field) → Bool
+every p [] = true
+every p (r ∷ t) = pick (p r) (every p t) false
 
 -- THE TEST: antt computes it
-checked : T (right-rows (lineFields ∷ totalFields ∷ table))
-unfolding right-field right-row right-rows table lineFields totalFields room
-checked = tt
+checked : T (every right-row (lineFields ∷ totalFields ∷ table)) × T (every short-row table)
+unfolding right-field right-row short-row every table lineFields totalFields room size
+checked = (tt, tt)
 
 -- document 01's lengths, kinds 1 to 8
 pub lengths : map lengthOf (1 ∷ 2 ∷ 3 ∷ 4 ∷ 5 ∷ 6 ∷ 7 ∷ 8 ∷ []) ≡ 9 ∷ 7 ∷ 10 ∷ 20 ∷ 26 ∷ 11 ∷ 6 ∷ 4 ∷ []
@@ -46,11 +50,20 @@ both-right : (a b : Bool) → T (pick a b false) → T b
 both-right true b t = t
 both-right false b t = absurd t
 
-row-at : (t : List (List Field)) → T (right-rows t) → (k : ℕ) → T (right-row (getD t k []))
-unfolding right-rows right-row
-row-at [] h k = tt
-row-at (r ∷ t) h zero = both-left (right-row r) (right-rows t) h
-row-at (r ∷ t) h (suc k) = row-at t (both-right (right-row r) (right-rows t) h) k
+row-at : (p : List Field → Bool) → T (p []) → (t : List (List Field)) → T (every p t) → (k : ℕ) → T (p (getD t k []))
+unfolding every
+row-at p e [] h k = e
+row-at p e (r ∷ t) h zero = both-left (p r) (every p t) h
+row-at p e (r ∷ t) h (suc k) = row-at p e t (both-right (p r) (every p t) h) k
+
+right-at : (k : ℕ) → T (right-row (getD (lineFields ∷ totalFields ∷ table) k []))
+unfolding right-row
+right-at = row-at right-row tt (lineFields ∷ totalFields ∷ table) (checked .0)
+
+-- no record is longer than 26
+pub length-most : (kind : ℕ) → lengthOf kind ≤ 26
+unfolding short-row size
+length-most kind = omega (arith, leb→le (size (fields kind)) 24 (row-at short-row tt table (checked .1) kind))
 
 -- each value from i fits the bytes of its field
 abbrev pub Fit : List Field → List ℕ → ℕ → Type 0
@@ -68,14 +81,12 @@ fit-row (f ∷ fs) t vs i p =
     )
 
 module _ (vs : List ℕ) where
-  -- values in the ranges of a kind fit their bytes
+  -- values in the ranges of a kind, or of a line, fit their bytes
   pub fit-kind : (kind : ℕ) → firstBad (fields kind) vs 0 ≡ 0 → Fit (fields kind) vs 0
-  unfolding right-rows
-  fit-kind kind = fit-row (fields kind) (row-at (lineFields ∷ totalFields ∷ table) checked (suc (suc kind))) vs 0
+  fit-kind kind = fit-row (fields kind) (right-at (suc (suc kind))) vs 0
 
-  -- and so those of a line
   pub fit-line : firstBad lineFields vs 0 ≡ 0 → Fit lineFields vs 0
-  fit-line = fit-row lineFields (row-at (lineFields ∷ totalFields ∷ table) checked 0) vs 0
+  fit-line = fit-row lineFields (right-at 0) vs 0
 
   pub fit-total : firstBad totalFields vs 0 ≡ 0 → Fit totalFields vs 0
-  fit-total = fit-row totalFields (row-at (lineFields ∷ totalFields ∷ table) checked 1) vs 0
+  fit-total = fit-row totalFields (right-at 1) vs 0

@@ -10,7 +10,7 @@ use lib.Seq.{getD-drop}
 use Rattle.codec.specs.declared.Field.{Field}
 use Rattle.codec.specs.Table.{size}
 use Rattle.codec.specs.Codec.{valAt, be, valuesAt, bytesOf}
-use Rattle.codec.proofs.BigEndian.{be-length, valAt-same}
+use Rattle.codec.proofs.BigEndian.{Bytes, bytes-append, be-bytes, be-length, valAt-same}
 
 -- a value for each field
 pub values-length : (fs : List Field) (s : List ℕ) (at : ℕ) → length (valuesAt fs s at) ≡ length fs
@@ -23,6 +23,12 @@ pub bytes-length : (fs : List Field) (vs : List ℕ) (i : ℕ) → length (bytes
 unfolding bytesOf size
 bytes-length [] vs i = refl
 bytes-length (f ∷ fs) vs i = simp (length-append, be-length, bytes-length fs vs (suc i))
+
+-- and they are bytes
+pub bytes-bytes : (fs : List Field) (vs : List ℕ) (i : ℕ) → Bytes (bytesOf fs vs i)
+unfolding bytesOf
+bytes-bytes [] vs i = λ k. omega arith
+bytes-bytes (f ∷ fs) vs i = bytes-append (be (f .0) (getD vs i 0)) (bytesOf fs vs (suc i)) (be-bytes (f .0) (getD vs i 0)) (bytes-bytes fs vs (suc i))
 
 -- the values depend on the record's own bytes only, wherever they stand
 pub values-same : (fs : List Field) (s t : List ℕ) (p q : ℕ) → ((k : ℕ) → k < size fs → getD s (p + k) 0 ≡ getD t (q + k) 0) → valuesAt fs s p ≡ valuesAt fs t q
