@@ -1,0 +1,7 @@
+pub mod BigEndian
+pub mod Stores
+pub mod Values
+pub mod Within
+pub mod Rows
+pub mod Round
+pub mod Sample

@@ -1,0 +1,92 @@
+-- What holds of the table itself: one test over all its rows and the two rows of lines, which antt computes.
+-- Assumes nothing.
+use mathlib.Core.Path.{_≡_, refl}
+use mathlib.Core.Bool.{Bool, true, false}
+use mathlib.Core.List.{List, [], _∷_, map}
+use Prim.Native.Nat.{ℕ, zero, suc, _<_, _≤_}
+use native.Mathlib.Omega.{arith}
+use lib.Dec.{T, leb, ltb, leb→le, ltb→lt}
+use lib.ListN.{getD}
+use Rattle.codec.specs.declared.Field.{Field}
+use Rattle.codec.specs.Table.{table, fields, size, lengthOf, lineFields, totalFields}
+use Rattle.codec.specs.Codec.{room, firstBad, pick}
+use Rattle.codec.proofs.Within.{first-within}
+
+-- ---- the test
+
+-- the range is not empty, and its highest value fits the field's bytes
+right-field : Field → Bool
+right-field f = pick (leb (f .1) (f .2)) (ltb (f .2) (room (f .0))) false
+
+right-row : List Field → Bool
+right-row [] = true
+right-row (f ∷ fs) = pick (right-field f) (right-row fs) false
+
+-- the fields take at most 24 bytes
+short-row : List Field → Bool
+short-row r = leb (size r) 24
+
+every : (List Field → Bool) → List (List Field) → Bool
+every p [] = true
+every p (r ∷ t) = pick (p r) (every p t) false
+
+-- THE TEST: antt computes it
+checked : T (every right-row (lineFields ∷ totalFields ∷ table)) × T (every short-row table)
+unfolding right-field right-row short-row every table lineFields totalFields room size
+checked = (tt, tt)
+
+-- document 01's lengths, kinds 1 to 8
+pub lengths : map lengthOf (1 ∷ 2 ∷ 3 ∷ 4 ∷ 5 ∷ 6 ∷ 7 ∷ 8 ∷ []) ≡ 9 ∷ 7 ∷ 10 ∷ 20 ∷ 26 ∷ 11 ∷ 6 ∷ 4 ∷ []
+unfolding table size
+lengths = refl
+
+-- ---- what follows from it at each row
+
+both-left : (a b : Bool) → T (pick a b false) → T a
+both-left true b t = tt
+both-left false b t = t
+
+both-right : (a b : Bool) → T (pick a b false) → T b
+both-right true b t = t
+both-right false b t = absurd t
+
+row-at : (p : List Field → Bool) → T (p []) → (t : List (List Field)) → T (every p t) → (k : ℕ) → T (p (getD t k []))
+unfolding every
+row-at p e [] h k = e
+row-at p e (r ∷ t) h zero = both-left (p r) (every p t) h
+row-at p e (r ∷ t) h (suc k) = row-at p e t (both-right (p r) (every p t) h) k
+
+right-at : (k : ℕ) → T (right-row (getD (lineFields ∷ totalFields ∷ table) k []))
+unfolding right-row
+right-at = row-at right-row tt (lineFields ∷ totalFields ∷ table) (checked .0)
+
+-- no record is longer than 26
+pub length-most : (kind : ℕ) → lengthOf kind ≤ 26
+unfolding short-row size
+length-most kind = omega (arith, leb→le (size (fields kind)) 24 (row-at short-row tt table (checked .1) kind))
+
+-- each value from i fits the bytes of its field
+abbrev pub Fit : List Field → List ℕ → ℕ → Type 0
+Fit [] vs i = Unit
+Fit (f ∷ fs) vs i = (getD vs i 0 < room (f .0)) × Fit fs vs (suc i)
+
+fit-row : (fs : List Field) → T (right-row fs) → (vs : List ℕ) (i : ℕ) → firstBad fs vs i ≡ 0 → Fit fs vs i
+unfolding right-row right-field
+fit-row [] t vs i p = tt
+fit-row (f ∷ fs) t vs i p =
+    let o = first-within f fs vs i p in
+    let highest : f .2 < room (f .0) = ltb→lt _ _ (both-right (leb (f .1) (f .2)) (ltb (f .2) (room (f .0))) (both-left (right-field f) (right-row fs) t)) in (
+      omega (arith, o .0 .below),
+      fit-row fs (both-right (right-field f) (right-row fs) t) vs (suc i) (o .1),
+    )
+
+module _ (vs : List ℕ) where
+  -- values in the ranges of a kind, or of a line, fit their bytes
+  pub fit-kind : (kind : ℕ) → firstBad (fields kind) vs 0 ≡ 0 → Fit (fields kind) vs 0
+  fit-kind kind = fit-row (fields kind) (right-at (suc (suc kind))) vs 0
+
+  pub fit-line : firstBad lineFields vs 0 ≡ 0 → Fit lineFields vs 0
+  fit-line = fit-row lineFields (right-at 0) vs 0
+
+  pub fit-total : firstBad totalFields vs 0 ≡ 0 → Fit totalFields vs 0
+  fit-total = fit-row totalFields (right-at 1) vs 0

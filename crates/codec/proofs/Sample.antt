@@ -1,0 +1,32 @@
+-- The first enteric record of document 01's sample book, and its line, computed.
+-- Assumes nothing.
+use mathlib.Core.Path.{_≡_, refl}
+use mathlib.Core.List.{List, [], _∷_, _++_}
+use Prim.Native.Nat.{ℕ}
+use lib.ListN.{replicate}
+use Rattle.codec.specs.Table.{table, fields, size, lineFields}
+use Rattle.codec.specs.Codec.{valAt, be, valuesAt, bytesOf, firstBad, recordBytes, lineBytes}
+
+-- 000A0103001F00007530028A
+abbrev pub enteric : List ℕ
+enteric = 0 ∷ 10 ∷ 1 ∷ 3 ∷ 0 ∷ 31 ∷ 0 ∷ 0 ∷ 117 ∷ 48 ∷ 2 ∷ 138 ∷ []
+
+pub read : valuesAt (fields 3) enteric 4 ≡ 31 ∷ 30000 ∷ 650 ∷ []
+unfolding valuesAt valAt table
+read = refl
+
+pub written : recordBytes 3 (31 ∷ 30000 ∷ 650 ∷ []) ≡ enteric
+unfolding recordBytes bytesOf be table size
+written = refl
+
+-- days 366 pass, 0 and 367 are field 1, Ym 2001 is field 3
+pub tested :
+    firstBad (fields 3) (366 ∷ 0 ∷ 2000 ∷ []) 0 ∷ firstBad (fields 3) (0 ∷ 0 ∷ 0 ∷ []) 0 ∷ firstBad (fields 3) (367 ∷ 0 ∷ 0 ∷ []) 0 ∷ firstBad (fields 3) (1 ∷ 0 ∷ 2001 ∷ []) 0 ∷ []
+    ≡ 0 ∷ 1 ∷ 1 ∷ 3 ∷ []
+unfolding firstBad table
+tested = refl
+
+-- 3 12 434501 0 0 0 0
+pub line : lineBytes 3 12 434501 0 0 0 0 ≡ (0 ∷ 44 ∷ 1 ∷ 3 ∷ 0 ∷ 12 ∷ 0 ∷ 0 ∷ 0 ∷ 0 ∷ 0 ∷ 6 ∷ 161 ∷ 69 ∷ []) ++ replicate 32 0
+unfolding lineBytes bytesOf lineFields be
+line = refl

@@ -1,0 +1,57 @@
+-- Laws of a record's values and bytes, over any row of fields.
+-- Assumes nothing.
+use mathlib.Core.Path.{_≡_, refl, ap}
+use mathlib.Core.List.{List, [], _∷_, _++_}
+use Prim.Native.Nat.{ℕ, suc, _+_, _<_}
+use native.Mathlib.Omega.{arith}
+use native.Mathlib.Nat.{zero-add, add-assoc}
+use lib.ListN.{length, getD, drop, length-append}
+use lib.Seq.{getD-drop}
+use Rattle.codec.specs.declared.Field.{Field}
+use Rattle.codec.specs.Table.{size}
+use Rattle.codec.specs.Codec.{valAt, be, valuesAt, bytesOf}
+use Rattle.codec.proofs.BigEndian.{Bytes, bytes-append, be-bytes, be-length, valAt-same}
+
+-- a value for each field
+pub values-length : (fs : List Field) (s : List ℕ) (at : ℕ) → length (valuesAt fs s at) ≡ length fs
+unfolding valuesAt
+values-length [] s at = refl
+values-length (f ∷ fs) s at = ap suc (values-length fs s (at + f .0))
+
+-- as many bytes as the fields have
+pub bytes-length : (fs : List Field) (vs : List ℕ) (i : ℕ) → length (bytesOf fs vs i) ≡ size fs
+unfolding bytesOf size
+bytes-length [] vs i = refl
+bytes-length (f ∷ fs) vs i = simp (length-append, be-length, bytes-length fs vs (suc i))
+
+-- and they are bytes
+pub bytes-bytes : (fs : List Field) (vs : List ℕ) (i : ℕ) → Bytes (bytesOf fs vs i)
+unfolding bytesOf
+bytes-bytes [] vs i = λ k. omega arith
+bytes-bytes (f ∷ fs) vs i = bytes-append (be (f .0) (getD vs i 0)) (bytesOf fs vs (suc i)) (be-bytes (f .0) (getD vs i 0)) (bytes-bytes fs vs (suc i))
+
+-- the values depend on the record's own bytes only, wherever they stand
+pub values-same : (fs : List Field) (s t : List ℕ) (p q : ℕ) → ((k : ℕ) → k < size fs → getD s (p + k) 0 ≡ getD t (q + k) 0) → valuesAt fs s p ≡ valuesAt fs t q
+unfolding valuesAt size
+values-same [] s t p q h = refl
+values-same (f ∷ fs) s t p q h =
+    rw (valAt-same s t p q (f .0) (λ k l. h k (omega arith)), values-same fs s t (p + f .0) (q + f .0) (λ k l. rw (add-assoc p (f .0) k, add-assoc q (f .0) k) (h (f .0 + k) (omega arith))))
+
+-- the values of a part of the bytes
+pub values-drop : (fs : List Field) (s : List ℕ) (n : ℕ) → valuesAt fs (drop n s) 0 ≡ valuesAt fs s n
+values-drop fs s n = values-same fs (drop n s) s 0 n (λ k l. rw (getD-drop, zero-add))
+
+-- ---- the same values, each field by how far it stands from the first
+
+abbrev pub valuesFrom : List Field → List ℕ → ℕ → ℕ → List ℕ
+valuesFrom [] s at o = []
+valuesFrom (f ∷ fs) s at o = valAt s (at + o) (f .0) ∷ valuesFrom fs s at (o + f .0)
+
+values-from : (fs : List Field) (s : List ℕ) (at o : ℕ) → valuesAt fs s (at + o) ≡ valuesFrom fs s at o
+unfolding valuesAt
+values-from [] s at o = refl
+values-from (f ∷ fs) s at o = rw (← values-from fs s at (o + f .0), ← add-assoc at o (f .0))
+
+pub values-placed : (f : Field) (fs : List Field) (s : List ℕ) (at : ℕ) → valuesAt (f ∷ fs) s at ≡ valAt s at (f .0) ∷ valuesFrom fs s at (f .0)
+unfolding valuesAt
+values-placed f fs s at = ap (λ k. valAt s at (f .0) ∷ k) (values-from fs s at (f .0))

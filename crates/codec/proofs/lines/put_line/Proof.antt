@@ -1,0 +1,20 @@
+-- `codec::lines::put_line` meets its contract.
+-- Assumes nothing.
+use Rattle.codec.specs.Table.{lineFields}
+use Rattle.codec.specs.Codec.{lineBytes}
+use Rattle.codec.proofs.Stores.{bytes-stored}
+use native.Mathlib.Omega.{arith}
+use Rattle.codec.proofs.lines.put_line.Statement.{statement}
+use Rattle.codec.proofs.lines.put_line.Tie as tie
+
+pub put-line-spec : {M : Type 1} → statement M
+unfolding lineBytes lineFields
+put-line-spec =
+    tie.close
+    (tie.spec
+    (λ c κs. omega arith)
+    (λ c. omega arith)
+    (λ c κs. omega arith)
+    (λ c κs. omega arith)
+    (λ c. omega arith)
+    (λ c. rw (bytes-stored, c .before .before .five .ensures, c .before .before .before .before .before .before .put2 .ensures, c .before .before .before .before .before .before .before .before .before .before .start .ensures)))

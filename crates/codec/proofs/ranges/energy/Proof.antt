@@ -1,0 +1,23 @@
+-- `codec::ranges::energy` meets its contract: what each test has found out.
+-- Assumes nothing.
+use lib.Dec.{lit<, lit≤}
+use Rattle.codec.specs.Table.{table, fields}
+use Rattle.codec.proofs.Within.{too-low, too-high, none-bad}
+use native.Mathlib.Omega.{arith}
+use Rattle.codec.proofs.ranges.energy.Statement.{statement}
+use Rattle.codec.proofs.ranges.energy.Tie as tie
+
+pub energy-spec : {M : Type 1} → statement M
+unfolding table
+energy-spec =
+    tie.close
+    (tie.spec
+    (λ c. omega arith)
+    (λ c. too-low 0 (fields 6) _ (omega arith) (lit< tt) (omega arith))
+    (λ c. omega arith)
+    (λ c. too-high 0 (fields 6) _ (omega arith) (lit< tt) (omega arith))
+    (λ c. omega arith)
+    (λ c. too-high 1 (fields 6) _ (omega arith) (lit< tt) (omega arith))
+    (λ c. omega arith)
+    (λ c. too-high 2 (fields 6) _ (omega arith) (lit< tt) (omega arith))
+    (λ c. none-bad 3 (fields 6) _ (omega arith) (lit≤ tt)))

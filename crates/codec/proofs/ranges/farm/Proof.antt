@@ -1,0 +1,25 @@
+-- `codec::ranges::farm` meets its contract: what each test has found out.
+-- Assumes nothing.
+use lib.Dec.{lit<, lit≤}
+use Rattle.codec.specs.Table.{table, fields}
+use Rattle.codec.proofs.Within.{too-low, too-high, none-bad}
+use native.Mathlib.Omega.{arith}
+use Rattle.codec.proofs.ranges.farm.Statement.{statement}
+use Rattle.codec.proofs.ranges.farm.Tie as tie
+
+pub farm-spec : {M : Type 1} → statement M
+unfolding table
+farm-spec =
+    tie.close
+    (tie.spec
+    (λ c. omega arith)
+    (λ c. too-high 0 (fields 1) _ (omega arith) (lit< tt) (omega arith))
+    (λ c. omega arith)
+    (λ c. too-low 1 (fields 1) _ (omega arith) (lit< tt) (omega arith))
+    (λ c. omega arith)
+    (λ c. too-high 1 (fields 1) _ (omega arith) (lit< tt) (omega arith))
+    (λ c. omega arith)
+    (λ c. too-low 2 (fields 1) _ (omega arith) (lit< tt) (omega arith))
+    (λ c. omega arith)
+    (λ c. too-high 2 (fields 1) _ (omega arith) (lit< tt) (omega arith))
+    (λ c. none-bad 3 (fields 1) _ (omega arith) (lit≤ tt)))

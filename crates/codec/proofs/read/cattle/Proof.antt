@@ -1,0 +1,31 @@
+-- `codec::read::cattle` meets its contract.
+-- Assumes nothing.
+use Rattle.codec.specs.Table.{table}
+use Rattle.codec.proofs.Values.{values-placed}
+use native.Mathlib.Omega.{arith}
+use Rattle.codec.proofs.read.cattle.Statement.{statement}
+use Rattle.codec.proofs.read.cattle.Tie as tie
+
+pub cattle-spec : {M : Type 1} → statement M
+unfolding table
+cattle-spec =
+    tie.close
+    (tie.spec
+    (λ c κs. omega arith)
+    (λ c. omega arith)
+    (λ c κs. omega arith)
+    (λ c. omega arith)
+    (λ c κs. omega arith)
+    (λ c. omega arith)
+    (λ c κs. omega arith)
+    (λ c. omega arith)
+    (λ c κs. omega arith)
+    (λ c. omega arith)
+    (λ c κs. omega arith)
+    (λ c. omega arith)
+    (λ c κs. omega arith)
+    (λ c. omega arith)
+    (λ c κs. omega arith)
+    (λ c. omega arith)
+    (λ c κs. omega arith)
+    (λ c. rw values-placed (cc)))

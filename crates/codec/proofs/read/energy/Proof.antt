@@ -1,0 +1,19 @@
+-- `codec::read::energy` meets its contract.
+-- Assumes nothing.
+use Rattle.codec.specs.Table.{table}
+use Rattle.codec.proofs.Values.{values-placed}
+use native.Mathlib.Omega.{arith}
+use Rattle.codec.proofs.read.energy.Statement.{statement}
+use Rattle.codec.proofs.read.energy.Tie as tie
+
+pub energy-spec : {M : Type 1} → statement M
+unfolding table
+energy-spec =
+    tie.close
+    (tie.spec
+    (λ c κs. omega arith)
+    (λ c. omega arith)
+    (λ c κs. omega arith)
+    (λ c. omega arith)
+    (λ c κs. omega arith)
+    (λ c. rw (values-placed, c .be322 .ensures, c .before .be32 .ensures, c .before .before .be8 .ensures)))

@@ -1,0 +1,19 @@
+-- `codec::read::farm` meets its contract.
+-- Assumes nothing.
+use Rattle.codec.specs.Table.{table}
+use Rattle.codec.proofs.Values.{values-placed}
+use native.Mathlib.Omega.{arith}
+use Rattle.codec.proofs.read.farm.Statement.{statement}
+use Rattle.codec.proofs.read.farm.Tie as tie
+
+pub farm-spec : {M : Type 1} → statement M
+unfolding table
+farm-spec =
+    tie.close
+    (tie.spec
+    (λ c κs. omega arith)
+    (λ c. omega arith)
+    (λ c κs. omega arith)
+    (λ c. omega arith)
+    (λ c κs. omega arith)
+    (λ c. rw (values-placed, c .be8 .ensures, c .before .be16 .ensures, c .before .before .be32 .ensures)))

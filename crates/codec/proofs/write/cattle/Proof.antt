@@ -1,0 +1,24 @@
+-- `codec::write::cattle` meets its contract.
+-- Assumes nothing.
+use lib.ListN.{length}
+use mathlib.Core.Path.{_≡_}
+use Rattle.codec.specs.Table.{table, size}
+use Rattle.codec.specs.Codec.{bytesOf}
+use Rattle.codec.proofs.Stores.{record-stored}
+use native.Mathlib.Omega.{arith}
+use Rattle.codec.proofs.write.cattle.Statement.{statement}
+use Rattle.codec.proofs.write.cattle.Tie as tie
+
+pub cattle-spec : {M : Type 1} → statement M
+unfolding table size bytesOf
+cattle-spec =
+    tie.close
+    (tie.spec
+    (λ c κs. omega arith)
+    (λ c. omega arith)
+    (λ c. omega arith)
+    (λ c κs. omega arith)
+    (λ c. omega arith)
+    (λ c.
+    let count : length (c .before .before .before .before .before .before .before .before .before .before .args .t3) ≡ 9 = omega arith in
+    rw (record-stored, c .before .before .twos .ensures, c .before .before .before .before .before .before .before .start .ensures, count)))

@@ -1,0 +1,25 @@
+-- `codec::write::enteric` meets its contract.
+-- Assumes nothing.
+use Rattle.codec.specs.Table.{table, size}
+use Rattle.codec.proofs.Stores.{fields-stored}
+use native.Mathlib.Omega.{arith}
+use Rattle.codec.proofs.write.enteric.Statement.{statement}
+use Rattle.codec.proofs.write.enteric.Tie as tie
+
+pub enteric-spec : {M : Type 1} → statement M
+unfolding table size
+enteric-spec =
+    tie.close
+    (tie.spec
+    (λ c κs. omega arith)
+    (λ c. omega arith)
+    (λ c. omega arith)
+    (λ c κs. omega arith)
+    (λ c. omega arith)
+    (λ c. omega arith)
+    (λ c κs. omega arith)
+    (λ c. omega arith)
+    (λ c. omega arith)
+    (λ c κs. omega arith)
+    (λ c. omega arith)
+    (λ c. rw (fields-stored, c .before .before .put22 .ensures, c .before .before .before .before .before .before .put4 .ensures, c .before .before .before .before .before .before .before .before .before .before .put2 .ensures, c .before .before .before .before .before .before .before .before .before .before .before .before .before .before .start .ensures)))

@@ -1,0 +1,19 @@
+-- `codec::write::soil` meets its contract.
+-- Assumes nothing.
+use Rattle.codec.specs.Table.{table, size}
+use Rattle.codec.proofs.Stores.{fields-stored}
+use native.Mathlib.Omega.{arith}
+use Rattle.codec.proofs.write.soil.Statement.{statement}
+use Rattle.codec.proofs.write.soil.Tie as tie
+
+pub soil-spec : {M : Type 1} → statement M
+unfolding table size
+soil-spec =
+    tie.close
+    (tie.spec
+    (λ c κs. omega arith)
+    (λ c. omega arith)
+    (λ c. omega arith)
+    (λ c κs. omega arith)
+    (λ c. omega arith)
+    (λ c. rw (fields-stored, c .before .before .put4 .ensures, c .before .before .before .before .before .before .start .ensures)))

@@ -1,0 +1,17 @@
+-- `codec::write::start` meets its contract: three numbers.
+-- Assumes nothing.
+use native.Mathlib.Omega.{arith}
+use Rattle.codec.proofs.write.start.Statement.{statement}
+use Rattle.codec.proofs.write.start.Tie as tie
+
+pub start-spec : {M : Type 1} → statement M
+start-spec =
+    tie.close
+    (tie.spec
+    (λ c κs. omega arith)
+    (λ c. omega arith)
+    (λ c κs. omega arith)
+    (λ c. omega arith)
+    (λ c κs. omega arith)
+    (λ c. omega arith)
+    (λ c. cc))

@@ -1,0 +1,60 @@
+-- Document 01, "The book": big-endian numbers, a record's values from its bytes, its bytes from its values, the first value out of
+-- its range; and "Lines, calls and state": a line's bytes. All of it goes by the fields of specs/Table.antt.
+-- Assumes nothing.
+use Prim.Native.Nat.{ℕ, zero, suc, _+_, _*_, _/_, _%_}
+use mathlib.Core.Bool.{Bool, true, false}
+use mathlib.Core.List.{List, [], _∷_, _++_}
+use lib.ListN.{getD}
+use lib.Dec.{leb}
+use Rattle.codec.specs.declared.Field.{Field}
+use Rattle.codec.specs.Table.{fields, lengthOf, lineFields, totalFields}
+
+-- the first where the test holds, else the second
+abbrev pub pick : {A : Type 0} → Bool → A → A → A
+pick true a b = a
+pick false a b = b
+
+-- how many values w bytes can hold
+unfoldable pub room : ℕ → ℕ
+room zero = 1
+room (suc w) = room w * 256
+
+-- the number in the w bytes of s from at, big-endian
+unfoldable pub valAt : List ℕ → ℕ → ℕ → ℕ
+valAt s at zero = 0
+valAt s at (suc w) = valAt s at w * 256 + getD s (at + w) 0
+
+-- the w bytes of the number v, big-endian
+unfoldable pub be : ℕ → ℕ → List ℕ
+be zero v = []
+be (suc w) v = be w (v / 256) ++ (v % 256 ∷ [])
+
+-- the values of the fields fs, one after the other in the bytes of s from at
+unfoldable pub valuesAt : List Field → List ℕ → ℕ → List ℕ
+valuesAt [] s at = []
+valuesAt (f ∷ fs) s at = valAt s at (f .0) ∷ valuesAt fs s (at + f .0)
+
+-- the bytes of the fields fs, whose values stand in vs from i
+unfoldable pub bytesOf : List Field → List ℕ → ℕ → List ℕ
+bytesOf [] vs i = []
+bytesOf (f ∷ fs) vs i = be (f .0) (getD vs i 0) ++ bytesOf fs vs (suc i)
+
+-- the position, counted from 1, of the first value out of its range, of those from i on; 0 where there is none
+unfoldable pub firstBad : List Field → List ℕ → ℕ → ℕ
+firstBad [] vs i = 0
+firstBad (f ∷ fs) vs i =
+    pick (leb (f .1) (getD vs i 0)) (pick (leb (getD vs i 0) (f .2)) (firstBad fs vs (suc i)) (suc i)) (suc i)
+
+-- a record: its length, version 1, its kind, its fields
+unfoldable pub recordBytes : ℕ → List ℕ → List ℕ
+recordBytes kind vs = be 2 (lengthOf kind) ++ (be 1 1 ++ (be 1 kind ++ bytesOf (fields kind) vs 0))
+
+-- a line of kinds 3 to 7: length 44, version 1, kind, group, then the five figures
+unfoldable pub lineBytes : ℕ → ℕ → ℕ → ℕ → ℕ → ℕ → ℕ → List ℕ
+lineBytes kind group ch4 n2o co2 excreted land =
+    bytesOf lineFields (44 ∷ 1 ∷ kind ∷ group ∷ ch4 ∷ n2o ∷ co2 ∷ excreted ∷ land ∷ []) 0
+
+-- the close's line: length 52, version 1, kind 8, group 0, the five sums, CO2e
+unfoldable pub totalBytes : ℕ → ℕ → ℕ → ℕ → ℕ → ℕ → List ℕ
+totalBytes ch4 n2o co2 excreted land co2e =
+    bytesOf totalFields (52 ∷ 1 ∷ 8 ∷ 0 ∷ ch4 ∷ n2o ∷ co2 ∷ excreted ∷ land ∷ co2e ∷ []) 0

@@ -1,0 +1,82 @@
+-- Document 01, "The book" (the table of the eight kinds) and "Lines, calls and state" (the two sorts of line), as data.
+-- Assumes nothing.
+use Prim.Native.Nat.{ℕ, _+_}
+use mathlib.Core.List.{List, [], _∷_}
+use lib.ListN.{getD}
+use Rattle.codec.specs.declared.Field.{Field}
+
+-- a field: how many bytes it has, its lowest and its highest value
+abbrev pub field : ℕ → ℕ → ℕ → Field
+field bytes lowest highest = (bytes, lowest, highest)
+
+-- days are 1..366
+abbrev pub days : Field
+days = field 2 1 366
+
+-- by kind, counted from 0; there is no kind 0
+unfoldable pub table : List (List Field)
+table =
+    []
+    -- 1 farm: farm number, year, warming set
+    ∷ (field 4 0 4294967295 ∷ field 2 1900 2200 ∷ field 1 1 2 ∷ [])
+    -- 2 heading: group, class, head
+    ∷ (field 2 1 65535 ∷ field 1 1 4 ∷ field 2 0 20000 ∷ [])
+    -- 3 enteric: days, GE, Ym
+    ∷ (days ∷ field 4 0 100000 ∷ field 2 0 2000 ∷ [])
+    -- 4 cattle nitrogen: days, feed, protein, milk, milk protein, gain, solid, liquid and pasture share
+    ∷ (days ∷ field 2 0 5000 ∷ field 2 0 4000 ∷ field 2 0 8000 ∷ field 2 0 800 ∷ field 2 0 3000 ∷ field 2 0 10000 ∷ field 2 0 10000 ∷ field 2 0 10000 ∷ [])
+    -- 5 pig: days, feed, VS excretion, VS factor, MCF, protein, N factor, direct EF, volatilised part, its EF, leached part, its EF
+    ∷ (days ∷ field 2 0 1000 ∷ field 2 0 5000 ∷ field 2 0 2000 ∷ field 2 0 1000 ∷ field 2 0 4000 ∷ field 2 0 2000 ∷ field 2 0 10000 ∷ field 2 0 1000 ∷ field 2 0 10000 ∷ field 2 0 1000 ∷ field 2 0 10000 ∷ [])
+    -- 6 energy: source, amount, factor
+    ∷ (field 1 1 8 ∷ field 4 0 10000000 ∷ field 4 0 10000000 ∷ [])
+    -- 7 organic soil: area
+    ∷ (field 4 0 10000000 ∷ [])
+    -- 8 close: records before this one
+    ∷ (field 2 0 65535 ∷ [])
+    ∷ []
+
+-- the fields of a kind, in order
+abbrev pub fields : ℕ → List Field
+fields kind = getD table kind []
+
+-- how many bytes the fields take
+unfoldable pub size : List Field → ℕ
+size [] = 0
+size (f ∷ fs) = f .0 + size fs
+
+-- a record's length, which counts what follows it: version, kind and fields
+abbrev pub lengthOf : ℕ → ℕ
+lengthOf kind = 2 + size (fields kind)
+
+-- a figure of a line: grams
+abbrev pub figure : Field
+figure = field 8 0 18446744073709551615
+
+-- a line of kinds 3 to 7: length, version, kind, group, then CH4, N2O, CO2, excreted N, land N
+unfoldable pub lineFields : List Field
+lineFields =
+    field 2 44 44
+    ∷ field 1 1 1
+    ∷ field 1 3 7
+    ∷ field 2 0 65535
+    ∷ figure
+    ∷ figure
+    ∷ figure
+    ∷ figure
+    ∷ figure
+    ∷ []
+
+-- the close's line: length, version, kind 8, group 0, the five sums, CO2e
+unfoldable pub totalFields : List Field
+totalFields =
+    field 2 52 52
+    ∷ field 1 1 1
+    ∷ field 1 8 8
+    ∷ field 2 0 0
+    ∷ figure
+    ∷ figure
+    ∷ figure
+    ∷ figure
+    ∷ figure
+    ∷ figure
+    ∷ []
