@@ -1,0 +1,369 @@
+-- What a record keeps: the ranges of an account, whatever the record does, and the length of its lines.
+-- Assumes nothing.
+use Prim.Native.Nat.{ℕ, zero, suc, _+_, _*_, _^_, _≤_, _<_}
+use mathlib.Core.Path.{_≡_, refl, sym, ap, _∙_}
+use mathlib.Core.List.{List, [], _∷_, _++_, append-nil}
+use mathlib.Core.Bool.{Bool, true, false, _&&_, _||_, not}
+use mathlib.Core.Logic.{_⊎_, inl, inr, ⊎-elim}
+use native.Mathlib.Omega.{arith}
+use borrow.Author.Tests.{leb-true, leb-false, ltb-false, eqb-true, eqb-false, eq-eqb, ne-eqb}
+use lib.ListN.{length, getD}
+use lib.Dec.{leb, ltb, eqb}
+use Rattle.codec.specs.declared.Field.{Field}
+use Rattle.codec.specs.Table.{table, fields}
+use Rattle.codec.specs.Codec.{pick, valAt, valuesAt, firstBad}
+use Rattle.codec.proofs.Round.{line-length, total-length}
+use Rattle.codec.proofs.Within.{bad-position}
+use Rattle.grams.proofs.Small.{enteric-small, cattle-excreted-small, cattle-n2o-small, pig-ch4-small, pig-n2o-small, pig-excreted-small, pig-land-small, energy-small, soil-small}
+use Rattle.account.specs.declared.Account.{Account}
+use Rattle.account.specs.declared.Days.{Days}
+use Rattle.account.specs.declared.Figures.{Figures}
+use Rattle.account.specs.Figures.{figuresOf, added}
+use Rattle.account.specs.Line.{joined, lineOf, totalOf}
+use Rattle.account.specs.Range.{Headed, Unheaded, Bounded, Numbered, Unrefused, Fair}
+use Rattle.account.specs.Judge.{kindOf, valuesOf, noRecord, refused, opened, underHeading, withDetail, closed, headingServes, inPlace, daysAfter, valueRefusals, refusals, first, Step, accepted, decided, weigh, judge}
+use Rattle.account.specs.Told.{Small}
+use Rattle.account.proofs.Tests.{by-test, true-or-false, not-true, not-false, and-l, and-r}
+use Rattle.account.proofs.First.{first-most, first-other, first-clear}
+use Rattle.account.proofs.Ranges.{FarmIn, farm-in, HeadingIn, heading-in, enteric-in, cattle-in, pig-in, energy-in, soil-in}
+use Rattle.account.proofs.Told.{head-most, Passes, past}
+
+-- ---- a fair account
+
+pub stage-most : (a : Account) → Fair a → a .stage ≤ 3
+stage-most a f = f .counted .stage-most
+
+pub fair-none : Fair noRecord
+fair-none =
+    record {
+      counted = record { stage-most = omega arith; records-most = omega arith; in-zero = λ e. refl; in-one = λ e. absurd (omega arith); in-two = λ e. absurd (omega arith) };
+      warmed = record { set-most = omega arith; none = λ e. refl; some = λ e. refl };
+      heading = inr (record { group = refl; class = refl; head = refl; enteric = refl; nitrogen = refl; pig = refl });
+      sums = record { ch4 = omega arith; n2o = omega arith; co2 = omega arith; excreted = omega arith; land = omega arith };
+      refused = λ e. absurd (omega arith);
+      unrefused = λ e. record { code = refl; number = refl; field = refl };
+    }
+
+fair-refused : (a : Account) (code field : ℕ) → Fair a → 1 ≤ code → code ≤ 12 → field ≤ 12 → (code ≡ 7 → 1 ≤ field) → ((code ≡ 7 → ⊥) → field ≡ 0) → Fair (refused a code field)
+fair-refused a code field f low high most some none =
+    record {
+      counted = record { stage-most = omega arith; records-most = f .counted .records-most; in-zero = λ e. absurd (omega arith); in-one = λ e. absurd (omega arith); in-two = λ e. absurd (omega arith) };
+      warmed = f .warmed;
+      heading = f .heading;
+      sums = f .sums;
+      refused = λ e. record { code-least = low; code-most = high; number = refl; field-most = most; field-some = some; field-none = none };
+      unrefused = λ n. absurd (n refl);
+    }
+
+-- a length outside 4..26
+pub fair-length : (a : Account) → Fair a → Fair (refused a 1 0)
+fair-length a f = fair-refused a 1 0 f (omega arith) (omega arith) (omega arith) (λ e. absurd (omega arith)) (λ n. refl)
+
+-- ---- the refusals of a whole record
+
+-- no kind has more than 12 fields
+Short : List (List Field) → Type 0
+Short [] = Unit {0}
+Short (r ∷ t) = (length r ≤ 12) × Short t
+
+short-at : (t : List (List Field)) (k : ℕ) → Short t → length (getD t k []) ≤ 12
+unfolding Short
+short-at [] k s = omega arith
+short-at (r ∷ t) zero s = s .0
+short-at (r ∷ t) (suc k) s = short-at t k (s .1)
+
+row-short : (k : ℕ) → length (fields k) ≤ 12
+unfolding table Short
+row-short k =
+    short-at table k (omega arith, (omega arith, (omega arith, (omega arith, (omega arith, (omega arith, (omega arith, (omega arith, (omega arith, tt)))))))))
+
+-- the number is 12 at most, and 7 only where a field is out of range
+module _ (a : Account) (r : List ℕ) where
+  number-most : first (refusals a r) ≤ 12
+  number-most =
+      first-most 12 (refusals a r) (
+        omega arith,
+        (omega arith, (omega arith, (omega arith, (omega arith, (omega arith, (omega arith, (omega arith, (omega arith, (omega arith, (omega arith, tt)))))))))),
+      )
+
+  seven-field : first (refusals a r) ≡ 7 → firstBad (fields (kindOf r)) (valuesOf r) 0 ≡ 0 → ⊥
+  seven-field e z =
+      first-other 7 (refusals a r) (omega arith) (
+        λ q. absurd (omega arith),
+        (
+          λ q. absurd (omega arith),
+          (
+            λ q. absurd (omega arith),
+            (
+              λ q. absurd (omega arith),
+              (
+                λ q. absurd (omega arith),
+                (
+                  λ q. rw z,
+                  (
+                    λ q. absurd (omega arith),
+                    (λ q. absurd (omega arith), (λ q. absurd (omega arith), (λ q. absurd (omega arith), (λ q. absurd (omega arith), tt)))),
+                  ),
+                ),
+              ),
+            ),
+          ),
+        ),
+      ) e
+
+-- what a record that is not refused has
+pub record Clear (a : Account) (k : ℕ) (v : List ℕ) : Type 0 where
+  pub passes : Passes a k v
+  pub days : (leb 3 k && leb k 5) && ltb 366 (pick (eqb k 3) (a .days .enteric) (pick (eqb k 4) (a .days .nitrogen) (a .days .pig)) + getD v 0 0) ≡ false
+  pub parts : pick (eqb k 4) (not (eqb (getD v 6 0 + getD v 7 0 + getD v 8 0) 10000)) (pick (eqb k 5) (ltb 1000 (getD v 8 0 + getD v 10 0)) false) ≡ false
+
+pub clear : (a : Account) (k : ℕ) (v : List ℕ) → first (valueRefusals a k v) ≡ 0 → Clear a k v
+clear a k v e =
+    let t = first-clear (valueRefusals a k v) (omega arith, (omega arith, (omega arith, (omega arith, (omega arith, (omega arith, (omega arith, (omega arith, tt)))))))) e in
+    record {
+      passes = record {
+        room = leb-false _ _ (t .0 (omega arith));
+        place = not-false _ (t .1 .0 (omega arith));
+        ranges = eqb-true _ _ (not-false _ (t .1 .1 .0 (omega arith)));
+      };
+      days = t .1 .1 .1 .1 .0 (omega arith);
+      parts = t .1 .1 .1 .1 .1 .0 (omega arith);
+    }
+
+-- ---- an account after a record that is not refused
+
+abbrev Kept : Step → Type 0
+Kept s = Fair (s .account)
+
+module _ (a : Account) (f : Fair a) (early : a .stage < 2) where
+  not-three : a .stage ≡ 3 → ⊥
+  not-three e = omega arith
+
+  zeros : Unrefused (a .refusal)
+  zeros = f .unrefused not-three
+
+  fair-opened : (set : ℕ) → 1 ≤ set → set ≤ 2 → a .records ≡ 0 → Fair (opened a set)
+  fair-opened set low high none =
+      let s = f .sums in
+      record {
+        counted = record { stage-most = omega arith; records-most = omega arith; in-zero = λ e. absurd (omega arith); in-one = λ e. omega arith; in-two = λ e. absurd (omega arith) };
+        warmed = record { set-most = high; none = λ e. absurd (omega arith); some = λ e. absurd (omega arith) };
+        heading = ⊎-elim (λ (h : Headed (a .heading) (a .days) (a .records)). absurd (omega arith)) (λ (u : Unheaded (a .heading) (a .days)). inr u) (f .heading);
+        sums = record { ch4 = omega arith; n2o = omega arith; co2 = omega arith; excreted = omega arith; land = omega arith };
+        refused = λ e. absurd (omega arith);
+        unrefused = λ e. zeros;
+      }
+
+  -- from the second record on
+  module _ (begun : 1 ≤ a .records) (room : a .records < 4096) where
+    warm-on : (a .set ≡ 0 → ⊥)
+    warm-on e = let z = f .warmed .none e in omega arith
+
+    fair-heading : (group class head : ℕ) → 1 ≤ group → group ≤ 65535 → 1 ≤ class → class ≤ 4 → head ≤ 20000 → Fair (underHeading a group class head)
+    fair-heading group class head g1 g2 c1 c2 h =
+        let s = f .sums in
+        record {
+          counted = record { stage-most = omega arith; records-most = omega arith; in-zero = λ e. let z = f .counted .in-zero e in absurd (omega arith); in-one = λ e. omega arith; in-two = λ e. absurd (omega arith) };
+          warmed = record { set-most = f .warmed .set-most; none = λ e. absurd (warm-on e); some = λ e. absurd (omega arith) };
+          heading = inl (record {
+            group-least = g1;
+            group-most = g2;
+            class-least = c1;
+            class-most = c2;
+            head-most = h;
+            enteric-most = omega arith;
+            nitrogen-most = omega arith;
+            pig-most = omega arith;
+            records-least = omega arith;
+          });
+          sums = record { ch4 = omega arith; n2o = omega arith; co2 = omega arith; excreted = omega arith; land = omega arith };
+          refused = λ e. absurd (not-three e);
+          unrefused = λ e. zeros;
+        }
+
+    headed-on : Headed (a .heading) (a .days) (a .records) → (d : Days) → d .enteric ≤ 366 → d .nitrogen ≤ 366 → d .pig ≤ 366 → Headed (a .heading) d (a .records + 1)
+    headed-on h d e n p =
+        record {
+          group-least = h .group-least;
+          group-most = h .group-most;
+          class-least = h .class-least;
+          class-most = h .class-most;
+          head-most = h .head-most;
+          enteric-most = e;
+          nitrogen-most = n;
+          pig-most = p;
+          records-least = omega arith;
+        }
+
+    -- with the days as they were
+    heading-on : Headed (a .heading) (a .days) (a .records + 1) ⊎ Unheaded (a .heading) (a .days)
+    heading-on =
+        ⊎-elim (λ (h : Headed (a .heading) (a .days) (a .records)). inl (headed-on h (a .days) (h .enteric-most) (h .nitrogen-most) (h .pig-most)))
+        (λ (u : Unheaded (a .heading) (a .days)). inr u) (f .heading)
+
+    -- a class means a heading
+    headed-by : 1 ≤ a .heading .class → Headed (a .heading) (a .days) (a .records)
+    headed-by c = ⊎-elim (λ (h : Headed (a .heading) (a .days) (a .records)). h) (λ (u : Unheaded (a .heading) (a .days)). absurd (omega arith)) (f .heading)
+
+    fair-closed : Fair (closed a)
+    fair-closed =
+        let s = f .sums in
+        record {
+          counted = record { stage-most = omega arith; records-most = omega arith; in-zero = λ e. absurd (omega arith); in-one = λ e. absurd (omega arith); in-two = λ e. omega arith };
+          warmed = record { set-most = f .warmed .set-most; none = λ e. absurd (warm-on e); some = λ e. absurd (omega arith) };
+          heading = heading-on;
+          sums = record { ch4 = omega arith; n2o = omega arith; co2 = omega arith; excreted = omega arith; land = omega arith };
+          refused = λ e. absurd (omega arith);
+          unrefused = λ e. zeros;
+        }
+
+    fair-detail : (d : Days) (g : Figures) → Small g → Headed (a .heading) d (a .records + 1) ⊎ Unheaded (a .heading) d → Fair (withDetail a d g)
+    fair-detail d g small h =
+        let s = f .sums in
+        record {
+          counted = record { stage-most = omega arith; records-most = omega arith; in-zero = λ e. let z = f .counted .in-zero e in absurd (omega arith); in-one = λ e. omega arith; in-two = λ e. absurd (omega arith) };
+          warmed = record { set-most = f .warmed .set-most; none = λ e. absurd (warm-on e); some = λ e. absurd (omega arith) };
+          heading = h;
+          sums = record { ch4 = omega arith; n2o = omega arith; co2 = omega arith; excreted = omega arith; land = omega arith };
+          refused = λ e. absurd (not-three e);
+          unrefused = λ e. zeros;
+        }
+
+    -- ---- the details, kind by kind
+
+    abbrev Detail : ℕ → List ℕ → Type 0
+    Detail k v = Fair (withDetail a (daysAfter (a .days) k (getD v 0 0)) (figuresOf (a .heading) k v))
+
+    module _ (v : List ℕ) where
+      detail-enteric : Clear a 3 v → Detail 3 v
+      unfolding inPlace figuresOf
+      detail-enteric c =
+          let i = enteric-in v (a .heading .head) (head-most a f) (c .passes .ranges) in
+          let h = headed-by (leb-true _ _ (and-l _ _ (and-l _ _ (c .passes .place)))) in
+          fair-detail _ _ (record { ch4 = enteric-small i; n2o = omega arith; co2 = omega arith; excreted = omega arith; land = omega arith })
+          (inl (headed-on h _ (ltb-false _ _ (c .days)) (h .nitrogen-most) (h .pig-most)))
+
+      detail-cattle : Clear a 4 v → Detail 4 v
+      unfolding inPlace figuresOf
+      detail-cattle c =
+          let i = cattle-in v (a .heading .head) (head-most a f) (c .passes .ranges) in
+          let h = headed-by (leb-true _ _ (and-l _ _ (and-l _ _ (c .passes .place)))) in
+          fair-detail _ _ (record { ch4 = omega arith; n2o = cattle-n2o-small i; co2 = omega arith; excreted = cattle-excreted-small i; land = omega arith })
+          (inl (headed-on h _ (h .enteric-most) (ltb-false _ _ (c .days)) (h .pig-most)))
+
+      detail-pig : Clear a 5 v → Detail 5 v
+      unfolding inPlace figuresOf
+      detail-pig c =
+          let i = pig-in v (a .heading .head) (head-most a f) (c .passes .ranges) (ltb-false _ _ (c .parts)) in
+          let four : a .heading .class ≡ 4 = eqb-true _ _ (and-l _ _ (c .passes .place)) in
+          let h = headed-by (omega arith) in
+          fair-detail _ _ (record { ch4 = pig-ch4-small i; n2o = pig-n2o-small i; co2 = omega arith; excreted = pig-excreted-small i; land = pig-land-small i })
+          (inl (headed-on h _ (h .enteric-most) (h .nitrogen-most) (ltb-false _ _ (c .days))))
+
+      detail-energy : Clear a 6 v → Detail 6 v
+      unfolding figuresOf
+      detail-energy c =
+          fair-detail _ _ (record { ch4 = omega arith; n2o = omega arith; co2 = energy-small (energy-in v (c .passes .ranges)); excreted = omega arith; land = omega arith }) heading-on
+
+      detail-soil : Clear a 7 v → Detail 7 v
+      unfolding figuresOf
+      detail-soil c =
+          fair-detail _ _ (record { ch4 = omega arith; n2o = omega arith; co2 = soil-small (soil-in v (c .passes .ranges)); excreted = omega arith; land = omega arith }) heading-on
+
+  -- ---- by its kind
+
+  module _ (k : ℕ) (v : List ℕ) (c : Clear a k v) where
+    after-first : eqb k 1 ≡ false → 1 ≤ a .records
+    unfolding inPlace
+    after-first e =
+        let p : headingServes (a .heading .class) k && not (eqb (a .records) 0) ≡ true = rw e at (c .passes .place) in
+        let n : a .records ≡ 0 → ⊥ = eqb-false _ _ (not-true _ (and-r (headingServes (a .heading .class) k) _ p)) in
+        omega arith
+
+    kept-farm : eqb k 1 ≡ true → Fair (opened a (getD v 2 0))
+    unfolding inPlace
+    kept-farm e =
+        let c1 : Clear a 1 v = rw (eqb-true k 1 e) at c in
+        let i = farm-in v (c1 .passes .ranges) in
+        fair-opened _ (i .set-least) (i .set-most) (eqb-true _ _ (c1 .passes .place))
+
+    kept-heading : eqb k 1 ≡ false → eqb k 2 ≡ true → Fair (underHeading a (getD v 0 0) (getD v 1 0) (getD v 2 0))
+    kept-heading e1 e2 =
+        let i = heading-in v (rw (eqb-true k 2 e2) at (c .passes .ranges)) in
+        fair-heading (after-first e1) (c .passes .room) _ _ _ (i .group-least) (i .group-most) (i .class-least) (i .class-most) (i .head-most)
+
+    -- none of the others is left but 7
+    seven : leb 1 k && leb k 8 ≡ true → eqb k 1 ≡ false → eqb k 2 ≡ false → eqb k 3 ≡ false → eqb k 4 ≡ false → eqb k 5 ≡ false → eqb k 6 ≡ false → eqb k 8 ≡ false → k ≡ 7
+    seven both e1 e2 e3 e4 e5 e6 e8 =
+        let low = leb-true 1 k (and-l _ _ both) in
+        let high = leb-true k 8 (and-r (leb 1 k) _ both) in
+        only
+        (past 6 k (past 5 k (past 4 k (past 3 k (past 2 k (past 1 k low (eqb-false _ _ e1)) (eqb-false _ _ e2)) (eqb-false _ _ e3)) (eqb-false _ _ e4)) (eqb-false _ _ e5)) (eqb-false _ _ e6))
+        high (eqb-false _ _ e8)
+      where
+        only : 7 ≤ k → k ≤ 8 → (k ≡ 8 → ⊥) → k ≡ 7
+        only p q n = omega arith
+
+    kept-detail : leb 1 k && leb k 8 ≡ true → eqb k 1 ≡ false → eqb k 2 ≡ false → eqb k 8 ≡ false → Fair (withDetail a (daysAfter (a .days) k (getD v 0 0)) (figuresOf (a .heading) k v))
+    kept-detail both e1 e2 e8 =
+        let b = after-first e1 in
+        let m = c .passes .room in
+        ⊎-elim (λ (e : eqb k 3 ≡ true). let q = eqb-true k 3 e in rw q (detail-enteric b m v (rw q at c)))
+        (λ (e3 : eqb k 3 ≡ false).
+        ⊎-elim (λ (e : eqb k 4 ≡ true). let q = eqb-true k 4 e in rw q (detail-cattle b m v (rw q at c)))
+        (λ (e4 : eqb k 4 ≡ false).
+        ⊎-elim (λ (e : eqb k 5 ≡ true). let q = eqb-true k 5 e in rw q (detail-pig b m v (rw q at c)))
+        (λ (e5 : eqb k 5 ≡ false).
+        ⊎-elim (λ (e : eqb k 6 ≡ true). let q = eqb-true k 6 e in rw q (detail-energy b m v (rw q at c)))
+        (λ (e6 : eqb k 6 ≡ false). let q = seven both e1 e2 e3 e4 e5 e6 e8 in rw q (detail-soil b m v (rw q at c)))
+        (true-or-false (eqb k 6))) (true-or-false (eqb k 5))) (true-or-false (eqb k 4))) (true-or-false (eqb k 3))
+
+    pub fair-accepted : leb 1 k && leb k 8 ≡ true → Fair (accepted a k v .account)
+    unfolding accepted
+    fair-accepted both =
+        by-test Kept (eqb k 1) kept-farm
+        (λ e1. by-test Kept (eqb k 2) (kept-heading e1)
+        (λ e2. by-test Kept (eqb k 8) (λ e8. fair-closed (after-first e1) (c .passes .room)) (kept-detail both e1 e2)))
+
+-- ---- a whole record
+
+no-refusal : (a : Account) (r : List ℕ) → first (refusals a r) ≡ 0 → (leb 1 (kindOf r) && leb (kindOf r) 8 ≡ true) × (first (valueRefusals a (kindOf r) (valuesOf r)) ≡ 0)
+unfolding first
+no-refusal a r e =
+    let t = first-clear (refusals a r) (omega arith, (omega arith, (omega arith, (omega arith, (omega arith, (omega arith, (omega arith, (omega arith, (omega arith, (omega arith, (omega arith, tt))))))))))) e in
+    (not-false _ (t .1 .0 (omega arith)), rw (t .0 (omega arith), t .1 .0 (omega arith), t .1 .1 .0 (omega arith)) at e)
+
+field-of : (c x : ℕ) → x ≤ 12 → pick (eqb c 7) x 0 ≤ 12
+field-of c x h = by-test (λ (n : ℕ). n ≤ 12) (eqb c 7) (λ e. h) (λ e. omega arith)
+
+pub fair-judge : (a : Account) (r : List ℕ) → Fair a → a .stage < 2 → Fair (judge a r .account)
+unfolding judge
+fair-judge a r f early =
+    let code = first (refusals a r) in
+    let bad = firstBad (fields (kindOf r)) (valuesOf r) 0 in
+    let short : bad ≤ 12 = omega (arith, bad-position (fields (kindOf r)) (valuesOf r) 0, row-short (kindOf r)) in
+    by-test Kept (eqb code 0)
+    (λ e. let n = no-refusal a r (eqb-true _ _ e) in fair-accepted a f early (kindOf r) (valuesOf r) (clear a (kindOf r) (valuesOf r) (n .1)) (n .0))
+    (λ e.
+    let some : code ≡ 0 → ⊥ = eqb-false _ _ e in
+    fair-refused a code (pick (eqb code 7) bad 0) f (omega arith) (number-most a r) (field-of code bad short)
+    (λ q. let z = seven-field a r q in rw (eq-eqb _ _ q) (omega arith))
+    (λ n. rw (ne-eqb _ _ n)))
+
+-- ---- the length of its lines
+
+abbrev ShortLines : Step → Type 0
+ShortLines s = length (joined (s .lines)) ≤ 54
+
+one-line : (l : List ℕ) (n : ℕ) → length l ≡ n → n ≤ 54 → length (l ++ []) ≤ 54
+one-line l n e h = rw (append-nil, e) h
+
+pub judge-short : (a : Account) (r : List ℕ) → length (joined (judge a r .lines)) ≤ 54
+unfolding judge accepted
+judge-short a r =
+    by-test ShortLines (eqb (first (refusals a r)) 0)
+    (λ e. by-test ShortLines (eqb (kindOf r) 1) (λ e. omega arith)
+    (λ e. by-test ShortLines (eqb (kindOf r) 2) (λ e. omega arith)
+    (λ e. by-test ShortLines (eqb (kindOf r) 8) (λ e. one-line (totalOf a) 54 (total-length _ _ _ _ _ _) (omega arith))
+    (λ e. one-line (lineOf (a .heading) (kindOf r) (valuesOf r)) 46 (line-length _ _ _ _ _ _ _) (omega arith)))))
+    (λ e. omega arith)

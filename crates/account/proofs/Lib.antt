@@ -1,0 +1,7 @@
+pub mod Tests
+pub mod First
+pub mod Ranges
+pub mod Told
+pub mod Written
+pub mod Clauses
+pub mod Keeps

@@ -1,0 +1,207 @@
+-- How the answer of a function tells what the rules say.
+-- Assumes nothing.
+use Prim.Native.Nat.{ℕ, _+_, _*_, _^_, _≤_, _<_}
+use mathlib.Core.Path.{_≡_, refl, sym, ap, _∙_}
+use mathlib.Core.List.{List, [], _∷_, _++_, append-nil}
+use mathlib.Core.Bool.{Bool, true, false, not, _&&_}
+use mathlib.Core.Logic.{⊎-elim}
+use native.Mathlib.Omega.{arith}
+use borrow.Author.Tests.{leb-true, leb-false, lt-leb, eqb-true, eq-eqb, ne-eqb}
+use lib.ListN.{length, getD}
+use lib.Dec.{ltb, leb, eqb}
+use Rattle.codec.specs.Table.{fields, lengthOf}
+use Rattle.codec.specs.Codec.{pick, valAt, valuesAt, firstBad}
+use Rattle.codec.proofs.Round.{line-length, total-length}
+use Rattle.grams.specs.Cattle.{belowZero, manureOf, CattleSmall, Nitrogen}
+use Rattle.grams.specs.Pig.{Manure}
+use Rattle.grams.specs.declared.cattle.CattleRation.{CattleRation}
+use Rattle.grams.specs.declared.cattle.CattleManure.{CattleManure}
+use Rattle.grams.specs.declared.cattle.CattleNitrogen.{CattleNitrogen}
+use Rattle.grams.specs.declared.cattle.CattleNitrogen.the-variants.{BelowZero, Given}
+use Rattle.grams.specs.declared.pig.PigRation.{PigRation}
+use Rattle.grams.specs.declared.pig.PigManure.{PigManure}
+use Rattle.account.specs.declared.Account.{Account}
+use Rattle.account.specs.declared.Days.{Days}
+use Rattle.account.specs.declared.Figures.{Figures}
+use Rattle.account.specs.declared.Judged.{Judged}
+use Rattle.account.specs.Figures.{cattleRation, ch4Alone, co2Alone, cattleFigures, pigFigures}
+use Rattle.account.specs.Line.{joined, bytesOf, lineWith, totalOf}
+use Rattle.account.specs.Range.{Headed, Unheaded, Bounded, Fair}
+use Rattle.account.specs.Judge.{versionOf, kindOf, judge, first, inPlace, daysOver, partsWrong, valueRefusals, refused, withDetail, closed, Step, accepted, decided, weigh}
+use Rattle.account.specs.Told.{Tells, Kind, Small, quiet, refusing, detailing, closing}
+use Rattle.account.proofs.Tests.{not-false, no-bool}
+use Rattle.account.proofs.First.{three-clear, three-first}
+
+-- ---- a fair account, in what the arithmetic asks
+
+pub head-most : (a : Account) → Fair a → a .heading .head ≤ 20000
+head-most a f = ⊎-elim (λ (h : Headed (a .heading) (a .days) (a .records)). h .head-most) (λ (u : Unheaded (a .heading) (a .days)). omega arith) (f .heading)
+
+pub record DaysMost (d : Days) : Type 0 where
+  pub enteric : d .enteric ≤ 366
+  pub nitrogen : d .nitrogen ≤ 366
+  pub pig : d .pig ≤ 366
+
+pub days-most : (a : Account) → Fair a → DaysMost (a .days)
+days-most a f =
+    ⊎-elim
+    (λ (h : Headed (a .heading) (a .days) (a .records)). record { enteric = h .enteric-most; nitrogen = h .nitrogen-most; pig = h .pig-most })
+    (λ (u : Unheaded (a .heading) (a .days)). record { enteric = omega arith; nitrogen = omega arith; pig = omega arith })
+    (f .heading)
+
+pub sums-most : (a : Account) → Fair a → Bounded (a .sums) 4096
+sums-most a f =
+    let s = f .sums in
+    let n = f .counted .records-most in
+    record { ch4 = omega arith; n2o = omega arith; co2 = omega arith; excreted = omega arith; land = omega arith }
+
+-- ---- figures of one line
+
+pub small-ch4 : (f : Figures) (g : ℕ) → f ≡ ch4Alone g → g ≤ 10 ^ 11 → Small f
+small-ch4 f g e h = rw e (record { ch4 = h; n2o = omega arith; co2 = omega arith; excreted = omega arith; land = omega arith })
+
+pub small-co2 : (f : Figures) (g : ℕ) → f ≡ co2Alone g → g ≤ 10 ^ 13 → Small f
+small-co2 f g e h = rw e (record { ch4 = omega arith; n2o = omega arith; co2 = h; excreted = omega arith; land = omega arith })
+
+pub small-pig : (f : Figures) (p : PigRation) (head : ℕ) (m : PigManure) → f ≡ pigFigures m → Manure p head m → Small f
+small-pig f p head m e s =
+    rw e (record { ch4 = s .ch4-small; n2o = s .n2o-small; co2 = omega arith; excreted = s .excreted-small; land = s .land-small })
+
+-- what the nitrogen of a cattle ration is, by its answer
+module _ (r : CattleRation) (head : ℕ) (n : CattleNitrogen) (w : Nitrogen r head n) where
+  pub below-zero : n ≡ BelowZero → belowZero r ≡ true
+  below-zero e = go (belowZero r) (sym (w .exact) ∙ e)
+    where
+      go : (b : Bool) → pick b BelowZero (Given (manureOf r head)) ≡ BelowZero → b ≡ true
+      go true q = refl
+      go false q = let z : _≡_ {A = ℕ} 0 1 = cc in absurd (omega arith)
+
+  module _ (m : CattleManure) (e : n ≡ Given m) where
+    above-zero : (b : Bool) → pick b BelowZero (Given (manureOf r head)) ≡ Given m → (b ≡ false) × (m ≡ manureOf r head)
+    above-zero true q = let z : _≡_ {A = ℕ} 0 1 = cc in absurd (omega arith)
+    above-zero false q = (refl, cc)
+
+    pub not-below : belowZero r ≡ false
+    not-below = above-zero (belowZero r) (sym (w .exact) ∙ e) .0
+
+    pub manure-is : m ≡ manureOf r head
+    manure-is = above-zero (belowZero r) (sym (w .exact) ∙ e) .1
+
+    pub small-cattle : (f : Figures) → f ≡ cattleFigures m → Small f
+    small-cattle f q =
+        let s : CattleSmall (Given m) = rw e at (w .small) in
+        rw q (record { ch4 = omega arith; n2o = s .1; co2 = omega arith; excreted = s .0; land = omega arith })
+
+-- ---- answers without a line, with a detail's, with the close's
+
+abbrev pub step : Account → List (List ℕ) → Step
+step a ls = record { account = a; lines = ls }
+
+pub tells-quiet : (a : Account) → Tells (step a []) (quiet a)
+unfolding bytesOf
+tells-quiet a = record { account = refl; bytes = refl; long = refl; short = omega arith }
+
+pub tells-detail : (a : Account) (kind group : ℕ) (days : Days) (f : Figures)
+    → Tells (step (withDetail a days f) (lineWith kind group f ∷ [])) (detailing a kind group days f)
+unfolding bytesOf
+tells-detail a kind group days f =
+    record { account = refl; bytes = sym (append-nil _); long = line-length _ _ _ _ _ _ _; short = omega arith }
+
+pub tells-close : (a : Account) → Tells (step (closed a) (totalOf a ∷ [])) (closing a)
+unfolding bytesOf
+tells-close a = record { account = refl; bytes = sym (append-nil _); long = total-length _ _ _ _ _ _; short = omega arith }
+
+-- ---- the refusals of values
+
+-- the refusals from 8 on
+abbrev pub laterRefusals : Account → ℕ → List ℕ → List (Bool × ℕ)
+laterRefusals a k v =
+    (eqb k 2 && leb (getD v 0 0) (a .heading .group), 8)
+    ∷ (daysOver (a .days) k v, 9)
+    ∷ (partsWrong k v, 10)
+    ∷ (eqb k 4 && belowZero (cattleRation v), 11)
+    ∷ (eqb k 8 && not (eqb (getD v 0 0) (a .records)), 12)
+    ∷ []
+
+-- what values that 5, 6 and 7 let through have
+pub record Passes (a : Account) (k : ℕ) (v : List ℕ) : Type 0 where
+  pub room : a .records < 4096
+  pub place : inPlace a k ≡ true
+  pub ranges : firstBad (fields k) v 0 ≡ 0
+
+module _ (a : Account) (k : ℕ) (v : List ℕ) (placed : Bool) (bad code : ℕ) (p : placed ≡ inPlace a k) (b : bad ≡ firstBad (fields k) v 0)
+    (c : code ≡ first ((leb 4096 (a .records), 5) ∷ (not placed, 6) ∷ (not (eqb bad 0), 7) ∷ [])) where
+  pub passes : code ≡ 0 → Passes a k v
+  passes z =
+      let t = three-clear (leb 4096 (a .records)) (not placed) (not (eqb bad 0)) (sym c ∙ z) in
+      record {
+        room = leb-false _ _ (t .0);
+        place = sym p ∙ not-false placed (t .1);
+        ranges = sym b ∙ eqb-true _ _ (not-false (eqb bad 0) (t .2));
+      }
+
+  -- refused by 5, 6 or 7
+  pub stops : (r : Judged) → (code ≡ 0 → ⊥) → r ≡ refusing a code (pick (eqb code 7) bad 0) → Tells (weigh a k v) r
+  unfolding weigh
+  stops r n e =
+      let same : first (valueRefusals a k v) ≡ code =
+      rw (← p, ← b) (three-first (leb 4096 (a .records)) (not placed) (not (eqb bad 0)) (laterRefusals a k v) (λ z. n (c ∙ z)) ∙ sym c) in
+      rw (same, ne-eqb code 0 n, ← b, e) (tells-quiet (refused a code (pick (eqb code 7) bad 0)))
+
+-- what is left are the refusals from 8 on
+module _ (a : Account) (k : ℕ) (v : List ℕ) (p : Passes a k v) where
+  later : first (valueRefusals a k v) ≡ first (laterRefusals a k v)
+  unfolding first
+  later = rw (lt-leb _ _ (p .room), p .place, p .ranges)
+
+  pub refuses : (c : ℕ) (r : Judged) → first (laterRefusals a k v) ≡ c → (eqb c 0 ≡ false) → (eqb c 7 ≡ false) → r ≡ refusing a c 0 → Tells (weigh a k v) r
+  unfolding weigh
+  refuses c r e n m q = rw (later, e, n, m, q) (tells-quiet (refused a c 0))
+
+  pub accepts : first (laterRefusals a k v) ≡ 0 → weigh a k v ≡ accepted a k v
+  unfolding weigh
+  accepts e = rw (later, e)
+
+-- ---- a whole record
+
+-- r is of version 1 and kind k, one of the eight
+module _ (a : Account) (k : ℕ) (r : List ℕ) (n : ℕ) (w : Kind k r) (kinds : leb 1 k && leb k 8 ≡ true) (size : lengthOf k + 2 ≡ n) where
+  -- its length is not the kind's
+  pub wrong-length : (j : Judged) → (length r ≡ n → ⊥) → j ≡ refusing a 4 0 → Tells (judge a r) j
+  unfolding judge first
+  wrong-length j h e =
+      let other : valAt r 0 2 ≡ lengthOf k → ⊥ = λ q. h (omega (arith, w .whole .long, size)) in
+      rw (w .version, w .kind, kinds, ne-eqb _ _ other, e) (tells-quiet (refused a 4 0))
+
+  -- its length is the kind's: its values decide
+  pub right-length : length r ≡ n → judge a r ≡ weigh a k (valuesAt (fields k) r 4)
+  unfolding judge weigh first
+  right-length h =
+      let same : valAt r 0 2 ≡ lengthOf k = omega (arith, w .whole .long, size) in
+      rw (w .version, w .kind, kinds, eq-eqb _ _ same)
+
+pub wrong-version : (a : Account) (r : List ℕ) (j : Judged) → (versionOf r ≡ 1 → ⊥) → j ≡ refusing a 2 0 → Tells (judge a r) j
+unfolding judge first
+wrong-version a r j h e = rw (ne-eqb _ 1 h, e) (tells-quiet (refused a 2 0))
+
+pub wrong-kind : (a : Account) (r : List ℕ) (j : Judged) → versionOf r ≡ 1 → leb 1 (kindOf r) && leb (kindOf r) 8 ≡ false → j ≡ refusing a 3 0 → Tells (judge a r) j
+unfolding judge first
+wrong-kind a r j v h e = rw (v, h, e) (tells-quiet (refused a 3 0))
+
+pub past : (n k : ℕ) → n ≤ k → (k ≡ n → ⊥) → n + 1 ≤ k
+past n k l h = omega arith
+
+-- a kind that is none of the eight
+pub no-kind : (k : ℕ) → (k ≡ 1 → ⊥) → (k ≡ 2 → ⊥) → (k ≡ 3 → ⊥) → (k ≡ 4 → ⊥) → (k ≡ 5 → ⊥) → (k ≡ 6 → ⊥) → (k ≡ 7 → ⊥) → (k ≡ 8 → ⊥) → leb 1 k && leb k 8 ≡ false
+no-kind k h1 h2 h3 h4 h5 h6 h7 h8 = go (leb 1 k) (leb k 8) refl refl
+  where
+    above : 1 ≤ k → 9 ≤ k
+    above l = past 8 k (past 7 k (past 6 k (past 5 k (past 4 k (past 3 k (past 2 k (past 1 k l h1) h2) h3) h4) h5) h6) h7) h8
+
+    not-both : (l m : ℕ) → l ≤ m → m < l → ⊥
+    not-both l m p q = omega arith
+
+    go : (x y : Bool) → leb 1 k ≡ x → leb k 8 ≡ y → x && y ≡ false
+    go false y d e = refl
+    go true false d e = refl
+    go true true d e = absurd (not-both k 8 (leb-true _ _ e) (above (leb-true _ _ d)))

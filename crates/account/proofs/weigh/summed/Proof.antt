@@ -1,0 +1,15 @@
+-- Assumes nothing.
+use borrow.Author.Needs.{needs}
+use Rattle.account.proofs.weigh.summed.Statement.{statement}
+use Rattle.account.proofs.weigh.summed.Tie as tie
+
+pub summed-spec : {M : Type 1} → statement M
+summed-spec =
+    tie.close
+    (tie.spec
+    (λ c κs. search needs)
+    (λ c. search needs)
+    (λ c. search needs)
+    (λ c. search needs)
+    (λ c. search needs)
+    (λ c. rw (c .before .before .before .before .before .before .before .before .plus .ensures)))

@@ -1,0 +1,13 @@
+-- Assumes nothing.
+use borrow.Author.Needs.{needs}
+use Rattle.account.proofs.weigh.totalled.Statement.{statement}
+use Rattle.account.proofs.weigh.totalled.Tie as tie
+
+pub totalled-spec : {M : Type 1} → statement M
+totalled-spec =
+    tie.close
+    (tie.spec
+    (λ c κs. search needs)
+    (λ c κs. search needs)
+    (λ c. search needs)
+    (λ c. rw (c .before .co2e .ensures, c .before .before .warming .ensures)))

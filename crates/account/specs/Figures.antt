@@ -1,0 +1,86 @@
+-- Document 01, "The arithmetic", as a line uses it: the figures of one detail record, from its heading and its values alone.
+-- Assumes nothing.
+use Prim.Native.Nat.{ℕ, _+_}
+use mathlib.Core.List.{List}
+use lib.ListN.{getD}
+use lib.Dec.{eqb}
+use Rattle.codec.specs.Codec.{pick}
+use Rattle.grams.specs.Cattle as cattle
+use Rattle.grams.specs.Pig as pig
+use Rattle.grams.specs.Farm.{energyOf, soilOf}
+use Rattle.grams.specs.Units.{gramsN2o}
+use Rattle.grams.specs.declared.cattle.CattleRation.{CattleRation}
+use Rattle.grams.specs.declared.cattle.CattleManure.{CattleManure}
+use Rattle.grams.specs.declared.pig.PigRation.{PigRation}
+use Rattle.grams.specs.declared.pig.PigManure.{PigManure}
+use Rattle.account.specs.declared.Figures.{Figures}
+use Rattle.account.specs.declared.Heading.{Heading}
+
+-- no grams at all
+abbrev pub noFigures : Figures
+noFigures = record { ch4 = 0; n2o = gramsN2o 0; co2 = 0; excreted = 0; land = 0 }
+
+-- each figure summed
+abbrev pub added : Figures → Figures → Figures
+added f g =
+    record {
+      ch4 = f .ch4 + g .ch4;
+      n2o = gramsN2o (f .n2o .0 + g .n2o .0);
+      co2 = f .co2 + g .co2;
+      excreted = f .excreted + g .excreted;
+      land = f .land + g .land;
+    }
+
+-- 0 where the rule gives none: enteric CH4 alone, and CO2 alone
+abbrev pub ch4Alone : ℕ → Figures
+ch4Alone g = record { ch4 = g; n2o = gramsN2o 0; co2 = 0; excreted = 0; land = 0 }
+
+abbrev pub co2Alone : ℕ → Figures
+co2Alone g = record { ch4 = 0; n2o = gramsN2o 0; co2 = g; excreted = 0; land = 0 }
+
+-- a cattle nitrogen record's values, by name; the pasture share counts in refusal 10 only
+abbrev pub cattleRation : List ℕ → CattleRation
+cattleRation v =
+    record {
+      days = getD v 0 0;
+      feed = getD v 1 0;
+      protein = getD v 2 0;
+      milk = getD v 3 0;
+      milkprotein = getD v 4 0;
+      gain = getD v 5 0;
+      solid = getD v 6 0;
+      liquid = getD v 7 0;
+    }
+
+abbrev pub cattleFigures : CattleManure → Figures
+cattleFigures m = record { ch4 = 0; n2o = m .n2o; co2 = 0; excreted = m .excreted; land = 0 }
+
+-- a pig record's values, by name
+abbrev pub pigRation : List ℕ → PigRation
+pigRation v =
+    record {
+      days = getD v 0 0;
+      feed = getD v 1 0;
+      vs = getD v 2 0;
+      vsfactor = getD v 3 0;
+      mcf = getD v 4 0;
+      protein = getD v 5 0;
+      nfactor = getD v 6 0;
+      direct = getD v 7 0;
+      volatilised = getD v 8 0;
+      volatilisedef = getD v 9 0;
+      leached = getD v 10 0;
+      leachedef = getD v 11 0;
+    }
+
+abbrev pub pigFigures : PigManure → Figures
+pigFigures m = record { ch4 = m .ch4; n2o = m .n2o; co2 = 0; excreted = m .excreted; land = m .land }
+
+-- the figures of a detail record of kind k (3 to 7) with the values v, under the heading h
+unfoldable pub figuresOf : Heading → ℕ → List ℕ → Figures
+figuresOf h k v =
+    pick (eqb k 3) (ch4Alone (cattle.entericOf (getD v 1 0) (getD v 2 0) (h .head) (getD v 0 0)))
+    (pick (eqb k 4) (cattleFigures (cattle.manureOf (cattleRation v) (h .head)))
+    (pick (eqb k 5) (pigFigures (pig.manureOf (pigRation v) (h .head)))
+    (pick (eqb k 6) (co2Alone (energyOf (getD v 1 0) (getD v 2 0)))
+    (co2Alone (soilOf (getD v 0 0))))))

@@ -1,0 +1,214 @@
+-- Document 01, "The book" and "Refusal numbers": what one whole record does, after the records before it.
+-- Assumes nothing.
+use Prim.Native.Nat.{ℕ, _+_, _≤_}
+use mathlib.Core.Path.{_≡_}
+use mathlib.Core.List.{List, [], _∷_}
+use mathlib.Core.Bool.{Bool, true, false, _&&_, _||_, not}
+use lib.ListN.{length, getD}
+use lib.Dec.{ltb, leb, eqb}
+use Rattle.codec.specs.Table.{fields, lengthOf}
+use Rattle.codec.specs.Codec.{pick, valAt, valuesAt, firstBad}
+use Rattle.grams.specs.Cattle.{belowZero}
+use Rattle.account.specs.declared.Account.{Account}
+use Rattle.account.specs.declared.Days.{Days}
+use Rattle.account.specs.declared.Figures.{Figures}
+use Rattle.account.specs.Figures.{noFigures, added, cattleRation, figuresOf}
+use Rattle.account.specs.Line.{lineOf, totalOf}
+
+-- ---- a record and its parts
+
+-- r is a whole record: a length of 4..26, and so many bytes behind it
+pub record Whole (r : List ℕ) : Type 0 where
+  pub long : length r ≡ valAt r 0 2 + 2
+  pub low : 4 ≤ valAt r 0 2
+  pub high : valAt r 0 2 ≤ 26
+
+abbrev pub versionOf : List ℕ → ℕ
+versionOf r = getD r 2 0
+
+abbrev pub kindOf : List ℕ → ℕ
+kindOf r = getD r 3 0
+
+abbrev pub valuesOf : List ℕ → List ℕ
+valuesOf r = valuesAt (fields (kindOf r)) r 4
+
+-- ---- accounts made of accounts
+
+-- before any record
+abbrev pub noRecord : Account
+noRecord =
+    record {
+      stage = 0;
+      records = 0;
+      set = 0;
+      heading = record { group = 0; class = 0; head = 0 };
+      days = record { enteric = 0; nitrogen = 0; pig = 0 };
+      sums = noFigures;
+      refusal = record { code = 0; number = 0; field = 0 };
+    }
+
+-- refused: code, records accepted so far and field are stored, all the rest is kept
+abbrev pub refused : Account → ℕ → ℕ → Account
+refused a code field =
+    record {
+      stage = 3;
+      records = a .records;
+      set = a .set;
+      heading = a .heading;
+      days = a .days;
+      sums = a .sums;
+      refusal = record { code = code; number = a .records; field = field };
+    }
+
+-- a farm record opens the book and sets its warming set
+abbrev pub opened : Account → ℕ → Account
+opened a set =
+    record {
+      stage = 1;
+      records = a .records + 1;
+      set = set;
+      heading = a .heading;
+      days = a .days;
+      sums = a .sums;
+      refusal = a .refusal;
+    }
+
+-- a new heading sets the day sums to zero
+abbrev pub underHeading : Account → ℕ → ℕ → ℕ → Account
+underHeading a group class head =
+    record {
+      stage = a .stage;
+      records = a .records + 1;
+      set = a .set;
+      heading = record { group = group; class = class; head = head };
+      days = record { enteric = 0; nitrogen = 0; pig = 0 };
+      sums = a .sums;
+      refusal = a .refusal;
+    }
+
+-- a detail adds its days and its figures; the heading stays
+abbrev pub withDetail : Account → Days → Figures → Account
+withDetail a days f =
+    record {
+      stage = a .stage;
+      records = a .records + 1;
+      set = a .set;
+      heading = a .heading;
+      days = days;
+      sums = added (a .sums) f;
+      refusal = a .refusal;
+    }
+
+-- the close: heading, day sums and sums stay
+abbrev pub closed : Account → Account
+closed a =
+    record {
+      stage = 2;
+      records = a .records + 1;
+      set = a .set;
+      heading = a .heading;
+      days = a .days;
+      sums = a .sums;
+      refusal = a .refusal;
+    }
+
+-- ---- the refusals
+
+-- kinds 3 and 4 need a cattle heading (classes 1 to 3), kind 5 a pig heading (class 4)
+abbrev pub headingServes : ℕ → ℕ → Bool
+headingServes class k =
+    pick (eqb k 3 || eqb k 4) (leb 1 class && leb class 3)
+    (pick (eqb k 5) (eqb class 4) true)
+
+-- the first record is kind 1 and no other is
+unfoldable pub inPlace : Account → ℕ → Bool
+inPlace a k = pick (eqb k 1) (eqb (a .records) 0) (headingServes (a .heading .class) k && not (eqb (a .records) 0))
+
+-- the days so far of kinds 3, 4 and 5, each kind for itself
+abbrev pub daysOf : Days → ℕ → ℕ
+daysOf d k = pick (eqb k 3) (d .enteric) (pick (eqb k 4) (d .nitrogen) (d .pig))
+
+-- so many days more of kinds 3, 4 and 5; other kinds have none
+abbrev pub daysAfter : Days → ℕ → ℕ → Days
+daysAfter d k more =
+    record {
+      enteric = pick (eqb k 3) (d .enteric + more) (d .enteric);
+      nitrogen = pick (eqb k 4) (d .nitrogen + more) (d .nitrogen);
+      pig = pick (eqb k 5) (d .pig + more) (d .pig);
+    }
+
+-- days over 366 with this record
+abbrev pub daysOver : Days → ℕ → List ℕ → Bool
+daysOver d k v = (leb 3 k && leb k 5) && ltb 366 (daysOf d k + getD v 0 0)
+
+-- cattle shares not 10000 together, or pig parts over 1000 together
+abbrev pub partsWrong : ℕ → List ℕ → Bool
+partsWrong k v =
+    pick (eqb k 4) (not (eqb (getD v 6 0 + getD v 7 0 + getD v 8 0) 10000))
+    (pick (eqb k 5) (ltb 1000 (getD v 8 0 + getD v 10 0)) false)
+
+-- the refusals of values v of kind k, in the order they are tried
+abbrev pub valueRefusals : Account → ℕ → List ℕ → List (Bool × ℕ)
+valueRefusals a k v =
+    -- 4,096 records already accepted
+    (leb 4096 (a .records), 5)
+    -- out of its place
+    ∷ (not (inPlace a k), 6)
+    -- a field out of range
+    ∷ (not (eqb (firstBad (fields k) v 0) 0), 7)
+    -- group not above the last
+    ∷ (eqb k 2 && leb (getD v 0 0) (a .heading .group), 8)
+    -- days over 366 with this record
+    ∷ (daysOver (a .days) k v, 9)
+    -- shares or parts wrong together
+    ∷ (partsWrong k v, 10)
+    -- X below zero
+    ∷ (eqb k 4 && belowZero (cattleRation v), 11)
+    -- close count wrong
+    ∷ (eqb k 8 && not (eqb (getD v 0 0) (a .records)), 12)
+    ∷ []
+
+-- the refusals of a whole record, in the order they are tried
+abbrev pub refusals : Account → List ℕ → List (Bool × ℕ)
+refusals a r =
+    -- version not 1
+    (not (eqb (versionOf r) 1), 2)
+    -- kind not 1..8
+    ∷ (not (leb 1 (kindOf r) && leb (kindOf r) 8), 3)
+    -- length not the kind's
+    ∷ (not (eqb (valAt r 0 2) (lengthOf (kindOf r))), 4)
+    ∷ valueRefusals a (kindOf r) (valuesOf r)
+
+-- the number of the first test that holds, 0 where none does
+unfoldable pub first : List (Bool × ℕ) → ℕ
+first [] = 0
+first (t ∷ ts) = pick (t .0) (t .1) (first ts)
+
+-- ---- what a record does
+
+-- the account after a record, and the lines that it gives
+pub record Step : Type 0 where
+  pub account : Account
+  pub lines : List (List ℕ)
+
+-- a record that is not refused
+unfoldable pub accepted : Account → ℕ → List ℕ → Step
+accepted a k v =
+    pick (eqb k 1) (record { account = opened a (getD v 2 0); lines = [] })
+    (pick (eqb k 2) (record { account = underHeading a (getD v 0 0) (getD v 1 0) (getD v 2 0); lines = [] })
+    (pick (eqb k 8) (record { account = closed a; lines = totalOf a ∷ [] })
+    (record { account = withDetail a (daysAfter (a .days) k (getD v 0 0)) (figuresOf (a .heading) k v); lines = lineOf (a .heading) k v ∷ [] })))
+
+-- by the number of its first refusal; the field is given for 7 alone
+abbrev pub decided : ℕ → Account → ℕ → List ℕ → Step
+decided code a k v =
+    pick (eqb code 0) (accepted a k v)
+    (record { account = refused a code (pick (eqb code 7) (firstBad (fields k) v 0) 0); lines = [] })
+
+-- what values of a kind 1 to 8 do
+unfoldable pub weigh : Account → ℕ → List ℕ → Step
+weigh a k v = decided (first (valueRefusals a k v)) a k v
+
+-- what a whole record does
+unfoldable pub judge : Account → List ℕ → Step
+judge a r = decided (first (refusals a r)) a (kindOf r) (valuesOf r)

@@ -1,0 +1,5 @@
+pub mod Figures
+pub mod Line
+pub mod Range
+pub mod Judge
+pub mod Told

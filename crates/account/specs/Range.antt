@@ -1,0 +1,146 @@
+-- Document 01, "A state holds": the ranges of a state's fields but for its held bytes, in parts and as the test that decides them.
+-- Assumes nothing.
+use Prim.Native.Nat.{ℕ, _*_, _^_, _≤_}
+use mathlib.Core.Path.{_≡_}
+use mathlib.Core.List.{List, [], _∷_}
+use mathlib.Core.Bool.{Bool, true, false, _&&_, _||_, not}
+use mathlib.Core.Logic.{_⊎_}
+use lib.Dec.{ltb, leb, eqb}
+use Rattle.codec.specs.Codec.{pick}
+use Rattle.account.specs.declared.Account.{Account}
+use Rattle.account.specs.declared.Heading.{Heading}
+use Rattle.account.specs.declared.Days.{Days}
+use Rattle.account.specs.declared.Figures.{Figures}
+use Rattle.account.specs.declared.Refusal.{Refusal}
+
+-- ---- in parts
+
+-- records accepted: 0 in stage 0, from 1 in stage 1, from 2 in stage 2
+pub record Counted (stage records : ℕ) : Type 0 where
+  pub stage-most : stage ≤ 3
+  pub records-most : records ≤ 4096
+  pub in-zero : stage ≡ 0 → records ≡ 0
+  pub in-one : stage ≡ 1 → 1 ≤ records
+  pub in-two : stage ≡ 2 → 2 ≤ records
+
+-- warming set 1 or 2, 0 exactly with no records
+pub record Warmed (set records : ℕ) : Type 0 where
+  pub set-most : set ≤ 2
+  pub none : set ≡ 0 → records ≡ 0
+  pub some : records ≡ 0 → set ≡ 0
+
+-- a heading, its three fields in their ranges and its three day sums 0..366; never with fewer than 2 records
+pub record Headed (h : Heading) (d : Days) (records : ℕ) : Type 0 where
+  pub group-least : 1 ≤ h .group
+  pub group-most : h .group ≤ 65535
+  pub class-least : 1 ≤ h .class
+  pub class-most : h .class ≤ 4
+  pub head-most : h .head ≤ 20000
+  pub enteric-most : d .enteric ≤ 366
+  pub nitrogen-most : d .nitrogen ≤ 366
+  pub pig-most : d .pig ≤ 366
+  pub records-least : 2 ≤ records
+
+-- no heading: all six zero
+pub record Unheaded (h : Heading) (d : Days) : Type 0 where
+  pub group : h .group ≡ 0
+  pub class : h .class ≡ 0
+  pub head : h .head ≡ 0
+  pub enteric : d .enteric ≡ 0
+  pub nitrogen : d .nitrogen ≡ 0
+  pub pig : d .pig ≡ 0
+
+-- sums at most records times 10^11 for CH4 and both nitrogens, 10^10 for N2O, 10^13 for CO2
+pub record Bounded (f : Figures) (records : ℕ) : Type 0 where
+  pub ch4 : f .ch4 ≤ records * 10 ^ 11
+  pub n2o : f .n2o .0 ≤ records * 10 ^ 10
+  pub co2 : f .co2 ≤ records * 10 ^ 13
+  pub excreted : f .excreted ≤ records * 10 ^ 11
+  pub land : f .land ≤ records * 10 ^ 11
+
+-- the refusal of stage 3: code 1..12, record number equal to the records accepted, field 1..12 for code 7, else 0
+pub record Numbered (r : Refusal) (records : ℕ) : Type 0 where
+  pub code-least : 1 ≤ r .code
+  pub code-most : r .code ≤ 12
+  pub number : r .number ≡ records
+  pub field-most : r .field ≤ 12
+  pub field-some : r .code ≡ 7 → 1 ≤ r .field
+  pub field-none : (r .code ≡ 7 → ⊥) → r .field ≡ 0
+
+-- otherwise zeros
+pub record Unrefused (r : Refusal) : Type 0 where
+  pub code : r .code ≡ 0
+  pub number : r .number ≡ 0
+  pub field : r .field ≡ 0
+
+-- all of it
+pub record Fair (a : Account) : Type 0 where
+  pub counted : Counted (a .stage) (a .records)
+  pub warmed : Warmed (a .set) (a .records)
+  pub heading : Headed (a .heading) (a .days) (a .records) ⊎ Unheaded (a .heading) (a .days)
+  pub sums : Bounded (a .sums) (a .records)
+  pub refused : a .stage ≡ 3 → Numbered (a .refusal) (a .records)
+  pub unrefused : (a .stage ≡ 3 → ⊥) → Unrefused (a .refusal)
+
+-- ---- as a test
+
+abbrev pub countedTest : ℕ → ℕ → Bool
+countedTest stage records =
+    leb stage 3
+    && leb records 4096
+    && (not (eqb stage 0) || eqb records 0)
+    && (not (eqb stage 1) || leb 1 records)
+    && (not (eqb stage 2) || leb 2 records)
+
+abbrev pub warmedTest : ℕ → ℕ → Bool
+warmedTest set records = leb set 2 && (not (eqb set 0) || eqb records 0) && (not (eqb records 0) || eqb set 0)
+
+abbrev pub headedTest : Heading → Days → ℕ → Bool
+headedTest h d records =
+    leb 1 (h .group)
+    && leb (h .group) 65535
+    && leb 1 (h .class)
+    && leb (h .class) 4
+    && leb (h .head) 20000
+    && leb (d .enteric) 366
+    && leb (d .nitrogen) 366
+    && leb (d .pig) 366
+    && leb 2 records
+
+abbrev pub unheadedTest : Heading → Days → Bool
+unheadedTest h d =
+    eqb (h .group) 0
+    && eqb (h .class) 0
+    && eqb (h .head) 0
+    && eqb (d .enteric) 0
+    && eqb (d .nitrogen) 0
+    && eqb (d .pig) 0
+
+abbrev pub boundedTest : Figures → ℕ → Bool
+boundedTest f records =
+    leb (f .ch4) (records * 10 ^ 11)
+    && leb (f .n2o .0) (records * 10 ^ 10)
+    && leb (f .co2) (records * 10 ^ 13)
+    && leb (f .excreted) (records * 10 ^ 11)
+    && leb (f .land) (records * 10 ^ 11)
+
+abbrev pub numberedTest : Refusal → ℕ → Bool
+numberedTest r records =
+    leb 1 (r .code)
+    && leb (r .code) 12
+    && eqb (r .number) records
+    && leb (r .field) 12
+    && (not (eqb (r .code) 7) || leb 1 (r .field))
+    && (eqb (r .code) 7 || eqb (r .field) 0)
+
+abbrev pub unrefusedTest : Refusal → Bool
+unrefusedTest r = eqb (r .code) 0 && eqb (r .number) 0 && eqb (r .field) 0
+
+unfoldable pub fair : Account → Bool
+fair a =
+    countedTest (a .stage) (a .records)
+    && warmedTest (a .set) (a .records)
+    && (headedTest (a .heading) (a .days) (a .records) || unheadedTest (a .heading) (a .days))
+    && boundedTest (a .sums) (a .records)
+    && (not (eqb (a .stage) 3) || numberedTest (a .refusal) (a .records))
+    && (eqb (a .stage) 3 || unrefusedTest (a .refusal))

@@ -1,0 +1,92 @@
+// The test of an account's ranges, clause by clause.
+use crate::Account;
+use crate::Days;
+use crate::Figures;
+use crate::Heading;
+use crate::Refusal;
+ghost use mathlib.Core.Path.{_≡_};
+ghost use Rattle.account.specs.Range.{countedTest, warmedTest, headedTest, unheadedTest, boundedTest, numberedTest, unrefusedTest, fair};
+
+fn counted(stage: u8, records: u16) -> bool
+    ensures { λ r. ⌜ r ≡ countedTest stage records ⌝ }
+{
+    (stage <= 3)
+        & (records <= 4096)
+        & (!(stage == 0) | (records == 0))
+        & (!(stage == 1) | (1 <= records))
+        & (!(stage == 2) | (2 <= records))
+}
+
+fn warmed(set: u8, records: u16) -> bool
+    ensures { λ r. ⌜ r ≡ warmedTest set records ⌝ }
+{
+    (set <= 2) & (!(set == 0) | (records == 0)) & (!(records == 0) | (set == 0))
+}
+
+fn headed(h: Heading, d: Days, records: u16) -> bool
+    ensures { λ r. ⌜ r ≡ headedTest h d records ⌝ }
+{
+    (1 <= h.group)
+        & (h.group <= 65535)
+        & (1 <= h.class)
+        & (h.class <= 4)
+        & (h.head <= 20000)
+        & (d.enteric <= 366)
+        & (d.nitrogen <= 366)
+        & (d.pig <= 366)
+        & (2 <= records)
+}
+
+fn unheaded(h: Heading, d: Days) -> bool
+    ensures { λ r. ⌜ r ≡ unheadedTest h d ⌝ }
+{
+    (h.group == 0)
+        & (h.class == 0)
+        & (h.head == 0)
+        & (d.enteric == 0)
+        & (d.nitrogen == 0)
+        & (d.pig == 0)
+}
+
+fn bounded(f: Figures, records: u16) -> bool
+    ensures { λ r. ⌜ r ≡ boundedTest f records ⌝ }
+{
+    let n = records as u64;
+    (f.ch4 <= n * 100000000000)
+        & (f.n2o.0 <= n * 10000000000)
+        & (f.co2 <= n * 10000000000000)
+        & (f.excreted <= n * 100000000000)
+        & (f.land <= n * 100000000000)
+}
+
+fn numbered(r: Refusal, records: u16) -> bool
+    ensures { λ b. ⌜ b ≡ numberedTest r records ⌝ }
+{
+    (1 <= r.code)
+        & (r.code <= 12)
+        & (r.number == records)
+        & (r.field <= 12)
+        & (!(r.code == 7) | (1 <= r.field))
+        & ((r.code == 7) | (r.field == 0))
+}
+
+fn unrefused(r: Refusal) -> bool
+    ensures { λ b. ⌜ b ≡ unrefusedTest r ⌝ }
+{
+    (r.code == 0) & (r.number == 0) & (r.field == 0)
+}
+
+pub fn test(a: Account) -> bool
+    ensures { λ r. ⌜ r ≡ fair a ⌝ }
+{
+    let h = a.heading;
+    let d = a.days;
+    let f = a.sums;
+    let r = a.refusal;
+    counted(a.stage, a.records)
+        & warmed(a.set, a.records)
+        & (headed(h, d, a.records) | unheaded(h, d))
+        & bounded(f, a.records)
+        & (!(a.stage == 3) | numbered(r, a.records))
+        & ((a.stage == 3) | unrefused(r))
+}

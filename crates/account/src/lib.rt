@@ -1,0 +1,152 @@
+// The account that a book's records have made so far, and what one whole record does to it.
+mod fair;
+pub mod line;
+pub mod weigh;
+mod whole;
+
+use grams::units::N2o;
+use line::Line;
+ghost use mathlib.Core.Path.{_≡_};
+ghost use Prim.Native.Nat.{_+_, _<_, _≤_};
+ghost use lib.ListN.{length};
+ghost use Rattle.account.specs.Range.{Fair, fair};
+ghost use Rattle.account.specs.Judge.{Whole, noRecord, refused, judge};
+ghost use Rattle.account.specs.Told.{Tells, refusing};
+
+// A group heading: its number, its class (1 milking, 2 dry, 3 heifer, 4 pig) and its head count; all zero where there is none.
+pub struct Heading {
+    pub group: u16,
+    pub class: u8,
+    pub head: u16,
+}
+
+// The days under the heading, for each of kinds 3, 4 and 5.
+pub struct Days {
+    pub enteric: u16,
+    pub nitrogen: u16,
+    pub pig: u16,
+}
+
+// Grams: a line's figures, and the sums over all lines.
+pub struct Figures {
+    pub ch4: u64,
+    pub n2o: N2o,
+    pub co2: u64,
+    pub excreted: u64,
+    pub land: u64,
+}
+
+// Why a book was refused: the number of the rule, the records accepted before, and the field for rule 7.
+pub struct Refusal {
+    pub code: u8,
+    pub number: u16,
+    pub field: u8,
+}
+
+// A state but for its held bytes.
+pub struct Account {
+    pub stage: u8,
+    pub records: u16,
+    pub set: u8,
+    pub heading: Heading,
+    pub days: Days,
+    pub sums: Figures,
+    pub refusal: Refusal,
+}
+
+// What a whole record does: the account after it, and its line.
+pub struct Judged {
+    pub account: Account,
+    pub line: Line,
+}
+
+impl Account {
+    // Before any record.
+    pub fn new() -> Account
+        ensures { λ r. ⌜ r ≡ noRecord ⌝ }
+    {
+        Account {
+            stage: 0,
+            records: 0,
+            set: 0,
+            heading: Heading {
+                group: 0,
+                class: 0,
+                head: 0,
+            },
+            days: Days {
+                enteric: 0,
+                nitrogen: 0,
+                pig: 0,
+            },
+            sums: Figures {
+                ch4: 0,
+                n2o: N2o(0),
+                co2: 0,
+                excreted: 0,
+                land: 0,
+            },
+            refusal: Refusal {
+                code: 0,
+                number: 0,
+                field: 0,
+            },
+        }
+    }
+
+    // Refused by a rule, at a field.
+    pub fn refuse(mut self, code: u8, field: u8) -> Account
+        ensures { λ r. ⌜ r ≡ refused self code field ⌝ }
+    {
+        let refusal = Refusal {
+            code: code,
+            number: self.records,
+            field: field,
+        };
+        self.stage = 3;
+        self.refusal = refusal;
+        self
+    }
+
+    // Refused, with no line.
+    fn wrong(self, code: u8, field: u8) -> Judged
+        ensures { λ r. ⌜ r ≡ refusing self code field ⌝ }
+    {
+        let next = self.refuse(code, field);
+        let none = line::none();
+        Judged {
+            account: next,
+            line: none,
+        }
+    }
+
+    // Whether every field is in its range.
+    pub fn fair(self) -> bool
+        ensures { λ r. ⌜ r ≡ fair self ⌝ }
+    {
+        fair::test(self)
+    }
+
+    // What the whole record r does.
+    pub fn judge(self, r: &[u8]) -> Judged
+        requires { ⌜ Fair self × (self .stage < 2) × Whole (now r) ⌝ }
+        ensures { λ j. ⌜ Tells (judge self (now (r .entry))) j ⌝ }
+    {
+        let version = r[2];
+        if version != 1 {
+            return self.wrong(2, 0);
+        }
+        let kind = r[3];
+        match kind {
+            1 => whole::farm(self, r),
+            2 => whole::heading(self, r),
+            3 => whole::enteric(self, r),
+            4 => whole::cattle(self, r),
+            5 => whole::pig(self, r),
+            6 => whole::energy(self, r),
+            7 => whole::soil(self, r),
+            8 => whole::close(self, r),
+            _ => self.wrong(3, 0),
+        }
+    }
+}
