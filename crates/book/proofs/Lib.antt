@@ -1,0 +1,11 @@
+pub mod Choices
+pub mod MovedBytes
+pub mod FrontLaws
+pub mod RangeLaws
+pub mod RunLaws
+pub mod Longest
+pub mod Outcomes
+pub mod ReadingLaws
+pub mod CallLaws
+pub mod RecordLaws
+pub mod TurnLaws

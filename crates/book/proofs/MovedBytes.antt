@@ -1,0 +1,53 @@
+-- Laws of bytes that are moved: kept behind the state, filled in, gathered.
+use Prim.Native.Nat.{ℕ, suc, _+_, _-_, _≤_, _<_}
+use mathlib.Core.Path.{_≡_, refl, ap, sym, _∙_}
+use mathlib.Core.List.{List, _++_}
+use mathlib.Core.Logic.{⊎-elim}
+use native.Mathlib.Nat.{zero-add}
+use native.Mathlib.Numerals.{add-one}
+use native.Mathlib.Omega.{arith}
+use lib.ListN.{length, getD, take, set, replicate}
+use lib.Seq.{paste, paste-suc, length-paste, take-paste, take-suc, set-at, append-snoc, length-take-le, take-append-seam}
+use Rattle.book.specs.Inner.{Filled, Gathered}
+use Rattle.account.proofs.Tests.{lt-or-ge}
+
+-- one byte more is kept
+pub keep-on : (held s : List ℕ) (j : ℕ) → held ≡ take j s ++ replicate (27 - j) 0 → j < length s → j < 27
+    → set held j (getD s j 0) ≡ take (j + 1) s ++ replicate (27 - (j + 1)) 0
+keep-on held s j e h k =
+    let r : 27 - j ≡ suc (27 - (j + 1)) = omega arith in
+    rw (e, r, set-at (take j s) 0 (replicate (27 - (j + 1)) 0) (getD s j 0) j (length-take-le j s (omega arith)), add-one, take-suc s j 0, append-snoc)
+
+-- one byte more is filled in
+pub fill-on : (rec₀ rec : List ℕ) (n : ℕ) (src : List ℕ) (k : ℕ) → rec ≡ paste rec₀ n src k → n + k < length rec₀ → k < length src
+    → set rec (n + k) (getD src k 0) ≡ paste rec₀ n src (k + 1)
+fill-on rec₀ rec n src k e p q = rw (e, add-one) (paste-suc rec₀ n src k 0 p q)
+
+pub filled : {rec rec′ : List ℕ} {n goal : ℕ} {src : List ℕ} {k : ℕ} → length rec ≡ 28 → k ≤ length src → n + k ≤ 28 → rec′ ≡ paste rec n src k
+    → (n ≤ goal → n + k ≤ goal) → (n + k < goal → k ≡ length src) → Filled rec rec′ n goal src k
+filled {rec} {rec′} {n} {goal} {src} {k} l inside bound bytes upto end =
+    record { inside = inside; bound = bound; array = rw bytes (length-paste rec n src k (omega arith) inside ∙ l); bytes = bytes; upto = upto; end = end }
+
+-- what is filled in stands behind what was there
+take-filled : (rec rec′ : List ℕ) (n goal : ℕ) (src : List ℕ) (k : ℕ) → length rec ≡ 28 → Filled rec rec′ n goal src k → take (n + k) rec′ ≡ take n rec ++ take k src
+take-filled rec rec′ n goal src k l f = rw (f .bytes) (take-paste rec n src k (omega (arith, f .bound)) (f .inside))
+
+-- the held bytes filled in, and then the next ones
+pub gathered : (held : List ℕ) (count : ℕ) (src r0 r1 r2 : List ℕ) (h k : ℕ) → length held ≡ 27 → count ≤ 27 → 0 < length src → length r0 ≡ 28
+    → Filled r0 r1 0 count held h → Filled r1 r2 h 28 src k → Gathered (take count held) src r2 (h + k)
+gathered held count src r0 r1 r2 h k l27 short some l28 f1 f2 =
+    let e0 : h ≡ count =
+    ⊎-elim (λ (q : h < count). let z = f1 .end (omega arith) in absurd (omega arith)) (λ (q : count ≤ h). let z = f1 .upto (omega arith) in omega arith) (lt-or-ge h count) in
+    let lh : length (take count held) ≡ h = length-take-le count held (omega arith) ∙ sym e0 in
+    let t1 : take h r1 ≡ take count held = rw zero-add at (take-filled r0 r1 0 count held h l28 f1) ∙ ap (λ (n : ℕ). take n held) e0 in
+    let t2 : take (h + k) r2 ≡ take count held ++ take k src = take-filled r1 r2 h 28 src k (f1 .array) f2 ∙ ap (λ (l : List ℕ). l ++ take k src) t1 in
+    let more : 0 < k = ⊎-elim (λ (q : 0 < k). q) (λ (q : k ≤ 0). let z = f2 .end (omega arith) in absurd (omega arith)) (lt-or-ge 0 k) in
+    let d : h + k - length (take count held) ≡ k = omega arith in
+    record { least = omega arith; array = omega (arith, f2 .array, f2 .bound); inside = omega (arith, f2 .inside); bytes = rw d t2 }
+
+module _ (held xs rec src : List ℕ) (n count : ℕ) (g : Gathered held xs rec n) (e : src ≡ take n rec) (l : length held ≡ count) where
+  pub gathered-held : take count src ≡ held
+  gathered-held = rw (e, g .bytes, ← l) (take-append-seam held (take (n - length held) xs))
+
+  pub gathered-more : count < length src
+  gathered-more = omega (arith, ap length e, length-take-le n rec (g .array), g .least, l)

@@ -1,0 +1,99 @@
+-- The range of a state: its parts and the test that decides it; what a state in range holds; which states are in range.
+use Prim.Native.Nat.{ℕ, zero, suc, _-_, _≤_, _<_}
+use mathlib.Core.Path.{_≡_, refl, ap, ap₂, sym, _∙_}
+use mathlib.Core.List.{List, [], _∷_, _++_}
+use mathlib.Core.Bool.{Bool, true, _||_}
+use native.Mathlib.Omega.{arith}
+use borrow.Author.Tests.{ltb-false, le-ltb, le-leb, leb-true, eqb-true, eq-eqb}
+use lib.ListN.{length, take, drop, replicate, length-append, length-drop, length-replicate, take-append-drop}
+use lib.Seq.{length-take-le, take-append-seam, drop-append-seam}
+use lib.Dec.{ltb, leb, eqb}
+use Rattle.account.specs.declared.Account.{Account}
+use Rattle.account.specs.Range.{Fair, fair}
+use Rattle.account.proofs.Clauses.{fair-parts, fair-test}
+use Rattle.account.proofs.Keeps.{fair-none}
+use Rattle.book.specs.declared.State.{State}
+use Rattle.book.specs.Front.{Front, unfinished, badLength, whole, front}
+use Rattle.book.specs.State.{heldOf, holding, noRecordYet, zeros, isUnfinished, InRange, inRange}
+use Rattle.account.proofs.Tests.{no-bool, or-right, or-left}
+use Rattle.book.proofs.Choices.{both}
+use Rattle.book.proofs.FrontLaws.{unfinished-short, front-none}
+
+-- ---- the parts and the test
+
+begins : (f : Front) → isUnfinished f ≡ true → f ≡ unfinished
+begins unfinished e = refl
+begins badLength e = no-bool e
+begins whole e = no-bool e
+
+pub range-parts : (s : State) → inRange s ≡ true → InRange s
+unfolding inRange
+range-parts s e =
+    let t1 = both _ (ltb (s .account .stage) 2 || eqb (s .count) 0) e in
+    let t2 = both _ (isUnfinished (front (heldOf s))) (t1 .0) in
+    let t3 = both _ (zeros (drop (s .count) (s .held))) (t2 .0) in
+    let t4 = both _ (fair (s .account)) (t3 .0) in
+    let t5 = both (eqb (length (s .held)) 27) (leb (s .count) 27) (t4 .0) in
+    record {
+      account = fair-parts (s .account) (t4 .1);
+      places = eqb-true _ _ (t5 .0);
+      count = leb-true _ _ (t5 .1);
+      unused = t3 .1;
+      begun = begins (front (heldOf s)) (t2 .1);
+      none = λ h. eqb-true _ _ (or-right (ltb (s .account .stage) 2) (eqb (s .count) 0) (t1 .1) (le-ltb _ _ h));
+    }
+
+pub range-test : (s : State) → InRange s → inRange s ≡ true
+unfolding inRange
+range-test s v =
+    rw (eq-eqb _ _ (v .places), le-leb _ _ (v .count), fair-test (s .account) (v .account), v .unused, v .begun)
+    (or-left (ltb (s .account .stage) 2) (eqb (s .count) 0) (λ e. eq-eqb _ _ (v .none (ltb-false _ _ e))))
+
+-- ---- what is held
+
+pub held-holding : (a : Account) (h : List ℕ) → heldOf (holding a h) ≡ h
+held-holding a h = take-append-seam h (replicate (27 - length h) 0)
+
+pub held-length : (s : State) → InRange s → length (heldOf s) ≡ s .count
+held-length s v = length-take-le (s .count) (s .held) (omega (arith, v .count, v .places))
+
+zeros-are : (l : List ℕ) → zeros l ≡ true → l ≡ replicate (length l) 0
+zeros-are [] e = refl
+zeros-are (x ∷ l) e = let b = both (eqb x 0) (zeros l) e in ap₂ _∷_ (eqb-true x 0 (b .0)) (zeros-are l (b .1))
+
+-- a state in range is its account and what it holds
+pub holding-held : (s : State) → InRange s → holding (s .account) (heldOf s) ≡ s
+holding-held s v =
+    let n = s .count in
+    let d : replicate (27 - n) 0 ≡ drop n (s .held) = sym (zeros-are (drop n (s .held)) (v .unused) ∙ rw (length-drop n (s .held), v .places)) in
+    rw (held-length s v, d, take-append-drop)
+
+pub ended-held : (s : State) → InRange s → 2 ≤ s .account .stage → heldOf s ≡ []
+ended-held s v h = rw (v .none h)
+
+pub ended-is : (s : State) → InRange s → 2 ≤ s .account .stage → holding (s .account) [] ≡ s
+ended-is s v h = rw (ended-held s v h) at (holding-held s v)
+
+-- ---- states in range
+
+zeros-of : (n : ℕ) → zeros (replicate n 0) ≡ true
+zeros-of zero = refl
+zeros-of (suc n) = zeros-of n
+
+pub range-holding : (a : Account) (xs : List ℕ) → Fair a → a .stage < 2 → front xs ≡ unfinished → InRange (holding a xs)
+range-holding a xs v k e =
+    let short = unfinished-short xs e in
+    record {
+      account = v;
+      places = rw (length-append, length-replicate) (omega arith);
+      count = short;
+      unused = rw drop-append-seam (zeros-of (27 - length xs));
+      begun = rw held-holding e;
+      none = λ h. absurd (omega arith);
+    }
+
+pub range-idle : (a : Account) → Fair a → InRange (holding a [])
+range-idle a v = record { account = v; places = refl; count = omega arith; unused = refl; begun = front-none; none = λ h. refl }
+
+pub range-new : InRange noRecordYet
+range-new = range-idle _ fair-none

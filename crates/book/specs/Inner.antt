@@ -1,0 +1,89 @@
+-- The contracts of the inner functions, in parts. A reader of the promises can pass this file over: no public contract cites it.
+use Prim.Native.Nat.{ℕ, _+_, _-_, _≤_, _<_}
+use mathlib.Core.Path.{_≡_}
+use mathlib.Core.List.{List, [], _++_}
+use mathlib.Core.Bool.{true, false}
+use lib.ListN.{length, take, drop}
+use lib.Seq.{paste}
+use Rattle.account.specs.declared.Account.{Account}
+use Rattle.account.specs.Judge.{judge}
+use Rattle.account.specs.Line.{joined}
+use Rattle.book.specs.declared.State.{State}
+use Rattle.book.specs.declared.Fed.{Fed}
+use Rattle.book.specs.declared.turns.Turn.{Turn}
+use Rattle.book.specs.Front.{Front, unfinished, badLength, whole, need, front}
+use Rattle.book.specs.State.{heldOf, InRange, holding}
+use Rattle.book.specs.Run.{Run, Outcome, outcome, run}
+use Rattle.book.specs.Call.{answerOf}
+
+-- the number of a front
+abbrev pub codeOf : Front → ℕ
+codeOf unfinished = 0
+codeOf badLength = 1
+codeOf whole = 2
+
+-- the first n bytes of xs are a record; with n zero there is none
+pub record Ready (xs : List ℕ) (n : ℕ) : Type 0 where
+  pub some : 0 < n → (front xs ≡ whole) × (n ≡ need xs)
+  pub none : n ≡ 0 → front xs ≡ whole → ⊥
+
+-- k bytes of src stand in rec′ behind the first n of rec, up to goal bytes or the end of src
+pub record Filled (rec rec′ : List ℕ) (n goal : ℕ) (src : List ℕ) (k : ℕ) : Type 0 where
+  pub inside : k ≤ length src
+  pub bound : n + k ≤ 28
+  pub array : length rec′ ≡ 28
+  pub bytes : rec′ ≡ paste rec n src k
+  pub upto : n ≤ goal → n + k ≤ goal
+  pub end : n + k < goal → k ≡ length src
+
+-- the first n bytes of rec are those held and the next of xs, one at least
+pub record Gathered (held xs rec : List ℕ) (n : ℕ) : Type 0 where
+  pub least : length held < n
+  pub array : n ≤ length rec
+  pub inside : n - length held ≤ length xs
+  pub bytes : take n rec ≡ held ++ take (n - length held) xs
+
+-- i bytes of the input are read and w bytes of lines written, from the state s₀ to s: what rule 2 gives for those i bytes
+pub record Reading (input out₀ : List ℕ) (s₀ : State) (out : List ℕ) (s : State) (i w : ℕ) : Type 0 where
+  pub within : i ≤ length input
+  pub fits : w ≤ length out
+  pub long : length out ≡ length out₀
+  pub first : InRange s₀
+  pub range : InRange s
+  pub rest : drop w out ≡ drop w out₀
+  pub so-far : outcome (run s₀ (take i input)) ≡ record { state = s; bytes = take w out; left = [] }
+
+-- the whole records of src up to at are read; none, where the first one's lines do not fit
+pub record Ran (a₀ : Account) (src out₀ out : List ℕ) (a : Account) (at w : ℕ) : Type 0 where
+  pub reading : Reading src out₀ (holding a₀ []) out (holding a []) at w
+  pub least : 0 < at → need src ≤ at
+  pub none : at ≡ 0 → length out₀ < length (joined (judge a₀ (take (need src) src) .lines))
+
+-- an open state has bytes of the input left from i on
+pub record Offered (s : State) (input : List ℕ) (i : ℕ) : Type 0 where
+  pub range : InRange s
+  pub early : s .account .stage < 2
+  pub more : i < length input
+
+-- src begins with the bytes that an open state holds, and has more
+pub record Begins (s : State) (src : List ℕ) : Type 0 where
+  pub range : InRange s
+  pub early : s .account .stage < 2
+  pub held : take (s .count) src ≡ heldOf s
+  pub more : s .count < length src
+
+-- t is one turn over at most so many bytes, of which the first n give what gives says, with its lines at the front of the buffer;
+-- where it is full, the lines of one byte more do not fit
+pub record Turned (gives : ℕ → Run) (most : ℕ) (out out′ : List ℕ) (t : Turn) : Type 0 where
+  pub range : InRange (t .state)
+  pub inside : t .written ≤ length out
+  pub long : length out′ ≡ length out
+  pub rest : drop (t .written) out′ ≡ drop (t .written) out
+  pub within : t .taken ≤ most
+  pub is : outcome (gives (t .taken)) ≡ record { state = t .state; bytes = take (t .written) out′; left = [] }
+  pub some : t .full ≡ false → 0 < t .taken
+  pub full : t .full ≡ true → (t .taken < most) × (t .written ≡ 0) × (length out < length (joined (gives (t .taken + 1) .lines)))
+
+-- the answer to n bytes, with so many taken and written
+abbrev pub fed : State → ℕ → ℕ → ℕ → Fed
+fed s taken written n = record { state = s; taken = taken; written = written; answer = answerOf (s .account) taken n }

@@ -1,0 +1,6 @@
+pub mod Front
+pub mod State
+pub mod Run
+pub mod Call
+pub mod Way
+pub mod Inner

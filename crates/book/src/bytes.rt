@@ -1,0 +1,67 @@
+// Bytes moved and looked at, with no regard to what they mean.
+ghost use mathlib.Core.Path.{_≡_};
+ghost use mathlib.Core.List.{_++_};
+ghost use Prim.Native.Nat.{_-_, _≤_};
+ghost use lib.ListN.{length, take, drop, replicate};
+ghost use Rattle.book.specs.State.{zeros};
+ghost use Rattle.book.specs.Inner.{Filled};
+
+// The first n bytes of s.
+pub(crate) fn first_of(s: &[u8], n: usize) -> &[u8]
+    requires { ⌜ n ≤ length (now s) ⌝ }
+    ensures { λ r. ⌜ now r ≡ take n (now (s .entry)) ⌝ }
+{
+    &s[..n]
+}
+
+// The bytes of s from i on.
+pub(crate) fn rest_of(s: &[u8], i: usize) -> &[u8]
+    requires { ⌜ i ≤ length (now s) ⌝ }
+    ensures { λ r. ⌜ now r ≡ drop i (now (s .entry)) ⌝ }
+{
+    &s[i..]
+}
+
+// From n on all are zero.
+pub(crate) fn zeroed(a: [u8; 27], n: usize) -> bool
+    ensures { λ r. ⌜ r ≡ zeros (drop n a) ⌝ }
+{
+    let mut i = n;
+    while i < 27 {
+        if a[i] != 0 {
+            return false;
+        }
+        i += 1;
+    }
+    true
+}
+
+// Bytes of src from its start go into rec behind n bytes, up to goal bytes or the end of src; how many they are.
+pub(crate) fn fill(rec: &mut [u8; 28], n: usize, goal: usize, src: &[u8]) -> usize
+    requires { ⌜ (n ≤ 28) × (goal ≤ 28) × (length (now rec) ≡ 28) ⌝ }
+    ensures { λ k. ⌜ Filled (now (rec .entry)) (now (rec .exit)) n goal (now (src .entry)) k ⌝ }
+{
+    let mut k = 0;
+    while n + k < goal {
+        if src.len() <= k {
+            return k;
+        }
+        rec[n + k] = src[k];
+        k += 1;
+    }
+    k
+}
+
+// The first n bytes of s, and zeros behind them.
+pub(crate) fn kept(s: &[u8], n: usize) -> [u8; 27]
+    requires { ⌜ (n ≤ 27) × (n ≤ length (now s)) ⌝ }
+    ensures { λ r. ⌜ r ≡ take n (now (s .entry)) ++ replicate (27 - n) 0 ⌝ }
+{
+    let mut held = [0u8; 27];
+    let mut j = 0;
+    while j < n {
+        held[j] = s[j];
+        j += 1;
+    }
+    held
+}

@@ -1,0 +1,145 @@
+// A farm's yearly book, read in calls: the state that goes from one call to the next, and what one call does.
+mod bytes;
+mod front;
+mod records;
+mod turns;
+
+use crate::bytes::zeroed;
+use crate::front::front_of;
+use account::Account;
+use account::Refusal;
+ghost use mathlib.Core.Path.{_≡_};
+ghost use Prim.Native.Nat.{_≤_};
+ghost use lib.ListN.{length};
+ghost use Rattle.book.specs.State.{inRange, noRecordYet};
+ghost use Rattle.book.specs.Call.{answerOf, call, fedOf, laid, outside};
+ghost use Rattle.book.specs.Inner.{fed};
+
+// What the records before have made, and the first bytes of the record that is not whole yet: count of them, zeros behind.
+pub struct State {
+    pub account: Account,
+    pub held: [u8; 27],
+    pub count: usize,
+}
+
+// A call's answer. A refusal goes with its number, the records accepted before it, and the field.
+pub enum Answer {
+    More,
+    Full,
+    Closed,
+    Refused(Refusal),
+}
+
+// What a call hands back: the new state, the bytes taken and written, and the answer.
+pub struct Fed {
+    pub state: State,
+    pub taken: usize,
+    pub written: usize,
+    pub answer: Answer,
+}
+
+// By the account reached; while the book is open, by whether all n bytes are taken.
+fn answered(account: Account, taken: usize, n: usize) -> Answer
+    ensures { λ r. ⌜ r ≡ answerOf account taken n ⌝ }
+{
+    if account.stage < 2 {
+        if taken == n {
+            Answer::More
+        } else {
+            Answer::Full
+        }
+    } else if account.stage == 2 {
+        Answer::Closed
+    } else {
+        let refusal = account.refusal;
+        Answer::Refused(refusal)
+    }
+}
+
+impl State {
+    // No record yet, and nothing held.
+    pub fn new() -> State
+        ensures { λ r. ⌜ r ≡ noRecordYet ⌝ }
+    {
+        let account = Account::new();
+        State {
+            account: account,
+            held: [0; 27],
+            count: 0,
+        }
+    }
+
+    // Whether the state is inside the ranges.
+    pub fn in_range(self) -> bool
+        ensures { λ r. ⌜ r ≡ inRange self ⌝ }
+    {
+        let a = self.account;
+        let held = self.held;
+        let n = self.count;
+        if 27 < n {
+            return false;
+        }
+        let fair = a.fair();
+        let unused = zeroed(held, n);
+        let front = front_of(&held, n);
+        fair & unused & (front == 0) & ((a.stage < 2) | (n == 0))
+    }
+
+    // Refusal 13: nothing taken, nothing written, and the state as it came.
+    fn outside(self) -> Fed
+        ensures { λ r. ⌜ r ≡ fedOf (outside self) ⌝ }
+    {
+        let refusal = Refusal {
+            code: 13,
+            number: 0,
+            field: 0,
+        };
+        Fed {
+            state: self,
+            taken: 0,
+            written: 0,
+            answer: Answer::Refused(refusal),
+        }
+    }
+
+    // The answer to n bytes, with so many taken and written.
+    fn fed(self, taken: usize, written: usize, n: usize) -> Fed
+        ensures { λ r. ⌜ r ≡ fed self taken written n ⌝ }
+    {
+        let a = self.account;
+        let answer = answered(a, taken, n);
+        Fed {
+            state: self,
+            taken: taken,
+            written: written,
+            answer: answer,
+        }
+    }
+
+    // One call: it takes the longest beginning of the input whose lines fit out.
+    pub fn feed(mut self, input: &[u8], out: &mut [u8]) -> Fed
+        ensures result { λ r. ⌜ r ≡ fedOf (call self (now (input .entry)) (length (now (out .entry)))) ⌝ }
+        ensures lines { λ r. ⌜ now (out .exit) ≡ laid (call self (now (input .entry)) (length (now (out .entry)))) (now (out .entry)) ⌝ }
+        ensures counts { λ r. ⌜ (r .taken ≤ length (now (input .entry))) × (r .written ≤ length (now (out .entry))) ⌝ }
+    {
+        if !self.in_range() {
+            return self.outside();
+        }
+        let mut i = 0;
+        let mut w = 0;
+        while i < input.len() {
+            let a = self.account;
+            if 2 <= a.stage {
+                return self.fed(i, w, input.len());
+            }
+            let t = self.next(input, i, &mut out[w..]);
+            self = t.state;
+            w += t.written;
+            i += t.taken;
+            if t.full {
+                return self.fed(i, w, input.len());
+            }
+        }
+        self.fed(i, w, input.len())
+    }
+}

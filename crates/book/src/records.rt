@@ -1,0 +1,49 @@
+// The whole records of some bytes, judged where they lie.
+use crate::bytes::first_of;
+use crate::bytes::rest_of;
+use crate::front::ready;
+use account::Account;
+use account::line::write;
+ghost use mathlib.Core.Path.{_≡_};
+ghost use Prim.Native.Nat.{_<_};
+ghost use Rattle.account.specs.Range.{Fair};
+ghost use Rattle.book.specs.Front.{front, whole};
+ghost use Rattle.book.specs.Inner.{Ran};
+
+// What a run of whole records does: the account after them, the bytes read, and the bytes of lines written.
+pub(crate) struct Records {
+    pub account: Account,
+    pub at: usize,
+    pub w: usize,
+}
+
+// The records that lie whole at the front of src, one after the other, while the book is open and their lines fit.
+pub(crate) fn judge_all(from: Account, src: &[u8], out: &mut [u8]) -> Records
+    requires { ⌜ Fair from × (from .stage < 2) × (front (now src) ≡ whole) ⌝ }
+    ensures { λ r. ⌜ Ran from (now (src .entry)) (now (out .entry)) (now (out .exit)) (r .account) (r .at) (r .w) ⌝ }
+{
+    let mut account = from;
+    let mut at = 0;
+    let mut w = 0;
+    while at < src.len() {
+        if 2 <= account.stage {
+            return Records { account, at, w };
+        }
+        let rest = rest_of(src, at);
+        let n = ready(rest);
+        if n == 0 {
+            return Records { account, at, w };
+        }
+        let record = first_of(rest, n);
+        let j = account.judge(record);
+        let line = j.line;
+        if out.len() - w < line.len {
+            return Records { account, at, w };
+        }
+        write(out, w, line);
+        account = j.account;
+        w += line.len;
+        at += n;
+    }
+    Records { account, at, w }
+}

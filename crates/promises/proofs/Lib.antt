@@ -1,0 +1,5 @@
+mod Calls
+pub mod RuleThree
+pub mod SureStep
+pub mod StaysInRange
+pub mod OneAnswer

@@ -1,0 +1,42 @@
+-- One answer: each public function answers every input, and two answers that meet its contract are equal. The contracts are those of the
+-- source itself: Learnt is what a caller learns from a function's `ensures`, Asked what its `requires` ask.
+use mathlib.Core.Path.{_≡_, sym, _∙_}
+use mathlib.Core.Bool.{Bool}
+use contract.Lifetimes.{Lfts}
+use borrow.Fn.Kinds.{Dens, endedOf}
+use denote.Ref.{now}
+use denote.Triple.Clauses.{AtExit}
+use Rattle.book.specs.declared.State.{State}
+use Rattle.book.specs.declared.Fed.{Fed}
+use Rattle.book.proofs.State.new.Kinds as new
+use Rattle.book.proofs.State.new.Reads as new-contract
+use Rattle.book.proofs.State.in_range.Kinds as in-range
+use Rattle.book.proofs.State.in_range.Reads as in-range-contract
+use Rattle.book.proofs.State.feed.Kinds as feed
+use Rattle.book.proofs.State.feed.Reads as feed-contract
+
+-- None of them asks anything of its caller.
+pub new-asks-nothing : (κs : Lfts 0) (args : Dens κs new.ps) → new-contract.Asked κs args
+new-asks-nothing κs args = tt
+
+pub in-range-asks-nothing : (κs : Lfts 0) (args : Dens κs in-range.ps) → in-range-contract.Asked κs args
+in-range-asks-nothing κs args = tt
+
+pub feed-asks-nothing : (κs : Lfts 2) (args : Dens κs feed.ps) → feed-contract.Asked κs args
+feed-asks-nothing κs args = tt
+
+-- Two states that meet new's contract are equal.
+pub one-new : (κs : Lfts 0) (args : Dens κs new.ps) (s t : State) (e e′ : AtExit (endedOf 0 new.ps new.r) κs)
+    → new-contract.Learnt κs args s e → new-contract.Learnt κs args t e′ → s ≡ t
+one-new κs args s t e e′ p q = p ∙ sym q
+
+-- Two answers that meet in_range's contract are equal.
+pub one-in-range : (κs : Lfts 0) (args : Dens κs in-range.ps) (b c : Bool) (e e′ : AtExit (endedOf 0 in-range.ps in-range.r) κs)
+    → in-range-contract.Learnt κs args b e → in-range-contract.Learnt κs args c e′ → b ≡ c
+one-in-range κs args b c e e′ p q = p ∙ sym q
+
+-- Two answers that meet feed's contract are equal: the state, the counts of bytes taken and written and the answer (all of Fed), and the line
+-- buffer at the end (the third parameter, out).
+pub one-feed : (κs : Lfts 2) (args : Dens κs feed.ps) (f g : Fed) (e e′ : AtExit (endedOf 2 feed.ps feed.r) κs)
+    → feed-contract.Learnt κs args f e → feed-contract.Learnt κs args g e′ → (f ≡ g) × (now (e .1 .1 .0) ≡ now (e′ .1 .1 .0))
+one-feed κs args f g e e′ p q = (p .0 ∙ sym (q .0), p .1 .0 ∙ sym (q .1 .0))

@@ -1,0 +1,72 @@
+-- The sure step. Document 01: "In stages 0 and 1, at least one input byte and 54 bytes of room always take at least one byte."
+use Prim.Native.Nat.{ℕ, suc, _-_, _≤_, _<_}
+use mathlib.Core.Path.{_≡_, refl, ap}
+use mathlib.Core.List.{List, [], _∷_, _++_, append-nil}
+use native.Mathlib.Omega.{arith}
+use borrow.Author.Tests.{le-leb}
+use lib.ListN.{length, take, drop, length-append, length-drop, drop-of-length-le}
+use lib.Seq.{length-take-le}
+use Rattle.account.specs.Judge.{judge}
+use Rattle.account.specs.Line.{joined}
+use Rattle.account.proofs.Keeps.{fair-judge, judge-short}
+use Rattle.book.specs.declared.State.{State}
+use Rattle.book.specs.Front.{Front, unfinished, badLength, whole, need, front}
+use Rattle.book.specs.State.{heldOf, InRange}
+use Rattle.book.specs.Run.{outcome, book, run}
+use Rattle.book.specs.Call.{longest, fits, call}
+use Rattle.book.proofs.FrontLaws.{meaning, held-bad, held-whole}
+use Rattle.book.proofs.RunLaws.{book-unfinished, book-bad, book-whole, book-none, book-leaves, over-held}
+use Rattle.book.proofs.Longest.{longest-most, longest-least}
+use Rattle.book.proofs.CallLaws.{call-at}
+
+-- ---- an open state takes one byte of some at least
+
+module _ (s : State) (xs : List ℕ) (v : InRange s) (early : s .account .stage < 2) (more : 0 < length xs) where
+  takes-at : (f : Front) → front (heldOf s ++ xs) ≡ f → length (run s xs .left) < length xs
+  unfolding run
+  takes-at unfinished e = rw (book-unfinished (s .account) (heldOf s ++ xs) early e) more
+  takes-at badLength e =
+      let h = held-bad (heldOf s) xs (v .begun) e in
+      rw (book-bad (s .account) (heldOf s ++ xs) early e, over-held (heldOf s) xs 2 (omega arith), length-drop) (omega arith)
+  takes-at whole e =
+      let zs = heldOf s ++ xs in
+      let h = held-whole (heldOf s) xs (v .begun) in
+      let j = judge (s .account) (take (need zs) zs) in
+      let b = book (j .account) (drop (need zs) zs) in
+      let i = book-leaves (j .account) (drop (need zs) zs) (fair-judge (s .account) (take (need zs) zs) (v .account) early) .tail in
+      let d : length (drop (need zs) zs) ≡ length xs - (need zs - length (heldOf s)) =
+      rw (over-held (heldOf s) xs (need zs) (omega arith), length-drop (need zs - length (heldOf s)) xs) in
+      let l : length (b .left) ≡ length (drop (need zs) zs) - i .at = rw (i .is, length-drop (i .at) (drop (need zs) zs)) in
+      rw (book-whole (s .account) zs early e) (omega arith)
+
+  takes-one : length (run s xs .left) < length xs
+  takes-one = takes-at (front (heldOf s ++ xs)) refl
+
+-- ---- one byte gives at most 54 bytes of lines
+
+module _ (s : State) (b : ℕ) (v : InRange s) (early : s .account .stage < 2) where
+  short-at : (f : Front) → front (heldOf s ++ (b ∷ [])) ≡ f → length (joined (run s (b ∷ []) .lines)) ≤ 54
+  unfolding run
+  short-at unfinished e = rw (book-unfinished (s .account) (heldOf s ++ (b ∷ [])) early e) (omega arith)
+  short-at badLength e = rw (book-bad (s .account) (heldOf s ++ (b ∷ [])) early e) (omega arith)
+  short-at whole e =
+      let zs = heldOf s ++ (b ∷ []) in
+      let h = held-whole (heldOf s) (b ∷ []) (v .begun) in
+      let j = judge (s .account) (take (need zs) zs) in
+      let d : drop (need zs) zs ≡ [] = drop-of-length-le zs {i = need zs} (omega (arith, length-append (heldOf s) (b ∷ []))) in
+      rw (book-whole (s .account) zs early e, d, book-none (j .account) (fair-judge (s .account) (take (need zs) zs) (v .account) early), append-nil)
+      (judge-short (s .account) (take (need zs) zs))
+
+  one-short : length (joined (run s (b ∷ []) .lines)) ≤ 54
+  one-short = short-at (front (heldOf s ++ (b ∷ []))) refl
+
+-- The sure step: in stages 0 and 1 a call that is offered one byte at least, with 54 bytes of room, takes one at least.
+pub sure-step : (s : State) (b : ℕ) (xs : List ℕ) (room : ℕ) → InRange s → s .account .stage < 2 → 54 ≤ room → 0 < call s (b ∷ xs) room .taken
+sure-step s b xs room v early big =
+    let n = longest (fits s (b ∷ xs) room) (suc (length xs)) in
+    let one : length (joined (run s (b ∷ []) .lines)) ≤ room = omega (arith, one-short s b v early) in
+    let p : 1 ≤ n = longest-least (fits s (b ∷ xs) room) (suc (length xs)) 1 (omega arith) (le-leb _ _ one) in
+    let q : n ≤ suc (length xs) = longest-most (fits s (b ∷ xs) room) (suc (length xs)) in
+    let l : length (take n (b ∷ xs)) ≡ n = length-take-le n (b ∷ xs) (omega arith) in
+    let k = takes-one s (take n (b ∷ xs)) v early (omega arith) in
+    rw (call-at s (b ∷ xs) room n (outcome (run s (take n (b ∷ xs)))) v refl refl) (omega arith)
