@@ -86,7 +86,11 @@ fn share(dice: &mut Dice, v: &mut [u64]) {
 /// Takes away milk, then gain, until X is not below zero; near zero now and then.
 fn keep_x_up(dice: &mut Dice, v: &mut [u64]) {
     if dice.one_in(6) {
-        v[1..6].copy_from_slice(dice.of(&[&[157, 1, 160, 1, 0], &[105, 1, 107, 1, 0], &[675, 1, 0, 0, 4]]));
+        v[1..6].copy_from_slice(dice.of(&[
+            &[157, 1, 160, 1, 0],
+            &[105, 1, 107, 1, 0],
+            &[675, 1, 0, 0, 4],
+        ]));
     }
     while x(v) < 0 {
         v[3] /= 2;
@@ -178,7 +182,8 @@ fn length_of_another(dice: &mut Dice, state: &State) -> Vec<u8> {
     let right = length_of(record[3]);
     let neighbour = if dice.one_in(2) { right + 1 } else { right - 1 };
     let drawn = dice.between(4, 26) as u16;
-    let length = *[neighbour, drawn, 4, 26].iter().find(|&&n| n != right && (4..=26).contains(&n)).unwrap();
+    let length =
+        *[neighbour, drawn, 4, 26].iter().find(|&&n| n != right && (4..=26).contains(&n)).unwrap();
     record.resize(2 + usize::from(length), dice.below(256) as u8);
     record[..2].copy_from_slice(&length.to_be_bytes());
     record

@@ -1,12 +1,14 @@
 //! Trial cases: one by chance for each seed and index, and the stored set, which is the same for ever.
 
-use crate::books::{after, closed_run, damaged_run, right_close, right_run, values_outside, wrong_record};
+use crate::books::{
+    after, closed_run, damaged_run, right_close, right_run, values_outside, wrong_record,
+};
 use crate::calls::{some_calls, MOST_ROOM};
 use crate::dice::Dice;
 use crate::record::{fields_of, record_of};
 use crate::slips;
-use crate::state::{State, CLOSED, MOST_RECORDS, NO_RECORD, OPEN, REFUSED};
-use crate::states::{beside_bounds, right_state};
+use crate::state::{Heading, Refusal, State, CLOSED, MOST_RECORDS, NO_RECORD, OPEN, REFUSED};
+use crate::states::{bare_states, beside_bounds, heading_beside, right_state};
 use crate::trial::{bytes_of, Call, Case};
 
 /// Document 01's sample book.
@@ -108,7 +110,7 @@ fn out_of_range(dice: &mut Dice) -> Case {
         let held = dice.below(bytes.len() as u64) as usize;
         base = after(&base, &bytes[..held]);
     }
-    let states = beside_bounds(&base);
+    let states = if dice.one_in(10) { bare_states() } else { beside_bounds(&base) };
     let state = states[dice.below(states.len() as u64) as usize];
     let count = dice.below(40) as usize;
     let input: Vec<u8> = sample()[..count].to_vec();
@@ -127,7 +129,8 @@ fn ended(dice: &mut Dice) -> Case {
 fn any_bytes(dice: &mut Dice) -> Case {
     let stage = dice.of(&[NO_RECORD, OPEN]);
     let state = right_state(dice, stage);
-    let mut input: Vec<u8> = (0..dice.below(80)).map(|_| dice.of(&[0, 0, 1, 4, 9, 10, 200])).collect();
+    let mut input: Vec<u8> =
+        (0..dice.below(80)).map(|_| dice.of(&[0, 0, 1, 4, 9, 10, 200])).collect();
     if input.len() > 1 && dice.one_in(2) {
         input[..2].copy_from_slice(&[0, dice.between(4, 26) as u8]);
     }
@@ -195,7 +198,7 @@ fn sample_cases() -> Vec<Case> {
 
 /// Twelve heads of cattle or pigs, and nothing eaten yet.
 fn under(class: u8) -> State {
-    let heading = crate::state::Heading { group: 5, class, head: 12, days: [0; 3] };
+    let heading = Heading { group: 5, class, head: 12, days: [0; 3] };
     State { stage: OPEN, records: 2, set: 1, heading, ..State::default() }
 }
 
@@ -275,12 +278,12 @@ fn each_clause() -> Vec<Case> {
     let held = after(&held, &sample()[20..26]);
     let closed = State { stage: CLOSED, ..under(4) };
     let mut refused = State { stage: REFUSED, ..under(2) };
-    refused.refusal = crate::state::Refusal { code: 7, record: 2, field: 3 };
-    let mut cases = Vec::new();
+    refused.refusal = Refusal { code: 7, record: 2, field: 3 };
+    let mut states = bare_states();
     for base in [State::default(), held, closed, refused] {
-        for state in beside_bounds(&base) {
-            cases.push(whole(state, vec![0], 54));
-        }
+        states.extend(beside_bounds(&base));
     }
-    cases
+    let without_heading = State { heading: Heading::default(), ..under(1) };
+    states.extend(heading_beside(&without_heading));
+    states.into_iter().map(|state| whole(state, vec![0], 54)).collect()
 }

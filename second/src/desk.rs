@@ -14,7 +14,12 @@ const ROOMS: [usize; 14] = [0, 1, 45, 46, 47, 53, 54, 55, 91, 92, 93, 100, 1_000
 pub fn book_text(dice: &mut Dice, book: &[u8]) -> String {
     let enough = herd_desk(book, 1 << 20).1.len();
     let mut rooms = ROOMS.to_vec();
-    rooms.extend([enough, enough + 1, enough.saturating_sub(1), dice.below(enough as u64 + 1) as usize]);
+    rooms.extend([
+        enough,
+        enough + 1,
+        enough.saturating_sub(1),
+        dice.below(enough as u64 + 1) as usize,
+    ]);
     rooms.sort_unstable();
     rooms.dedup();
     rooms.iter().map(|&room| desk_line(book, room)).collect()

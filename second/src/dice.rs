@@ -5,7 +5,8 @@ pub struct Dice(u64);
 impl Dice {
     /// The dice of one case, so that a case can be made again without those before it.
     pub fn of_case(seed: u64, index: u64) -> Dice {
-        let mixed = seed.wrapping_mul(0x9E37_79B9_7F4A_7C15) ^ index.wrapping_mul(0xD1B5_4A32_D192_ED03);
+        let mixed =
+            seed.wrapping_mul(0x9E37_79B9_7F4A_7C15) ^ index.wrapping_mul(0xD1B5_4A32_D192_ED03);
         let mut dice = Dice(mixed | 1);
         for _ in 0..8 {
             dice.roll();

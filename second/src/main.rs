@@ -95,7 +95,9 @@ fn desk_books(seed: &str, count: &str) -> Result<(), String> {
         desk::book_text(&mut dice, &book)
     }))?;
     let mut dice = dice::Dice::of_case(seed, count);
-    write_all([4_094, 4_095].into_iter().map(|details| {
-        desk::book_text(&mut dice, &desk::long_book(details))
-    }))
+    write_all(
+        [4_094, 4_095]
+            .into_iter()
+            .map(|details| desk::book_text(&mut dice, &desk::long_book(details))),
+    )
 }

@@ -119,11 +119,8 @@ impl State {
         if self.stage != REFUSED {
             return *refusal == Refusal::default();
         }
-        let field_fits = if refusal.code == 7 {
-            (1..=12).contains(&refusal.field)
-        } else {
-            refusal.field == 0
-        };
+        let field_fits =
+            if refusal.code == 7 { (1..=12).contains(&refusal.field) } else { refusal.field == 0 };
         (1..=12).contains(&refusal.code) && refusal.record == self.records && field_fits
     }
 }

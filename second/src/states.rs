@@ -59,34 +59,41 @@ fn some_refusal(dice: &mut Dice, record: u16) -> Refusal {
     Refusal { code, record, field }
 }
 
-/// The state with one part changed, to each value at or beside a bound of that part.
+/// The state with one part changed, to each value at or beside a bound of that part; none twice.
 pub fn beside_bounds(base: &State) -> Vec<State> {
+    let parts = [
+        stage_beside(base),
+        heading_beside(base),
+        sums_beside(base),
+        refusal_beside(base),
+        held_beside(base),
+    ];
     let mut states = Vec::new();
-    let mut add = |change: &dyn Fn(&mut State)| {
-        let mut state = *base;
-        change(&mut state);
+    for state in parts.concat() {
         if state != *base && !states.contains(&state) {
             states.push(state);
         }
-    };
-    for stage in [0, 1, 2, 3, 4, 255] {
-        add(&|s| s.stage = stage);
     }
-    for records in [0, 1, 2, 4_095, 4_096, 4_097, 65_535] {
-        add(&|s| s.records = records);
-        add(&|s| (s.records, s.refusal.record) = (records, records));
-    }
-    for set in [0, 1, 2, 3, 255] {
-        add(&|s| s.set = set);
-    }
-    states.extend(heading_beside(base));
-    states.extend(sums_beside(base));
-    states.extend(refusal_beside(base));
-    states.extend(held_beside(base));
     states
 }
 
-fn heading_beside(base: &State) -> Vec<State> {
+fn stage_beside(base: &State) -> Vec<State> {
+    let mut states = Vec::new();
+    for stage in [0, 1, 2, 3, 4, 255] {
+        states.push(State { stage, ..*base });
+    }
+    for records in [0, 1, 2, 4_095, 4_096, 4_097, 65_535] {
+        states.push(State { records, ..*base });
+        let refusal = Refusal { record: records, ..base.refusal };
+        states.push(State { records, refusal, ..*base });
+    }
+    for set in [0, 1, 2, 3, 255] {
+        states.push(State { set, ..*base });
+    }
+    states
+}
+
+pub fn heading_beside(base: &State) -> Vec<State> {
     let with = |heading| State { heading, ..*base };
     let h = base.heading;
     let mut states = Vec::new();
@@ -171,4 +178,18 @@ fn holding(base: &State, length: u16, held_count: u64) -> State {
         *place = 0;
     }
     State { held, held_count, ..*base }
+}
+
+/// States where stage, count of records and warming set meet their bounds together, all else zero.
+pub fn bare_states() -> Vec<State> {
+    let mut states = Vec::new();
+    for (stage, records) in [(0, 0), (0, 1), (1, 0), (1, 1), (2, 0), (2, 1), (2, 2), (3, 0), (3, 1)]
+    {
+        for set in [0, 1, 2] {
+            let code = if stage == REFUSED { 4 } else { 0 };
+            let refusal = Refusal { code, record: if code > 0 { records } else { 0 }, field: 0 };
+            states.push(State { stage, records, set, refusal, ..State::default() });
+        }
+    }
+    states
 }

@@ -83,7 +83,8 @@ fn p6_cattle_nitrogen() {
 #[test]
 fn p7_pig() {
     let made = adds(&under(4, 100), 5, &PIG);
-    let wanted = Figures { ch4: 128_640, n2o: 1_267 + 1_584, co2: 0, excreted: 403_200, land: 302_400 };
+    let wanted =
+        Figures { ch4: 128_640, n2o: 1_267 + 1_584, co2: 0, excreted: 403_200, land: 302_400 };
     assert_eq!(made, wanted);
 }
 
@@ -155,7 +156,10 @@ fn x_at_zero_passes_and_below_is_refused() {
         let record = record_of(4, &[1, feed, 1, milk, 1, 0, 0, 0, 10_000]);
         assert_eq!(accepted(&under(3, 1), &record), fits);
     }
-    assert_eq!(refused_by(&under(3, 1), &record_of(4, &[1, 52, 1, 53, 1, 0, 0, 0, 10_000])), (11, 0));
+    assert_eq!(
+        refused_by(&under(3, 1), &record_of(4, &[1, 52, 1, 53, 1, 0, 0, 0, 10_000])),
+        (11, 0)
+    );
     assert_eq!(refused_by(&under(3, 1), &record_of(4, &[1, 0, 9, 0, 9, 1, 0, 0, 10_000])), (11, 0));
 }
 
@@ -301,7 +305,8 @@ fn closed_and_refused_take_nothing() {
             let state = right_state(&mut dice, stage);
             let reply = all(&state, &sample());
             assert_eq!((reply.taken, reply.lines.len(), reply.state), (0, 0, state));
-            let wanted = if stage == CLOSED { Answer::Closed } else { Answer::Refused(state.refusal) };
+            let wanted =
+                if stage == CLOSED { Answer::Closed } else { Answer::Refused(state.refusal) };
             assert_eq!(reply.answer, wanted);
         }
     }
@@ -319,7 +324,10 @@ fn thirteen_comes_first_and_changes_nothing() {
             outside += 1;
             let reply = all(&state, &sample());
             let refusal = Refusal { code: 13, record: 0, field: 0 };
-            assert_eq!(reply, Reply { state, taken: 0, lines: vec![], answer: Answer::Refused(refusal) });
+            assert_eq!(
+                reply,
+                Reply { state, taken: 0, lines: vec![], answer: Answer::Refused(refusal) }
+            );
         }
     }
     assert!(outside > 150);
@@ -335,7 +343,9 @@ fn ranges_of_a_state() {
     };
     assert!(State::default().in_range() && open.in_range());
     assert!(!fits(&|s| s.stage = 0) && !fits(&|s| s.stage = 3) && !fits(&|s| s.stage = 4));
-    assert!(fits(&|s| s.stage = 2) && fits(&|s| s.records = 4_096) && !fits(&|s| s.records = 4_097));
+    assert!(
+        fits(&|s| s.stage = 2) && fits(&|s| s.records = 4_096) && !fits(&|s| s.records = 4_097)
+    );
     assert!(!fits(&|s| s.records = 1) && !fits(&|s| s.records = 0));
     assert!(fits(&|s| (s.records, s.heading) = (1, Heading::default())));
     assert!(!fits(&|s| s.set = 0) && fits(&|s| s.set = 2) && !fits(&|s| s.set = 3));
@@ -345,7 +355,9 @@ fn ranges_of_a_state() {
     assert!(fits(&|s| s.heading.days[2] = 366) && !fits(&|s| s.heading.days[2] = 367));
     assert!(fits(&|s| s.sums.ch4 = 200_000_000_000) && !fits(&|s| s.sums.ch4 = 200_000_000_001));
     assert!(fits(&|s| s.sums.n2o = 20_000_000_000) && !fits(&|s| s.sums.n2o = 20_000_000_001));
-    assert!(fits(&|s| s.sums.co2 = 20_000_000_000_000) && !fits(&|s| s.sums.co2 = 20_000_000_000_001));
+    assert!(
+        fits(&|s| s.sums.co2 = 20_000_000_000_000) && !fits(&|s| s.sums.co2 = 20_000_000_000_001)
+    );
     assert!(!fits(&|s| s.sums.excreted = 200_000_000_001) && !fits(&|s| s.sums.land = u64::MAX));
     assert!(!fits(&|s| s.refusal.code = 1) && !fits(&|s| s.refusal.field = 1));
 }

@@ -241,6 +241,7 @@ fn bits_text(x: f64) -> String {
 
 fn slip_answer(given: Ration, change: Change) -> String {
     let made = slip(given, change);
-    let [ge, ym, head, kg] = [made.ration.ge, made.ration.ym, made.ration.head, made.kg].map(bits_text);
+    let [ge, ym, head, kg] =
+        [made.ration.ge, made.ration.ym, made.ration.head, made.kg].map(bits_text);
     format!("{:x} {ge} {ym} {head} {:x} {kg}\n", made.code, made.ration.days)
 }
