@@ -210,27 +210,30 @@ fn place_of(kind: u8) -> State {
     }
 }
 
-/// Each field of each kind at its ends, and outside them, all other fields right.
-fn field_ends() -> Vec<Case> {
-    let mut cases = Vec::new();
-    for kind in 1..=8 {
-        let state = place_of(kind);
-        let right: Vec<u64> = plain_values(kind);
-        for (position, f) in fields_of(kind).iter().enumerate() {
-            let mut values = vec![u64::from(f.low), u64::from(f.high)];
-            values.extend(values_outside(kind, position));
-            for value in values {
-                let mut v = right.clone();
-                v[position] = value;
-                cases.push(whole(state, record_of(kind, &v), 54));
-            }
+/// Records of a kind with each field at its ends, and outside them, all other fields right.
+pub fn field_end_records(kind: u8) -> Vec<Vec<u8>> {
+    let mut records = Vec::new();
+    for (position, f) in fields_of(kind).iter().enumerate() {
+        let mut values = vec![u64::from(f.low), u64::from(f.high)];
+        values.extend(values_outside(kind, position));
+        for value in values {
+            let mut v = plain_values(kind);
+            v[position] = value;
+            records.push(record_of(kind, &v));
         }
     }
-    cases
+    records
+}
+
+fn field_ends() -> Vec<Case> {
+    let cases_of = |kind| {
+        field_end_records(kind).into_iter().map(move |record| whole(place_of(kind), record, 54))
+    };
+    (1..=8).flat_map(cases_of).collect()
 }
 
 /// Right values of each kind, as the paper's examples have them where it gives any.
-fn plain_values(kind: u8) -> Vec<u64> {
+pub fn plain_values(kind: u8) -> Vec<u64> {
     match kind {
         1 => vec![7, 2010, 1],
         2 => vec![12, 1, 40],

@@ -1,7 +1,7 @@
 //! Books for the C host: a line each of book, room, the herd desk's number, and the lines.
 
 use crate::books::{closed_run, damaged_run, right_run};
-use crate::cases::sample;
+use crate::cases::{field_end_records, plain_values, sample};
 use crate::dice::Dice;
 use crate::feed::herd_desk;
 use crate::record::record_of;
@@ -49,6 +49,25 @@ pub fn some_book(dice: &mut Dice, index: u64) -> Vec<u8> {
             }
         },
     }
+}
+
+/// A book for each field of each kind at its ends and outside them, a line each with room for all.
+pub fn field_end_text() -> String {
+    let mut text = String::new();
+    for kind in 1..=8 {
+        let place = match kind {
+            1 => Vec::new(),
+            2 => record_of(1, &plain_values(1)),
+            _ => {
+                let class = if kind == 5 { 4 } else { 1 };
+                [record_of(1, &plain_values(1)), record_of(2, &[5, class, 12])].concat()
+            }
+        };
+        for record in field_end_records(kind) {
+            text += &desk_line(&[place.clone(), record].concat(), 1_000);
+        }
+    }
+    text
 }
 
 /// A book made by dice of its own.

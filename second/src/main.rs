@@ -94,10 +94,8 @@ fn desk_books(seed: &str, count: &str) -> Result<(), String> {
         let book = desk::some_book(&mut dice, index);
         desk::book_text(&mut dice, &book)
     }))?;
+    write_all(std::iter::once(desk::field_end_text()))?;
     let mut dice = dice::Dice::of_case(seed, count);
-    write_all(
-        [4_094, 4_095]
-            .into_iter()
-            .map(|details| desk::book_text(&mut dice, &desk::long_book(details))),
-    )
+    let long_books = [4_094, 4_095].into_iter().map(desk::long_book);
+    write_all(long_books.map(|book| desk::book_text(&mut dice, &book)))
 }
