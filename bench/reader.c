@@ -216,7 +216,7 @@ static enum answer refuse(struct reader *r, int fault) {
     return REFUSED;
 }
 
-static enum answer close_book(struct reader *r, const uint8_t *p, uint8_t *line, size_t room) {
+static enum answer close_book(struct reader *r, const uint8_t *p, uint8_t *line, size_t room, size_t *written) {
     const struct figures *sums = &r->sums;
     if (be16(p) != r->records) {
         return refuse(r, FAULT(12));
@@ -227,6 +227,7 @@ static enum answer close_book(struct reader *r, const uint8_t *p, uint8_t *line,
     uint64_t per_ch4 = r->set == 1 ? 21 : 23, per_n2o = r->set == 1 ? 310 : 296;
     put_line(line, TOTAL_LINE - 2, 8, 0, sums);
     put64(line + DETAIL_LINE, sums->co2 + per_ch4 * sums->ch4 + per_n2o * sums->n2o);
+    *written += TOTAL_LINE;
     r->stage = CLOSED_BOOK;
     r->records++;
     return CLOSED;
@@ -240,43 +241,37 @@ static void add(struct figures *sums, const struct figures *f) {
     sums->land += f->land;
 }
 
+/* What the record says, by its kind; the close is not among them. */
+static int read_record(struct reader *r, unsigned kind, const uint8_t *p, struct figures *f, uint64_t *days) {
+    switch (kind) {
+    case 1:
+        return farm(r, p);
+    case 2:
+        return heading(r, p);
+    case 3:
+        return enteric(r, p, f, days);
+    case 4:
+        return cattle(r, p, f, days);
+    case 5:
+        return pig(r, p, f, days);
+    case 6:
+        return energy(p, f);
+    default:
+        return soil(p, f);
+    }
+}
+
 /* One whole record whose length is 4..26. MORE: accepted, and `written` grew by its line. FULL: nothing has changed. */
 static enum answer judge(struct reader *r, const uint8_t *record, uint8_t *line, size_t room, size_t *written) {
     struct figures f = {0, 0, 0, 0, 0};
-    const uint8_t *p = record + 4;
     uint64_t days = 0;
     unsigned kind = record[3];
-    enum answer closed;
     int fault = misplaced(r, record);
-    if (fault) {
-        return refuse(r, fault);
+    if (!fault && kind == 8) {
+        return close_book(r, record + 4, line, room, written);
     }
-    switch (kind) {
-    case 1:
-        fault = farm(r, p);
-        break;
-    case 2:
-        fault = heading(r, p);
-        break;
-    case 3:
-        fault = enteric(r, p, &f, &days);
-        break;
-    case 4:
-        fault = cattle(r, p, &f, &days);
-        break;
-    case 5:
-        fault = pig(r, p, &f, &days);
-        break;
-    case 6:
-        fault = energy(p, &f);
-        break;
-    case 7:
-        fault = soil(p, &f);
-        break;
-    default:
-        closed = close_book(r, p, line, room);
-        *written += closed == CLOSED ? TOTAL_LINE : 0;
-        return closed;
+    if (!fault) {
+        fault = read_record(r, kind, record + 4, &f, &days);
     }
     if (fault) {
         return refuse(r, fault);

@@ -8,7 +8,7 @@ use crate::dice::Dice;
 use crate::record::{fields_of, record_of};
 use crate::slips;
 use crate::state::{Heading, Refusal, State, CLOSED, MOST_RECORDS, NO_RECORD, OPEN, REFUSED};
-use crate::states::{bare_states, beside_bounds, heading_beside, right_state};
+use crate::states::{bare_states, beside_bounds, heading_beside, most_sums, right_state};
 use crate::trial::{bytes_of, Call, Case};
 
 /// Document 01's sample book.
@@ -169,11 +169,14 @@ fn longest_book(dice: &mut Dice) -> Case {
 pub fn stored() -> Vec<Case> {
     let mut cases = sample_cases();
     cases.extend(field_ends());
+    cases.extend(each_place());
+    cases.extend(heaviest());
     cases.extend(each_number());
     cases.extend(each_clause());
     cases.extend(slips::at_the_ends());
     let mut dice = Dice::of_case(1, 0);
     cases.push(longest_book(&mut dice));
+    cases.extend((0..60).map(|_| slips::some_slip(&mut dice)));
     cases.extend((1..=150).map(|index| case(1, index)));
     cases
 }
@@ -230,6 +233,40 @@ fn field_ends() -> Vec<Case> {
         field_end_records(kind).into_iter().map(move |record| whole(place_of(kind), record, 54))
     };
     (1..=8).flat_map(cases_of).collect()
+}
+
+/// Each kind with no record before it, with no heading, and under each class.
+fn each_place() -> Vec<Case> {
+    let no_heading = State { heading: Heading::default(), ..under(1) };
+    let mut places = vec![State::default(), no_heading];
+    places.extend((1..=4).map(under));
+    let mut cases = Vec::new();
+    for kind in 1..=8 {
+        let record = record_of(kind, &plain_values(kind));
+        cases.extend(places.iter().map(|&state| whole(state, record.clone(), 54)));
+    }
+    cases
+}
+
+/// The largest figures there are, added to the largest sums.
+fn heaviest() -> Vec<Case> {
+    let records: [(u8, &[u64]); 6] = [
+        (3, &[366, 100_000, 2_000]),
+        (4, &[366, 5_000, 4_000, 0, 0, 0, 0, 10_000, 0]),
+        (5, &[366, 1_000, 5_000, 2_000, 1_000, 4_000, 2_000, 10_000, 999, 10_000, 1, 9_999]),
+        (5, &[366, 1_000, 5_000, 2_000, 1_000, 4_000, 2_000, 10_000, 0, 10_000, 0, 10_000]),
+        (6, &[8, 10_000_000, 10_000_000]),
+        (7, &[10_000_000]),
+    ];
+    let mut cases = Vec::new();
+    for (kind, values) in records {
+        let mut state = place_of(kind);
+        state.heading.head = 20_000;
+        state.sums = most_sums(state.records);
+        let input = [record_of(kind, values), record_of(8, &[3])].concat();
+        cases.push(whole(state, input, 100));
+    }
+    cases
 }
 
 /// Right values of each kind, as the paper's examples have them where it gives any.

@@ -12,6 +12,11 @@ fn figures_of([ch4, n2o, co2, excreted, land]: [u64; 5]) -> Figures {
     Figures { ch4, n2o, co2, excreted, land }
 }
 
+/// The sums at their bounds.
+pub fn most_sums(records: u16) -> Figures {
+    figures_of(BOUNDS.map(|bound| u64::from(records) * bound))
+}
+
 /// A state in range at this stage, holding no bytes.
 pub fn right_state(dice: &mut Dice, stage: u8) -> State {
     let fewest = match stage {

@@ -222,6 +222,22 @@ fn every_cut_of_the_sample_agrees() {
 }
 
 #[test]
+fn every_cut_of_books_by_chance_agrees() {
+    let mut dice = Dice::of_case(3, 3);
+    for _ in 0..2_000 {
+        let number = dice.between(1, 12) as u8;
+        let book = damaged_run(&mut dice, &State::default(), number);
+        let uncut = all(&State::default(), &book);
+        let cut = dice.below(book.len() as u64 + 1) as usize;
+        let first = all(&State::default(), &book[..cut]);
+        let second = all(&first.state, &book[first.taken..]);
+        assert_eq!(first.taken + second.taken, uncut.taken);
+        assert_eq!([first.lines, second.lines].concat(), uncut.lines);
+        assert_eq!((second.state, second.answer), (uncut.state, uncut.answer));
+    }
+}
+
+#[test]
 fn full_keeps_the_last_byte() {
     let state = under(1, 1);
     let record = record_of(3, &[1, 2, 3]);
