@@ -151,6 +151,29 @@ fn other_halves() {
 }
 
 #[test]
+fn cattle_halves_of_both_n2o() {
+    // 5,000 g on solid: direct 39.5 and indirect 23.5.
+    let made = adds(&under(1, 10), 4, &[1, 1_250, 2_500, 0, 0, 0, 10_000, 0, 0]);
+    assert_eq!((made.excreted, made.n2o), (5_000, 40 + 24));
+}
+
+#[test]
+fn pig_halves() {
+    // V is 0.5 mg before its rounding, and 1 mg makes 2,354 g.
+    let one_mg = [366, 1, 500, 1, 1_000, 0, 0, 0, 0, 0, 0, 0];
+    assert_eq!(adds(&under(4, 20_000), 5, &one_mg).ch4, 2_354);
+    // CH4 100.5.
+    assert_eq!(adds(&under(4, 3_125), 5, &[100, 1_000, 1, 1, 1_000, 0, 0, 0, 0, 0, 0, 0]).ch4, 101);
+    // Excreted 3.5.
+    assert_eq!(adds(&under(4, 1), 5, &[1, 1_000, 0, 0, 0, 3_125, 10, 0, 0, 0, 0, 0]).excreted, 4);
+    // 350 g: direct 5.5, indirect 5.5.
+    let both = adds(&under(4, 1), 5, &[1, 1_000, 0, 0, 0, 3_125, 1_000, 1_000, 100, 10_000, 0, 0]);
+    assert_eq!((both.excreted, both.n2o, both.land), (350, 6 + 6, 315));
+    // 1 g, of which half goes to land.
+    assert_eq!(adds(&under(4, 1), 5, &[1, 100, 0, 0, 0, 100, 1_000, 0, 250, 0, 250, 0]).land, 1);
+}
+
+#[test]
 fn x_at_zero_passes_and_below_is_refused() {
     for (feed, milk, fits) in [(157, 160, true), (105, 107, true), (52, 53, false)] {
         let record = record_of(4, &[1, feed, 1, milk, 1, 0, 0, 0, 10_000]);
