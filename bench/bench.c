@@ -1,0 +1,277 @@
+/* The proved reader against the plain one, on the same books, in one process.
+
+   bench time ROUNDS DETAILS        checks that both agree, then takes their times in turns and prints the best of each
+   bench count DETAILS BOOK MODE    runs each once on one book (m or 3..7), MODE w whole or p parts, for an instruction count
+   bench stack DETAILS              prints the stack that each uses
+
+   Built with WITH_PARTS where the library has bench_parts. */
+#include "../host/herd_desk.h"
+#include "reader.h"
+
+#include <stdio.h>
+#include <stdlib.h>
+#include <string.h>
+#include <time.h>
+
+enum { PART = 64, LARGE = 1 << 18, STACK = 1 << 16, PAINT = 0x5A };
+
+#ifdef WITH_PARTS
+uint64_t bench_parts(const uint8_t *book, size_t book_len, uint8_t *lines, size_t lines_len, size_t part);
+#endif
+
+/* A book with what it is called. */
+struct book {
+    const char *name;
+    uint8_t *bytes;
+    size_t len, records;
+};
+
+typedef uint64_t reading(const struct book *book, uint8_t *lines);
+
+/* Noinline and by these names: an instruction counter finds them so. */
+__attribute__((noinline)) uint64_t proved_whole(const struct book *book, uint8_t *lines) {
+    return herd_desk(book->bytes, book->len, lines, LARGE);
+}
+
+__attribute__((noinline)) uint64_t plain_whole(const struct book *book, uint8_t *lines) {
+    return plain_desk(book->bytes, book->len, lines, LARGE);
+}
+
+#ifdef WITH_PARTS
+__attribute__((noinline)) uint64_t proved_in_parts(const struct book *book, uint8_t *lines) {
+    return bench_parts(book->bytes, book->len, lines, LARGE, PART);
+}
+
+__attribute__((noinline)) uint64_t plain_in_parts(const struct book *book, uint8_t *lines) {
+    return plain_parts(book->bytes, book->len, lines, LARGE, PART);
+}
+#endif
+
+static uint64_t seed = 88172645463325252u;
+
+static uint64_t below(uint64_t n) {
+    seed ^= seed << 13;
+    seed ^= seed >> 7;
+    seed ^= seed << 17;
+    return (seed >> 20) % n;
+}
+
+static void put(struct book *b, unsigned width, uint64_t value) {
+    for (unsigned i = width; i-- > 0;) {
+        b->bytes[b->len++] = (uint8_t)(value >> (8 * i));
+    }
+}
+
+static void start_record(struct book *b, unsigned kind) {
+    static const uint8_t lengths[9] = {0, 9, 7, 10, 20, 26, 11, 6, 4};
+    put(b, 2, lengths[kind]);
+    put(b, 1, 1);
+    put(b, 1, kind);
+    b->records++;
+}
+
+/* Fields of two bytes, each from 0 to its highest. */
+static void put_fields(struct book *b, const uint16_t *highest, unsigned count) {
+    for (unsigned i = 0; i < count; i++) {
+        put(b, 2, below(highest[i] + 1u));
+    }
+}
+
+static void put_cattle(struct book *b) {
+    static const uint16_t highest[3] = {3000, 300, 1000};
+    uint64_t solid = below(5001), liquid = below(5001);
+    put(b, 2, 4000 + below(1001));
+    put(b, 2, 3000 + below(1001));
+    put_fields(b, highest, 3);
+    put(b, 2, solid);
+    put(b, 2, liquid);
+    put(b, 2, 10000 - solid - liquid);
+}
+
+static void put_detail(struct book *b, unsigned kind) {
+    static const uint16_t pig_highest[11] = {1000, 5000, 2000, 1000, 4000, 2000, 10000, 500, 10000, 500, 10000};
+    start_record(b, kind);
+    if (kind <= 5) {
+        put(b, 2, 1 + below(7));
+    }
+    if (kind == 3) {
+        put(b, 4, below(100001));
+        put(b, 2, below(2001));
+    } else if (kind == 4) {
+        put_cattle(b);
+    } else if (kind == 5) {
+        put_fields(b, pig_highest, 11);
+    } else if (kind == 6) {
+        put(b, 1, 1 + below(8));
+        put(b, 4, below(10000001));
+        put(b, 4, below(10000001));
+    } else {
+        put(b, 4, below(10000001));
+    }
+}
+
+static void put_heading(struct book *b, unsigned group, unsigned class) {
+    start_record(b, 2);
+    put(b, 2, group);
+    put(b, 1, class);
+    put(b, 2, below(20001));
+}
+
+/* Groups of ten records under a heading: one kind alone, or where `kind` is 0 each that the heading allows. */
+static struct book make_book(const char *name, unsigned kind, unsigned details) {
+    struct book b = {name, malloc(LARGE), 0, 0};
+    unsigned class = 1;
+    if (b.bytes == NULL) {
+        exit(2);
+    }
+    start_record(&b, 1);
+    put(&b, 4, 7);
+    put(&b, 2, 2010);
+    put(&b, 1, 1);
+    for (unsigned i = 0; i < details; i++) {
+        if (i % 10 == 0) {
+            class = kind == 5 || (kind == 0 && below(3) == 0) ? 4 : 1;
+            put_heading(&b, 1 + i / 10, class);
+        }
+        static const uint8_t under_cattle[4] = {3, 4, 6, 7}, under_pigs[4] = {5, 5, 6, 7};
+        unsigned drawn = class == 4 ? under_pigs[below(4)] : under_cattle[below(4)];
+        put_detail(&b, kind == 0 ? drawn : kind);
+    }
+    start_record(&b, 8);
+    put(&b, 2, b.records - 1);
+    return b;
+}
+
+static uint8_t proved_lines[LARGE], plain_lines[LARGE];
+
+static void check_agreement(const struct book *book, const char *mode, reading *proved, reading *plain) {
+    memset(proved_lines, PAINT, LARGE);
+    memset(plain_lines, PAINT, LARGE);
+    uint64_t by_proved = proved(book, proved_lines), by_plain = plain(book, plain_lines);
+    if (by_proved != by_plain || memcmp(proved_lines, plain_lines, LARGE) != 0 || herd_desk_code(by_plain) != 0) {
+        fprintf(stderr, "bench: %s, %s: different answers, %llx and %llx\n", book->name, mode,
+                (unsigned long long)by_proved, (unsigned long long)by_plain);
+        exit(1);
+    }
+}
+
+static double now_ns(void) {
+    struct timespec t;
+    clock_gettime(CLOCK_MONOTONIC, &t);
+    return (double)t.tv_sec * 1e9 + (double)t.tv_nsec;
+}
+
+static double time_of(reading *read, const struct book *book, uint8_t *lines) {
+    double before = now_ns();
+    read(book, lines);
+    return now_ns() - before;
+}
+
+/* In turns, the best of all rounds: other work on the machine then hits both alike. */
+static void compare_times(const struct book *book, const char *mode, reading *proved, reading *plain, int rounds) {
+    double best_proved = 1e30, best_plain = 1e30;
+    check_agreement(book, mode, proved, plain);
+    for (int i = 0; i < rounds; i++) {
+        double by_proved = time_of(proved, book, proved_lines), by_plain = time_of(plain, book, plain_lines);
+        best_proved = by_proved < best_proved ? by_proved : best_proved;
+        best_plain = by_plain < best_plain ? by_plain : best_plain;
+    }
+    double records = (double)book->records;
+    printf("%-7s %-7s %7.1f ns a record, plain C %7.1f, ratio %.2f\n", book->name, mode, best_proved / records,
+           best_plain / records, best_proved / best_plain);
+}
+
+/* A system call that does not exist: the emulator's log is cut there. */
+static void mark(void) {
+    long result;
+    __asm__ volatile("syscall" : "=a"(result) : "a"(9999L) : "rcx", "r11", "memory");
+}
+
+/* Each has run once before, so that no loading of functions is counted. */
+static void run_once(const struct book *book, const char *mode, reading *proved, reading *plain) {
+    check_agreement(book, mode, proved, plain);
+    mark();
+    proved(book, proved_lines);
+    mark();
+    plain(book, plain_lines);
+    mark();
+    printf("%s %s %zu records\n", book->name, mode, book->records);
+}
+
+static __attribute__((noinline)) void paint_stack(void) {
+    volatile uint8_t deep[STACK];
+    for (size_t i = 0; i < STACK; i++) {
+        deep[i] = PAINT;
+    }
+}
+
+/* How far up from the painted stack's far end the paint still stands. */
+static __attribute__((noinline)) size_t stack_touched(void) {
+    volatile uint8_t deep[STACK];
+    size_t untouched = 0;
+    while (untouched < STACK && deep[untouched] == PAINT) {
+        untouched++;
+    }
+    return STACK - untouched;
+}
+
+static size_t stack_of(reading *read, const struct book *book) {
+    read(book, proved_lines);
+    paint_stack();
+    read(book, proved_lines);
+    return stack_touched();
+}
+
+static void print_stacks(const struct book *book) {
+    printf("state   plain C %zu bytes\n", sizeof(struct reader));
+    printf("stack   whole   %zu bytes, plain C %zu\n", stack_of(proved_whole, book), stack_of(plain_whole, book));
+#ifdef WITH_PARTS
+    printf("stack   parts   %zu bytes, plain C %zu\n", stack_of(proved_in_parts, book), stack_of(plain_in_parts, book));
+#endif
+}
+
+static struct book book_named(const char *name, unsigned details) {
+    static const char *names[] = {"mixed", "", "", "kind 3", "kind 4", "kind 5", "kind 6", "kind 7"};
+    unsigned kind = name[0] == 'm' ? 0 : (unsigned)(name[0] - '0') & 7;
+    return make_book(names[kind], kind, details);
+}
+
+static void time_all(int rounds, unsigned details) {
+    for (const char *name = "m34567"; *name; name++) {
+        struct book book = book_named(name, details);
+        compare_times(&book, "whole", proved_whole, plain_whole, rounds);
+#ifdef WITH_PARTS
+        compare_times(&book, "parts", proved_in_parts, plain_in_parts, rounds);
+#endif
+        free(book.bytes);
+    }
+}
+
+static void count_one(const char *name, char mode, unsigned details) {
+    struct book book = book_named(name, details);
+    if (mode == 'w') {
+        run_once(&book, "whole", proved_whole, plain_whole);
+    }
+#ifdef WITH_PARTS
+    if (mode == 'p') {
+        run_once(&book, "parts", proved_in_parts, plain_in_parts);
+    }
+#endif
+    free(book.bytes);
+}
+
+int main(int argc, char **argv) {
+    if (argc == 4 && strcmp(argv[1], "time") == 0) {
+        time_all(atoi(argv[2]), (unsigned)atoi(argv[3]));
+    } else if (argc == 5 && strcmp(argv[1], "count") == 0) {
+        count_one(argv[3], argv[4][0], (unsigned)atoi(argv[2]));
+    } else if (argc == 3 && strcmp(argv[1], "stack") == 0) {
+        struct book book = book_named("m", (unsigned)atoi(argv[2]));
+        print_stacks(&book);
+        free(book.bytes);
+    } else {
+        fputs("usage: bench time ROUNDS DETAILS | count DETAILS BOOK MODE | stack DETAILS\n", stderr);
+        return 2;
+    }
+    return 0;
+}

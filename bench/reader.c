@@ -1,0 +1,386 @@
+/* The farm book as a careful C programmer would read it: records are judged where they lie in the input, and only one that is cut
+   by the input's end is gathered first. Products are ordered so that none passes 64 bits; nothing is doubled to round. */
+#include "reader.h"
+
+#include <string.h>
+
+enum { MOST_RECORDS = 4096, DETAIL_LINE = 46, TOTAL_LINE = 54 };
+
+/* A fault is a refusal's code with its field above it; no fault is 0. */
+#define FAULT(code) (code)
+#define OUT_OF_RANGE(field) (7 | (field) << 8)
+
+static const uint8_t lengths[9] = {0, 9, 7, 10, 20, 26, 11, 6, 4};
+
+static uint64_t be16(const uint8_t *p) {
+    return (uint64_t)p[0] << 8 | p[1];
+}
+
+static uint64_t be32(const uint8_t *p) {
+    return be16(p) << 16 | be16(p + 2);
+}
+
+static void put16(uint8_t *p, uint64_t v) {
+    p[0] = (uint8_t)(v >> 8);
+    p[1] = (uint8_t)v;
+}
+
+/* One swapped word: stores of single bytes are not always joined by the compiler, and would flatter whoever is compared. */
+static void put64(uint8_t *p, uint64_t v) {
+    uint64_t swapped = __builtin_bswap64(v);
+    memcpy(p, &swapped, sizeof swapped);
+}
+
+/* Nearest whole number, a half going up. */
+static uint64_t rounded(uint64_t n, uint64_t d) {
+    uint64_t rest = n % d;
+    return n / d + (rest >= d - rest);
+}
+
+/* The 2-byte fields of kinds 4 and 5: days first, the others from 0 up to their highest. */
+static int read_fields(const uint8_t *p, const uint16_t *highest, int count, uint64_t *v) {
+    for (int i = 0; i < count; i++) {
+        v[i] = be16(p + 2 * i);
+        if (v[i] > highest[i] || (i == 0 && v[i] == 0)) {
+            return OUT_OF_RANGE(i + 1);
+        }
+    }
+    return 0;
+}
+
+static int farm(struct reader *r, const uint8_t *p) {
+    uint64_t year = be16(p + 4);
+    if (year < 1900 || year > 2200) {
+        return OUT_OF_RANGE(2);
+    }
+    if (p[6] < 1 || p[6] > 2) {
+        return OUT_OF_RANGE(3);
+    }
+    r->set = p[6];
+    r->stage = OPEN;
+    return 0;
+}
+
+static int heading(struct reader *r, const uint8_t *p) {
+    uint64_t group = be16(p), head = be16(p + 3);
+    if (group == 0) {
+        return OUT_OF_RANGE(1);
+    }
+    if (p[2] < 1 || p[2] > 4) {
+        return OUT_OF_RANGE(2);
+    }
+    if (head > 20000) {
+        return OUT_OF_RANGE(3);
+    }
+    if (group <= r->heading.group) {
+        return FAULT(8);
+    }
+    r->heading = (struct heading){(uint16_t)group, p[2], (uint16_t)head, {0, 0, 0}};
+    return 0;
+}
+
+static int enteric(const struct reader *r, const uint8_t *p, struct figures *f, uint64_t *days) {
+    uint64_t ge = be32(p + 2), ym = be16(p + 6);
+    *days = be16(p);
+    if (*days < 1 || *days > 366) {
+        return OUT_OF_RANGE(1);
+    }
+    if (ge > 100000) {
+        return OUT_OF_RANGE(2);
+    }
+    if (ym > 2000) {
+        return OUT_OF_RANGE(3);
+    }
+    if (r->heading.days[0] + *days > 366) {
+        return FAULT(9);
+    }
+    f->ch4 = rounded(ge * ym * r->heading.head * *days, 55650);
+    return 0;
+}
+
+static int cattle(const struct reader *r, const uint8_t *p, struct figures *f, uint64_t *days) {
+    static const uint16_t highest[9] = {366, 5000, 4000, 8000, 800, 3000, 10000, 10000, 10000};
+    uint64_t v[9];
+    int fault = read_fields(p, highest, 9, v);
+    if (fault) {
+        return fault;
+    }
+    uint64_t solid = v[6], liquid = v[7], pasture = v[8];
+    *days = v[0];
+    if (r->heading.days[1] + *days > 366) {
+        return FAULT(9);
+    }
+    if (solid + liquid + pasture != 10000) {
+        return FAULT(10);
+    }
+    uint64_t eaten = 160 * v[1] * v[2], kept = 157 * v[3] * v[4] + 27000 * v[5];
+    if (eaten < kept) {
+        return FAULT(11);
+    }
+    f->excreted = rounded((eaten - kept) * r->heading.head * *days, 1000000);
+    f->n2o = rounded(f->excreted * 79 * (solid + liquid), 100000000) +
+             rounded(f->excreted * (47 * solid + 63 * liquid), 100000000);
+    return 0;
+}
+
+static int pig(const struct reader *r, const uint8_t *p, struct figures *f, uint64_t *days) {
+    static const uint16_t highest[12] = {366, 1000, 5000, 2000, 1000, 4000, 2000, 10000, 1000, 10000, 1000, 10000};
+    uint64_t v[12];
+    int fault = read_fields(p, highest, 12, v);
+    if (fault) {
+        return fault;
+    }
+    uint64_t volatilised = v[8], leached = v[10], head_days;
+    *days = v[0];
+    if (r->heading.days[2] + *days > 366) {
+        return FAULT(9);
+    }
+    if (volatilised + leached > 1000) {
+        return FAULT(10);
+    }
+    head_days = r->heading.head * *days;
+    uint64_t vs_mg = rounded(v[1] * v[2] * v[3], 1000);
+    f->ch4 = rounded(vs_mg * v[4] * head_days * 201, 625000000);
+    f->excreted = rounded(v[1] * v[5] * v[6] * head_days * 7, 62500000);
+    f->n2o = rounded(f->excreted * v[7] * 11, 700000) +
+             rounded(f->excreted * (volatilised * v[9] + leached * v[11]) * 11, 700000000);
+    f->land = rounded(f->excreted * (1000 - volatilised - leached), 1000);
+    return 0;
+}
+
+static int energy(const uint8_t *p, struct figures *f) {
+    uint64_t amount = be32(p + 1), factor = be32(p + 5);
+    if (p[0] < 1 || p[0] > 8) {
+        return OUT_OF_RANGE(1);
+    }
+    if (amount > 10000000) {
+        return OUT_OF_RANGE(2);
+    }
+    if (factor > 10000000) {
+        return OUT_OF_RANGE(3);
+    }
+    f->co2 = rounded(amount * factor, 10);
+    return 0;
+}
+
+static int soil(const uint8_t *p, struct figures *f) {
+    uint64_t area = be32(p);
+    if (area > 10000000) {
+        return OUT_OF_RANGE(1);
+    }
+    f->co2 = rounded(area * 550000, 3);
+    return 0;
+}
+
+/* Version, kind, length, count and place: faults 2 to 6. */
+static int misplaced(const struct reader *r, const uint8_t *record) {
+    unsigned kind = record[3], class = r->heading.class;
+    if (record[2] != 1) {
+        return FAULT(2);
+    }
+    if (kind < 1 || kind > 8) {
+        return FAULT(3);
+    }
+    if (be16(record) != lengths[kind]) {
+        return FAULT(4);
+    }
+    if (r->records >= MOST_RECORDS) {
+        return FAULT(5);
+    }
+    if ((r->stage == NO_RECORD) != (kind == 1)) {
+        return FAULT(6);
+    }
+    if ((kind == 3 || kind == 4) && (class < 1 || class > 3)) {
+        return FAULT(6);
+    }
+    return kind == 5 && class != 4 ? FAULT(6) : 0;
+}
+
+static void put_line(uint8_t *line, unsigned length, unsigned kind, unsigned group, const struct figures *f) {
+    put16(line, length);
+    line[2] = 1;
+    line[3] = (uint8_t)kind;
+    put16(line + 4, group);
+    put64(line + 6, f->ch4);
+    put64(line + 14, f->n2o);
+    put64(line + 22, f->co2);
+    put64(line + 30, f->excreted);
+    put64(line + 38, f->land);
+}
+
+static enum answer refuse(struct reader *r, int fault) {
+    r->stage = REFUSED_BOOK;
+    r->code = (uint8_t)(fault & 255);
+    r->field = (uint8_t)(fault >> 8);
+    r->held_count = 0;
+    return REFUSED;
+}
+
+static enum answer close_book(struct reader *r, const uint8_t *p, uint8_t *line, size_t room, size_t *written) {
+    const struct figures *sums = &r->sums;
+    if (be16(p) != r->records) {
+        return refuse(r, FAULT(12));
+    }
+    if (room < TOTAL_LINE) {
+        return FULL;
+    }
+    uint64_t per_ch4 = r->set == 1 ? 21 : 23, per_n2o = r->set == 1 ? 310 : 296;
+    put_line(line, TOTAL_LINE - 2, 8, 0, sums);
+    put64(line + DETAIL_LINE, sums->co2 + per_ch4 * sums->ch4 + per_n2o * sums->n2o);
+    *written += TOTAL_LINE;
+    r->stage = CLOSED_BOOK;
+    r->records++;
+    return CLOSED;
+}
+
+static void add(struct figures *sums, const struct figures *f) {
+    sums->ch4 += f->ch4;
+    sums->n2o += f->n2o;
+    sums->co2 += f->co2;
+    sums->excreted += f->excreted;
+    sums->land += f->land;
+}
+
+/* What the record says, by its kind; the close is not among them. */
+static int read_record(struct reader *r, unsigned kind, const uint8_t *p, struct figures *f, uint64_t *days) {
+    switch (kind) {
+    case 1:
+        return farm(r, p);
+    case 2:
+        return heading(r, p);
+    case 3:
+        return enteric(r, p, f, days);
+    case 4:
+        return cattle(r, p, f, days);
+    case 5:
+        return pig(r, p, f, days);
+    case 6:
+        return energy(p, f);
+    default:
+        return soil(p, f);
+    }
+}
+
+/* One whole record whose length is 4..26. MORE: accepted, and `written` grew by its line. FULL: nothing has changed. */
+static enum answer judge(struct reader *r, const uint8_t *record, uint8_t *line, size_t room, size_t *written) {
+    struct figures f = {0, 0, 0, 0, 0};
+    uint64_t days = 0;
+    unsigned kind = record[3];
+    int fault = misplaced(r, record);
+    if (!fault && kind == 8) {
+        return close_book(r, record + 4, line, room, written);
+    }
+    if (!fault) {
+        fault = read_record(r, kind, record + 4, &f, &days);
+    }
+    if (fault) {
+        return refuse(r, fault);
+    }
+    if (kind > 2) {
+        if (room < DETAIL_LINE) {
+            return FULL;
+        }
+        put_line(line, DETAIL_LINE - 2, kind, kind < 6 ? r->heading.group : 0, &f);
+        *written += DETAIL_LINE;
+        add(&r->sums, &f);
+    }
+    if (kind >= 3 && kind <= 5) {
+        r->heading.days[kind - 3] += (uint16_t)days;
+    }
+    r->records++;
+    return MORE;
+}
+
+static int bad_length(uint64_t length) {
+    return length < 4 || length > 26;
+}
+
+/* Moves bytes to the held ones until they make a record, a bad length shows, or the input ends; gives how many it moved. */
+static size_t gather(struct reader *r, const uint8_t *input, size_t len) {
+    size_t moved = 0;
+    while (r->held_count < 2 && moved < len) {
+        r->held[r->held_count++] = input[moved++];
+    }
+    if (r->held_count < 2 || bad_length(be16(r->held))) {
+        return moved;
+    }
+    size_t missing = be16(r->held) + 2 - r->held_count;
+    if (missing > len - moved) {
+        missing = len - moved;
+    }
+    memcpy(r->held + r->held_count, input + moved, missing);
+    r->held_count += (uint8_t)missing;
+    return moved + missing;
+}
+
+/* The held bytes, once they make a record or show a bad length. On FULL the last byte is given back. */
+static enum answer judge_held(struct reader *r, uint8_t *line, size_t room, size_t *written, size_t *taken) {
+    if (r->held_count < 2) {
+        return MORE;
+    }
+    if (bad_length(be16(r->held))) {
+        return refuse(r, FAULT(1));
+    }
+    if (r->held_count < be16(r->held) + 2) {
+        return MORE;
+    }
+    enum answer answer = judge(r, r->held, line, room, written);
+    if (answer == FULL) {
+        r->held_count--;
+        --*taken;
+    } else {
+        r->held_count = 0;
+    }
+    return answer;
+}
+
+struct reply reader_feed(struct reader *r, const uint8_t *input, size_t input_len, uint8_t *lines, size_t lines_len) {
+    struct reply reply = {MORE, 0, 0};
+    if (r->stage >= CLOSED_BOOK) {
+        reply.answer = r->stage == CLOSED_BOOK ? CLOSED : REFUSED;
+        return reply;
+    }
+    size_t taken = 0, written = 0;
+    while (reply.answer == MORE && taken < input_len) {
+        const uint8_t *next = input + taken;
+        size_t left = input_len - taken;
+        int here = r->held_count == 0 && left >= 2 && !bad_length(be16(next)) && left >= be16(next) + 2;
+        if (here && (reply.answer = judge(r, next, lines + written, lines_len - written, &written)) != FULL) {
+            taken += be16(next) + 2;
+            continue;
+        }
+        taken += gather(r, next, left);
+        reply.answer = judge_held(r, lines + written, lines_len - written, &written, &taken);
+    }
+    reply.taken = taken;
+    reply.written = written;
+    return reply;
+}
+
+static uint64_t number(const struct reader *r, enum answer answer, int bytes_remain, size_t written) {
+    static const uint64_t codes[] = {[MORE] = 17, [FULL] = 16, [CLOSED] = 0};
+    uint64_t code = answer == REFUSED ? r->code : codes[answer];
+    if (answer == CLOSED && bytes_remain) {
+        code = 18;
+    }
+    return code << 32 | written;
+}
+
+uint64_t plain_desk(const uint8_t *book, size_t book_len, uint8_t *lines, size_t lines_len) {
+    struct reader r = {0};
+    struct reply reply = reader_feed(&r, book, book_len, lines, lines_len);
+    return number(&r, reply.answer, reply.taken < book_len, reply.written);
+}
+
+uint64_t plain_parts(const uint8_t *book, size_t book_len, uint8_t *lines, size_t lines_len, size_t part) {
+    struct reader r = {0};
+    struct reply reply = {MORE, 0, 0};
+    size_t taken = 0, written = 0;
+    while (reply.answer == MORE && taken < book_len) {
+        size_t offer = book_len - taken < part ? book_len - taken : part;
+        reply = reader_feed(&r, book + taken, offer, lines + written, lines_len - written);
+        taken += reply.taken;
+        written += reply.written;
+    }
+    return number(&r, reply.answer, taken < book_len, written);
+}

@@ -1,0 +1,47 @@
+/* A plain C reader of the farm book, to measure against. */
+#ifndef READER_H
+#define READER_H
+
+#include <stddef.h>
+#include <stdint.h>
+
+struct figures {
+    uint64_t ch4, n2o, co2, excreted, land;
+};
+
+struct heading {
+    uint16_t group;
+    uint8_t class;
+    uint16_t head;
+    uint16_t days[3]; /* of kinds 3, 4 and 5 */
+};
+
+enum stage { NO_RECORD, OPEN, CLOSED_BOOK, REFUSED_BOOK };
+
+/* Starts all zero. */
+struct reader {
+    uint8_t stage;
+    uint8_t set;
+    uint16_t records;
+    struct heading heading;
+    struct figures sums;
+    uint8_t code, field; /* of the refusal */
+    uint8_t held_count;
+    uint8_t held[28];
+};
+
+enum answer { MORE, FULL, CLOSED, REFUSED };
+
+/* What one call gives beside the reader's new state. */
+struct reply {
+    enum answer answer;
+    size_t taken, written;
+};
+
+struct reply reader_feed(struct reader *reader, const uint8_t *input, size_t input_len, uint8_t *lines, size_t lines_len);
+
+/* As herd_desk: the whole book at once, or in parts of so many bytes. */
+uint64_t plain_desk(const uint8_t *book, size_t book_len, uint8_t *lines, size_t lines_len);
+uint64_t plain_parts(const uint8_t *book, size_t book_len, uint8_t *lines, size_t lines_len, size_t part);
+
+#endif

@@ -1,0 +1,64 @@
+//! How the bytes of a case are cut into calls, and how much room each call has.
+
+use crate::dice::Dice;
+use crate::feed::{feed, Answer};
+use crate::state::State;
+use crate::trial::Call;
+
+/// Around one line, one total and two lines; what a trial may ask at most is in the notes.
+const ROOMS: [usize; 13] = [0, 1, 45, 46, 47, 53, 54, 55, 91, 92, 93, 100, 1_000];
+
+/// The most room that a trial gives.
+pub const MOST_ROOM: usize = 16_384;
+
+const MOST_CALLS: usize = 60;
+
+/// How a case's calls are drawn.
+#[derive(Clone, Copy)]
+enum Style {
+    OneCall,
+    SmallParts,
+    ByteByByte,
+    ShortRooms,
+    AnyParts,
+}
+
+fn offer(dice: &mut Dice, style: Style, left: usize) -> usize {
+    match style {
+        Style::OneCall | Style::ShortRooms => left + dice.of(&[0, 0, 1, 1_000]),
+        Style::SmallParts => dice.of(&[1, 2, 3, 7, 16, 27, 28, 29, 64]),
+        Style::ByteByByte => 1,
+        Style::AnyParts => dice.below(left as u64 + 2) as usize,
+    }
+}
+
+fn room(dice: &mut Dice, style: Style) -> usize {
+    match style {
+        Style::OneCall => dice.of(&[4_096, 4_096, MOST_ROOM]),
+        Style::SmallParts | Style::ByteByByte => dice.of(&[54, 100, 1_000, 1_000]),
+        Style::ShortRooms => dice.of(&ROOMS),
+        Style::AnyParts => dice.below(300) as usize,
+    }
+}
+
+/// Calls until all is taken or the book ends, and a few beyond; short of that where there would be too many.
+pub fn some_calls(dice: &mut Dice, state: &State, input: &[u8]) -> Vec<Call> {
+    use Style::*;
+    let styles = [OneCall, OneCall, SmallParts, ByteByByte, ShortRooms, ShortRooms, AnyParts];
+    let style = dice.of(&styles);
+    let mut beyond = dice.below(3);
+    let mut calls = Vec::new();
+    let (mut state, mut left) = (*state, input);
+    loop {
+        let call = Call { offer: offer(dice, style, left.len()), room: room(dice, style) };
+        calls.push(call);
+        let reply = feed(&state, &left[..call.offer.min(left.len())], call.room);
+        left = &left[reply.taken..];
+        state = reply.state;
+        let ended = left.is_empty() || matches!(reply.answer, Answer::Closed | Answer::Refused(_));
+        if (ended && beyond == 0) || calls.len() >= MOST_CALLS {
+            return calls;
+        }
+        beyond -= u64::from(ended);
+    }
+}

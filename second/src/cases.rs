@@ -1,0 +1,329 @@
+//! Trial cases: one by chance for each seed and index, and the stored set, which is the same for ever.
+
+use crate::books::{
+    after, closed_run, damaged_run, right_close, right_run, values_outside, wrong_record,
+};
+use crate::calls::{some_calls, MOST_ROOM};
+use crate::dice::Dice;
+use crate::record::{fields_of, record_of};
+use crate::slips;
+use crate::state::{Heading, Refusal, State, CLOSED, MOST_RECORDS, NO_RECORD, OPEN, REFUSED};
+use crate::states::{bare_states, beside_bounds, heading_beside, most_sums, right_state};
+use crate::trial::{bytes_of, Call, Case};
+
+/// Document 01's sample book.
+pub const SAMPLE: &str = concat!(
+    "000901010000000707da01",
+    "00070102000c010028",
+    "000a0103001f00007530028a",
+    "000b0106010000007d00011170",
+    "000a0103001c00007530028a",
+    "000401080005",
+);
+
+pub fn sample() -> Vec<u8> {
+    bytes_of(SAMPLE).expect("the sample is hex")
+}
+
+/// The case of this seed and index.
+pub fn case(seed: u64, index: u64) -> Case {
+    let mut dice = Dice::of_case(seed, index);
+    let dice = &mut dice;
+    if dice.one_in(4_000) {
+        return longest_book(dice);
+    }
+    match dice.below(20) {
+        0..=3 => from_no_record(dice),
+        4..=6 => damaged(dice, &State::default()),
+        7..=9 => resumed(dice),
+        10..=11 => near_the_end(dice),
+        12..=13 => out_of_range(dice),
+        14 => ended(dice),
+        15 => any_bytes(dice),
+        16 => flipped(dice),
+        _ => slips::some_slip(dice),
+    }
+}
+
+fn book(dice: &mut Dice, state: State, input: Vec<u8>) -> Case {
+    let calls = some_calls(dice, &state, &input);
+    Case::Book { state, input, calls }
+}
+
+/// A right book, mostly closed, now and then with bytes behind its close.
+fn from_no_record(dice: &mut Dice) -> Case {
+    let count = dice.of(&[1, 2, 3, 5, 8, 8, 13, 20]);
+    let mut input = closed_run(dice, &State::default(), count);
+    match dice.below(6) {
+        0 => input.truncate(dice.below(input.len() as u64 + 1) as usize),
+        1 => input.push(dice.below(256) as u8),
+        _ => (),
+    }
+    book(dice, State::default(), input)
+}
+
+fn damaged(dice: &mut Dice, state: &State) -> Case {
+    let number = dice.between(1, 12) as u8;
+    let mut input = damaged_run(dice, state, number);
+    if dice.one_in(5) {
+        input.truncate(dice.below(input.len() as u64 + 1) as usize);
+    }
+    book(dice, *state, input)
+}
+
+/// Any open state in range, its next record partly held, right or wrong records coming.
+fn resumed(dice: &mut Dice) -> Case {
+    let state = right_state(dice, OPEN);
+    let count = dice.below(6);
+    let input = match dice.below(3) {
+        0 => {
+            let number = dice.between(1, 12) as u8;
+            damaged_run(dice, &state, number)
+        }
+        _ => closed_run(dice, &state, count),
+    };
+    let cut = dice.below(input.len().min(60) as u64 + 1) as usize;
+    let (held, rest) = input.split_at(cut);
+    let state = after(&state, held);
+    book(dice, state, rest.to_vec())
+}
+
+/// Open states with few records left, up to none.
+fn near_the_end(dice: &mut Dice) -> Case {
+    let mut state = right_state(dice, OPEN);
+    state.records = dice.of(&[4_092, 4_093, 4_094, 4_095, 4_095, 4_096, 4_096]);
+    if dice.one_in(3) {
+        return damaged(dice, &state);
+    }
+    let left = u64::from(MOST_RECORDS - state.records);
+    let count = dice.below(left + 2);
+    let mut input = right_run(dice, &state, count);
+    input.extend(right_close(&after(&state, &input)));
+    book(dice, state, input)
+}
+
+fn out_of_range(dice: &mut Dice) -> Case {
+    let stage = dice.of(&[NO_RECORD, OPEN, OPEN, CLOSED, REFUSED]);
+    let mut base = right_state(dice, stage);
+    if stage < CLOSED && base.records < MOST_RECORDS {
+        let bytes = right_run(dice, &base, 1);
+        let held = dice.below(bytes.len() as u64) as usize;
+        base = after(&base, &bytes[..held]);
+    }
+    let states = if dice.one_in(10) { bare_states() } else { beside_bounds(&base) };
+    let state = states[dice.below(states.len() as u64) as usize];
+    let count = dice.below(40) as usize;
+    let input: Vec<u8> = sample()[..count].to_vec();
+    book(dice, state, input)
+}
+
+/// A closed or refused state, offered more.
+fn ended(dice: &mut Dice) -> Case {
+    let stage = dice.of(&[CLOSED, REFUSED]);
+    let state = right_state(dice, stage);
+    let count = dice.below(40) as usize;
+    let input = sample()[..count].to_vec();
+    book(dice, state, input)
+}
+
+fn any_bytes(dice: &mut Dice) -> Case {
+    let stage = dice.of(&[NO_RECORD, OPEN]);
+    let state = right_state(dice, stage);
+    let mut input: Vec<u8> =
+        (0..dice.below(80)).map(|_| dice.of(&[0, 0, 1, 4, 9, 10, 200])).collect();
+    if input.len() > 1 && dice.one_in(2) {
+        input[..2].copy_from_slice(&[0, dice.between(4, 26) as u8]);
+    }
+    book(dice, state, input)
+}
+
+/// A right book with a few bits turned over.
+fn flipped(dice: &mut Dice) -> Case {
+    let count = dice.between(1, 10);
+    let mut input = closed_run(dice, &State::default(), count);
+    for _ in 0..dice.between(1, 3) {
+        let at = dice.below(input.len() as u64) as usize;
+        input[at] ^= 1 << dice.below(8);
+    }
+    book(dice, State::default(), input)
+}
+
+/// 4,096 records, or one more, of the two shortest kinds; many calls with the most room.
+fn longest_book(dice: &mut Dice) -> Case {
+    let mut input = record_of(1, &[dice.below(1 << 32), 2_010, dice.of(&[1, 2])]);
+    let details = dice.of(&[4_093, 4_094, 4_095]);
+    for i in 0..details {
+        if dice.one_in(3) {
+            input.extend(record_of(2, &[i + 1, dice.between(1, 4), dice.below(20_001)]));
+        } else {
+            input.extend(record_of(7, &[dice.edgy(0, 10_000_000)]));
+        }
+    }
+    input.extend(record_of(8, &[details + 1]));
+    let offer = input.len();
+    let calls = vec![Call { offer, room: MOST_ROOM }; 13];
+    Case::Book { state: State::default(), input, calls }
+}
+
+/// The stored set: named cases first, then some of each sort by chance.
+pub fn stored() -> Vec<Case> {
+    let mut cases = sample_cases();
+    cases.extend(field_ends());
+    cases.extend(each_place());
+    cases.extend(heaviest());
+    cases.extend(each_number());
+    cases.extend(each_clause());
+    cases.extend(slips::at_the_ends());
+    let mut dice = Dice::of_case(1, 0);
+    cases.push(longest_book(&mut dice));
+    cases.extend((0..60).map(|_| slips::some_slip(&mut dice)));
+    cases.extend((1..=150).map(|index| case(1, index)));
+    cases
+}
+
+fn whole(state: State, input: Vec<u8>, room: usize) -> Case {
+    let calls = vec![Call { offer: input.len(), room }];
+    Case::Book { state, input, calls }
+}
+
+/// The sample book whole, byte by byte, and with each room that matters.
+fn sample_cases() -> Vec<Case> {
+    let start = State::default();
+    let mut cases = vec![whole(start, sample(), 4_096), whole(start, Vec::new(), 0)];
+    for room in [0, 1, 45, 46, 47, 53, 54, 55, 91, 92, 93, 100, 191, 192] {
+        let calls = vec![Call { offer: 1_000, room }; 5];
+        cases.push(Case::Book { state: start, input: sample(), calls });
+    }
+    let calls = vec![Call { offer: 1, room: 54 }; sample().len() + 1];
+    cases.push(Case::Book { state: start, input: sample(), calls });
+    cases
+}
+
+/// Twelve heads of cattle or pigs, and nothing eaten yet.
+fn under(class: u8) -> State {
+    let heading = Heading { group: 5, class, head: 12, days: [0; 3] };
+    State { stage: OPEN, records: 2, set: 1, heading, ..State::default() }
+}
+
+fn place_of(kind: u8) -> State {
+    match kind {
+        1 => State::default(),
+        5 => under(4),
+        _ => under(1),
+    }
+}
+
+/// Records of a kind with each field at its ends, and outside them, all other fields right.
+pub fn field_end_records(kind: u8) -> Vec<Vec<u8>> {
+    let mut records = Vec::new();
+    for (position, f) in fields_of(kind).iter().enumerate() {
+        let mut values = vec![u64::from(f.low), u64::from(f.high)];
+        values.extend(values_outside(kind, position));
+        for value in values {
+            let mut v = plain_values(kind);
+            v[position] = value;
+            records.push(record_of(kind, &v));
+        }
+    }
+    records
+}
+
+fn field_ends() -> Vec<Case> {
+    let cases_of = |kind| {
+        field_end_records(kind).into_iter().map(move |record| whole(place_of(kind), record, 54))
+    };
+    (1..=8).flat_map(cases_of).collect()
+}
+
+/// Each kind with no record before it, with no heading, and under each class.
+fn each_place() -> Vec<Case> {
+    let no_heading = State { heading: Heading::default(), ..under(1) };
+    let mut places = vec![State::default(), no_heading];
+    places.extend((1..=4).map(under));
+    let mut cases = Vec::new();
+    for kind in 1..=8 {
+        let record = record_of(kind, &plain_values(kind));
+        cases.extend(places.iter().map(|&state| whole(state, record.clone(), 54)));
+    }
+    cases
+}
+
+/// The largest figures there are, added to the largest sums.
+fn heaviest() -> Vec<Case> {
+    let records: [(u8, &[u64]); 6] = [
+        (3, &[366, 100_000, 2_000]),
+        (4, &[366, 5_000, 4_000, 0, 0, 0, 0, 10_000, 0]),
+        (5, &[366, 1_000, 5_000, 2_000, 1_000, 4_000, 2_000, 10_000, 999, 10_000, 1, 9_999]),
+        (5, &[366, 1_000, 5_000, 2_000, 1_000, 4_000, 2_000, 10_000, 0, 10_000, 0, 10_000]),
+        (6, &[8, 10_000_000, 10_000_000]),
+        (7, &[10_000_000]),
+    ];
+    let mut cases = Vec::new();
+    for (kind, values) in records {
+        let mut state = place_of(kind);
+        state.heading.head = 20_000;
+        state.sums = most_sums(state.records);
+        let input = [record_of(kind, values), record_of(8, &[3])].concat();
+        cases.push(whole(state, input, 100));
+    }
+    cases
+}
+
+/// Right values of each kind, as the paper's examples have them where it gives any.
+pub fn plain_values(kind: u8) -> Vec<u64> {
+    match kind {
+        1 => vec![7, 2010, 1],
+        2 => vec![12, 1, 40],
+        3 => vec![31, 30_000, 650],
+        4 => vec![30, 2_000, 1_600, 3_000, 320, 0, 2_000, 8_000, 0],
+        5 => vec![100, 200, 1_000, 1_000, 200, 1_800, 1_000, 200, 250, 1_000, 0, 0],
+        6 => vec![1, 125, 70_000],
+        7 => vec![100],
+        _ => vec![2],
+    }
+}
+
+/// Each refusal number, several times, with room and without.
+fn each_number() -> Vec<Case> {
+    let mut cases = Vec::new();
+    let full = State { records: MOST_RECORDS, ..under(2) };
+    for number in 1..=12 {
+        for index in 0..4 {
+            let mut dice = Dice::of_case(2, u64::from(number) * 100 + index);
+            let state = if number == 5 { full } else { State::default() };
+            let input = damaged_run(&mut dice, &state, number);
+            cases.push(book(&mut dice, state, input));
+        }
+        cases.extend(no_room(number));
+    }
+    cases
+}
+
+/// A wrong record where even a right one would find no room.
+fn no_room(number: u8) -> Option<Case> {
+    let mut dice = Dice::of_case(3, u64::from(number));
+    let class = dice.of(&[1, 4]);
+    let mut state = under(if number == 11 { 1 } else { class });
+    state.heading.days = [300, 300, 300];
+    state.records = if number == 5 { MOST_RECORDS } else { 3 };
+    let input = wrong_record(&mut dice, &state, number)?;
+    Some(whole(state, input, 0))
+}
+
+/// Each part of a state at and beside its bounds, from a state of each sort.
+fn each_clause() -> Vec<Case> {
+    let mut held = under(3);
+    held.records = 7;
+    held.sums.ch4 = 1_000_000;
+    let held = after(&held, &sample()[20..26]);
+    let closed = State { stage: CLOSED, ..under(4) };
+    let mut refused = State { stage: REFUSED, ..under(2) };
+    refused.refusal = Refusal { code: 7, record: 2, field: 3 };
+    let mut states = bare_states();
+    for base in [State::default(), held, closed, refused] {
+        states.extend(beside_bounds(&base));
+    }
+    let without_heading = State { heading: Heading::default(), ..under(1) };
+    states.extend(heading_beside(&without_heading));
+    states.into_iter().map(|state| whole(state, vec![0], 54)).collect()
+}

@@ -1,0 +1,91 @@
+//! Books for the C host: a line each of book, room, the herd desk's number, and the lines.
+
+use crate::books::{closed_run, damaged_run, right_run};
+use crate::cases::{field_end_records, plain_values, sample};
+use crate::dice::Dice;
+use crate::feed::herd_desk;
+use crate::record::record_of;
+use crate::state::State;
+use crate::trial::hex;
+
+const ROOMS: [usize; 14] = [0, 1, 45, 46, 47, 53, 54, 55, 91, 92, 93, 100, 1_000, 8_192];
+
+/// The lines of one book, with many rooms, among them just enough and one byte less.
+pub fn book_text(dice: &mut Dice, book: &[u8]) -> String {
+    let enough = herd_desk(book, 1 << 20).1.len();
+    let mut rooms = ROOMS.to_vec();
+    rooms.extend([
+        enough,
+        enough + 1,
+        enough.saturating_sub(1),
+        dice.below(enough as u64 + 1) as usize,
+    ]);
+    rooms.sort_unstable();
+    rooms.dedup();
+    rooms.iter().map(|&room| desk_line(book, room)).collect()
+}
+
+fn desk_line(book: &[u8], room: usize) -> String {
+    let (number, lines) = herd_desk(book, room);
+    format!("{} {room:x} {number:x} {}\n", hex(book), hex(&lines))
+}
+
+/// The book of this seed and index: the sample, no bytes, then right, damaged, unfinished and trailing ones.
+pub fn some_book(dice: &mut Dice, index: u64) -> Vec<u8> {
+    let start = State::default();
+    let count = dice.between(1, 12);
+    match index {
+        0 => sample(),
+        1 => Vec::new(),
+        2..=13 => damaged_run(dice, &start, index as u8 - 1),
+        _ => match dice.below(6) {
+            0 | 1 => closed_run(dice, &start, count),
+            2 => right_run(dice, &start, count),
+            3 => [closed_run(dice, &start, count), vec![0; count as usize]].concat(),
+            4 => cut(dice, closed_run_of(count)),
+            _ => {
+                let number = dice.between(1, 12) as u8;
+                damaged_run(dice, &start, number)
+            }
+        },
+    }
+}
+
+/// A book for each field of each kind at its ends and outside them, a line each with room for all.
+pub fn field_end_text() -> String {
+    let mut text = String::new();
+    for kind in 1..=8 {
+        let place = match kind {
+            1 => Vec::new(),
+            2 => record_of(1, &plain_values(1)),
+            _ => {
+                let class = if kind == 5 { 4 } else { 1 };
+                [record_of(1, &plain_values(1)), record_of(2, &[5, class, 12])].concat()
+            }
+        };
+        for record in field_end_records(kind) {
+            text += &desk_line(&[place.clone(), record].concat(), 1_000);
+        }
+    }
+    text
+}
+
+/// A book made by dice of its own.
+fn closed_run_of(count: u64) -> Vec<u8> {
+    closed_run(&mut Dice::of_case(count, 0), &State::default(), count)
+}
+
+fn cut(dice: &mut Dice, mut book: Vec<u8>) -> Vec<u8> {
+    book.truncate(dice.below(book.len() as u64) as usize);
+    book
+}
+
+/// So many soil records between the farm and a right close.
+pub fn long_book(details: u64) -> Vec<u8> {
+    let mut book = record_of(1, &[7, 2010, 2]);
+    for area in 0..details {
+        book.extend(record_of(7, &[area]));
+    }
+    book.extend(record_of(8, &[details + 1]));
+    book
+}

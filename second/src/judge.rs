@@ -1,0 +1,136 @@
+//! Document 01, "Refusal numbers, in the order they are tried": what one whole record does, from 2 to 12.
+
+use crate::figures::{self, Figures};
+use crate::record::{big_endian, fields_of, length_of, values_of};
+use crate::state::{Heading, State, CLOSED, MOST_RECORDS, OPEN};
+
+/// A record's refusal: code, and field where the code is 7.
+pub type Fault = (u8, u8);
+
+/// An accepted record: the state after it and the bytes of its line, none for kinds 1 and 2.
+pub struct Accepted {
+    pub state: State,
+    pub line: Vec<u8>,
+}
+
+/// Judges a record whose bytes are all there and whose length is 4..26; the state's held bytes don't matter.
+pub fn judge(state: &State, record: &[u8]) -> Result<Accepted, Fault> {
+    let kind = kind_of(record)?;
+    in_its_place(state, kind)?;
+    let values = values_of(kind, record);
+    in_their_ranges(kind, &values)?;
+    makes_sense(state, kind, &values)?;
+    Ok(accept(&state.empty_handed(), kind, &values))
+}
+
+fn refuse_if(wrong: bool, code: u8) -> Result<(), Fault> {
+    if wrong {
+        Err((code, 0))
+    } else {
+        Ok(())
+    }
+}
+
+/// Refusals 2, 3 and 4.
+fn kind_of(record: &[u8]) -> Result<u8, Fault> {
+    let (version, kind) = (record[2], record[3]);
+    refuse_if(version != 1, 2)?;
+    refuse_if(!(1..=8).contains(&kind), 3)?;
+    refuse_if(record.len() != 2 + usize::from(length_of(kind)), 4)?;
+    Ok(kind)
+}
+
+/// Refusals 5 and 6.
+fn in_its_place(state: &State, kind: u8) -> Result<(), Fault> {
+    refuse_if(state.records >= MOST_RECORDS, 5)?;
+    let first = state.records == 0;
+    refuse_if(first != (kind == 1), 6)?;
+    let heading_fits = match kind {
+        3 | 4 => (1..=3).contains(&state.heading.class),
+        5 => state.heading.class == 4,
+        _ => true,
+    };
+    refuse_if(!heading_fits, 6)
+}
+
+/// Refusal 7, with the position of the first field out of range.
+fn in_their_ranges(kind: u8, values: &[u128]) -> Result<(), Fault> {
+    for (position, (f, &value)) in (1..).zip(fields_of(kind).iter().zip(values)) {
+        if value < u128::from(f.low) || value > u128::from(f.high) {
+            return Err((7, position));
+        }
+    }
+    Ok(())
+}
+
+/// Refusals 8 to 12.
+fn makes_sense(state: &State, kind: u8, v: &[u128]) -> Result<(), Fault> {
+    match kind {
+        2 => refuse_if(v[0] <= u128::from(state.heading.group), 8),
+        3 => days_fit(state, kind, v),
+        4 => {
+            days_fit(state, kind, v)?;
+            refuse_if(v[6] + v[7] + v[8] != 10_000, 10)?;
+            refuse_if(figures::x_of(v) < 0, 11)
+        }
+        5 => {
+            days_fit(state, kind, v)?;
+            refuse_if(v[8] + v[10] > 1_000, 10)
+        }
+        8 => refuse_if(v[0] != u128::from(state.records), 12),
+        _ => Ok(()),
+    }
+}
+
+/// Refusal 9.
+fn days_fit(state: &State, kind: u8, v: &[u128]) -> Result<(), Fault> {
+    let before = state.heading.days[usize::from(kind - 3)];
+    refuse_if(u128::from(before) + v[0] > 366, 9)
+}
+
+fn accept(state: &State, kind: u8, v: &[u128]) -> Accepted {
+    let counted = State { records: state.records + 1, stage: OPEN, ..*state };
+    let head = u128::from(state.heading.head);
+    match kind {
+        1 => Accepted { state: State { set: v[2] as u8, ..counted }, line: Vec::new() },
+        2 => Accepted { state: State { heading: heading_of(v), ..counted }, line: Vec::new() },
+        3 => detail(with_days(counted, kind, v), kind, figures::enteric(head, v)),
+        4 => detail(with_days(counted, kind, v), kind, figures::cattle(head, v)),
+        5 => detail(with_days(counted, kind, v), kind, figures::pig(head, v)),
+        6 => detail(counted, kind, figures::energy(v)),
+        7 => detail(counted, kind, figures::soil(v)),
+        _ => close(counted),
+    }
+}
+
+/// A new heading begins with day sums of zero.
+fn heading_of(v: &[u128]) -> Heading {
+    Heading { group: v[0] as u16, class: v[1] as u8, head: v[2] as u16, days: [0; 3] }
+}
+
+fn with_days(mut state: State, kind: u8, v: &[u128]) -> State {
+    state.heading.days[usize::from(kind - 3)] += v[0] as u16;
+    state
+}
+
+fn detail(state: State, kind: u8, made: Figures) -> Accepted {
+    let group = if kind <= 5 { state.heading.group } else { 0 };
+    let line = line_of(kind, group, &made.in_order());
+    Accepted { state: State { sums: state.sums.plus(made), ..state }, line }
+}
+
+fn close(state: State) -> Accepted {
+    let mut numbers = state.sums.in_order().to_vec();
+    numbers.push(figures::co2e(state.set, state.sums));
+    Accepted { state: State { stage: CLOSED, ..state }, line: line_of(8, 0, &numbers) }
+}
+
+fn line_of(kind: u8, group: u16, numbers: &[u64]) -> Vec<u8> {
+    let mut line = big_endian(4 + 8 * numbers.len() as u64, 2);
+    line.extend([1, kind]);
+    line.extend(group.to_be_bytes());
+    for &n in numbers {
+        line.extend(n.to_be_bytes());
+    }
+    line
+}

@@ -1,0 +1,35 @@
+//! The lister of document 01, "Figures to meet": a text line per line record, and a last word.
+
+use crate::feed::{feed, Answer};
+use crate::record::number;
+use crate::state::{State, MOST_RECORDS};
+
+/// The text for a whole book; bytes after the close are ignored.
+pub fn list(book: &[u8]) -> String {
+    let reply = feed(&State::default(), book, 54 * usize::from(MOST_RECORDS));
+    let mut text = String::new();
+    let mut at = 0;
+    while at < reply.lines.len() {
+        let end = at + 2 + number(&reply.lines[at..at + 2]) as usize;
+        text.push_str(&line_text(&reply.lines[at..end]));
+        at = end;
+    }
+    text.push_str(&last_word(reply.answer));
+    text
+}
+
+/// Kind, group, and every 8-byte figure of one line.
+fn line_text(line: &[u8]) -> String {
+    let mut words = vec![line[3].to_string(), number(&line[4..6]).to_string()];
+    words.extend(line[6..].chunks(8).map(|figure| number(figure).to_string()));
+    words.join(" ") + "\n"
+}
+
+fn last_word(answer: Answer) -> String {
+    match answer {
+        Answer::Closed => "closed\n".to_string(),
+        Answer::Refused(r) => format!("refused {} {} {}\n", r.code, r.record, r.field),
+        Answer::More => "unfinished\n".to_string(),
+        Answer::Full => unreachable!("the buffer holds the lines of any book"),
+    }
+}

@@ -1,0 +1,101 @@
+//! The second program: the farm book once more, from document 01 alone, to compare with.
+
+mod books;
+mod calls;
+mod cases;
+mod desk;
+mod dice;
+mod feed;
+mod figures;
+mod judge;
+mod lister;
+mod record;
+mod slip;
+mod slips;
+mod state;
+mod states;
+mod trial;
+
+#[cfg(test)]
+mod tests;
+
+use std::io::{self, BufRead, BufWriter, Read, Write};
+
+const USAGE: &str = "usage:
+  second list FILE|-                 the lister's text for a book
+  second stored                      the stored trial cases
+  second cases SEED COUNT [FIRST]    fresh trial cases, from the index FIRST on
+  second answers                     reads cases, writes what they should give
+  second desk SEED COUNT             books for the C host, with what they should give
+";
+
+fn main() {
+    let args: Vec<String> = std::env::args().skip(1).collect();
+    let words: Vec<&str> = args.iter().map(String::as_str).collect();
+    let done = match words[..] {
+        ["list", file] => list(file),
+        ["stored"] => write_all(cases::stored().into_iter().map(|case| case.text())),
+        ["cases", seed, count] => fresh(seed, count, "0"),
+        ["cases", seed, count, first] => fresh(seed, count, first),
+        ["answers"] => answers(),
+        ["desk", seed, count] => desk_books(seed, count),
+        _ => Err(USAGE.to_string()),
+    };
+    if let Err(fault) = done {
+        eprintln!("second: {fault}");
+        std::process::exit(1);
+    }
+}
+
+fn whole_number(text: &str) -> Result<u64, String> {
+    text.parse().map_err(|e| format!("{text:?}: {e}"))
+}
+
+/// Writes text after text, and tells of the first that can't be written.
+fn write_all(texts: impl Iterator<Item = String>) -> Result<(), String> {
+    let mut out = BufWriter::new(io::stdout().lock());
+    for text in texts {
+        out.write_all(text.as_bytes()).map_err(|e| e.to_string())?;
+    }
+    out.flush().map_err(|e| e.to_string())
+}
+
+fn list(file: &str) -> Result<(), String> {
+    let mut book = Vec::new();
+    let read = if file == "-" {
+        io::stdin().read_to_end(&mut book)
+    } else {
+        std::fs::File::open(file).and_then(|mut f| f.read_to_end(&mut book))
+    };
+    read.map_err(|e| format!("{file}: {e}"))?;
+    write_all(std::iter::once(lister::list(&book)))
+}
+
+fn fresh(seed: &str, count: &str, first: &str) -> Result<(), String> {
+    let (seed, count, first) = (whole_number(seed)?, whole_number(count)?, whole_number(first)?);
+    write_all((first..first + count).map(|index| cases::case(seed, index).text()))
+}
+
+/// One case at a time, so that any number of them can stream through.
+fn answers() -> Result<(), String> {
+    let mut out = BufWriter::new(io::stdout().lock());
+    for (number, line) in (1..).zip(io::stdin().lock().lines()) {
+        let line = line.map_err(|e| e.to_string())?;
+        let case = trial::Case::parse(&line).map_err(|fault| format!("line {number}: {fault}"))?;
+        out.write_all(case.answer().as_bytes()).map_err(|e| e.to_string())?;
+    }
+    out.flush().map_err(|e| e.to_string())
+}
+
+fn desk_books(seed: &str, count: &str) -> Result<(), String> {
+    let (seed, count) = (whole_number(seed)?, whole_number(count)?);
+    write_all((0..count).map(|index| {
+        let mut dice = dice::Dice::of_case(seed, index);
+        let book = desk::some_book(&mut dice, index);
+        desk::book_text(&mut dice, &book)
+    }))?;
+    write_all(std::iter::once(desk::field_end_text()))?;
+    let mut dice = dice::Dice::of_case(seed, count);
+    let long_books = [4_094, 4_095].into_iter().map(desk::long_book);
+    write_all(long_books.map(|book| desk::book_text(&mut dice, &book)))
+}

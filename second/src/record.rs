@@ -1,0 +1,101 @@
+//! Document 01, "The book": the table of the eight kinds, and numbers to bytes and back.
+
+/// One field: how many bytes it takes and the range it must lie in.
+pub struct Field {
+    pub bytes: usize,
+    pub low: u32,
+    pub high: u32,
+}
+
+const fn field(bytes: usize, low: u32, high: u32) -> Field {
+    Field { bytes, low, high }
+}
+
+const DAYS: Field = field(2, 1, 366);
+
+const FARM: [Field; 3] = [field(4, 0, u32::MAX), field(2, 1900, 2200), field(1, 1, 2)];
+const HEADING: [Field; 3] = [field(2, 1, 65_535), field(1, 1, 4), field(2, 0, 20_000)];
+const ENTERIC: [Field; 3] = [DAYS, field(4, 0, 100_000), field(2, 0, 2_000)];
+const CATTLE: [Field; 9] = [
+    DAYS,
+    field(2, 0, 5_000),
+    field(2, 0, 4_000),
+    field(2, 0, 8_000),
+    field(2, 0, 800),
+    field(2, 0, 3_000),
+    field(2, 0, 10_000),
+    field(2, 0, 10_000),
+    field(2, 0, 10_000),
+];
+const PIG: [Field; 12] = [
+    DAYS,
+    field(2, 0, 1_000),
+    field(2, 0, 5_000),
+    field(2, 0, 2_000),
+    field(2, 0, 1_000),
+    field(2, 0, 4_000),
+    field(2, 0, 2_000),
+    field(2, 0, 10_000),
+    field(2, 0, 1_000),
+    field(2, 0, 10_000),
+    field(2, 0, 1_000),
+    field(2, 0, 10_000),
+];
+const ENERGY: [Field; 3] = [field(1, 1, 8), field(4, 0, 10_000_000), field(4, 0, 10_000_000)];
+const SOIL: [Field; 1] = [field(4, 0, 10_000_000)];
+const CLOSE: [Field; 1] = [field(2, 0, 65_535)];
+
+/// The lengths that a record may state at all.
+pub const LENGTHS: std::ops::RangeInclusive<u16> = 4..=26;
+
+/// The fields of a kind 1..8, in order.
+pub fn fields_of(kind: u8) -> &'static [Field] {
+    match kind {
+        1 => &FARM,
+        2 => &HEADING,
+        3 => &ENTERIC,
+        4 => &CATTLE,
+        5 => &PIG,
+        6 => &ENERGY,
+        7 => &SOIL,
+        8 => &CLOSE,
+        _ => panic!("{kind} is no kind"),
+    }
+}
+
+/// The length that a kind's record states: version, kind and fields.
+pub fn length_of(kind: u8) -> u16 {
+    let bytes: usize = fields_of(kind).iter().map(|f| f.bytes).sum();
+    u16::try_from(2 + bytes).expect("a record is short")
+}
+
+/// An unsigned big-endian number.
+pub fn number(bytes: &[u8]) -> u128 {
+    bytes.iter().fold(0, |n, &byte| n * 256 + u128::from(byte))
+}
+
+/// The field values of a whole record of this kind.
+pub fn values_of(kind: u8, record: &[u8]) -> Vec<u128> {
+    let mut at = 4;
+    let mut values = Vec::new();
+    for f in fields_of(kind) {
+        values.push(number(&record[at..at + f.bytes]));
+        at += f.bytes;
+    }
+    values
+}
+
+/// The last `bytes` bytes of a number, high byte first.
+pub fn big_endian(value: u64, bytes: usize) -> Vec<u8> {
+    value.to_be_bytes()[8 - bytes..].to_vec()
+}
+
+/// A record of this kind with these values; a value too big for its field loses its high bytes.
+pub fn record_of(kind: u8, values: &[u64]) -> Vec<u8> {
+    let mut record = big_endian(u64::from(length_of(kind)), 2);
+    record.extend([1, kind]);
+    for (f, &value) in fields_of(kind).iter().zip(values) {
+        record.extend(big_endian(value, f.bytes));
+    }
+    record
+}

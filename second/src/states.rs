@@ -1,0 +1,200 @@
+//! States by chance: ones in range, and ones with a single part at or beside its bound.
+
+use crate::dice::Dice;
+use crate::figures::Figures;
+use crate::state::{Heading, Refusal, State, CLOSED, MOST_RECORDS, NO_RECORD, OPEN, REFUSED};
+
+/// Grams that a record can add: CH4, N2O, CO2, excreted N, land N.
+const BOUNDS: [u64; 5] =
+    [100_000_000_000, 10_000_000_000, 10_000_000_000_000, 100_000_000_000, 100_000_000_000];
+
+fn figures_of([ch4, n2o, co2, excreted, land]: [u64; 5]) -> Figures {
+    Figures { ch4, n2o, co2, excreted, land }
+}
+
+/// The sums at their bounds.
+pub fn most_sums(records: u16) -> Figures {
+    figures_of(BOUNDS.map(|bound| u64::from(records) * bound))
+}
+
+/// A state in range at this stage, holding no bytes.
+pub fn right_state(dice: &mut Dice, stage: u8) -> State {
+    let fewest = match stage {
+        NO_RECORD => return State::default(),
+        OPEN => 1,
+        CLOSED => 2,
+        _ => 0,
+    };
+    let records = dice.edgy(fewest, u64::from(MOST_RECORDS)) as u16;
+    let mut state = State { stage, records, ..State::default() };
+    if records > 0 {
+        state.set = dice.of(&[1, 2]);
+        state.sums = figures_of(BOUNDS.map(|bound| some_sum(dice, u64::from(records) * bound)));
+    }
+    if records > 1 && !dice.one_in(4) {
+        state.heading = some_heading(dice);
+    }
+    if stage == REFUSED {
+        state.refusal = some_refusal(dice, records);
+    }
+    state
+}
+
+fn some_sum(dice: &mut Dice, bound: u64) -> u64 {
+    match dice.below(4) {
+        0 => 0,
+        1 => bound,
+        2 => dice.below(1_000_000).min(bound),
+        _ => dice.between(0, bound),
+    }
+}
+
+fn some_heading(dice: &mut Dice) -> Heading {
+    Heading {
+        group: dice.edgy(1, 65_535) as u16,
+        class: dice.between(1, 4) as u8,
+        head: dice.edgy(0, 20_000) as u16,
+        days: [0; 3].map(|_| dice.of(&[0, 0, 1, 100, 365, 366])),
+    }
+}
+
+fn some_refusal(dice: &mut Dice, record: u16) -> Refusal {
+    let code = dice.between(1, 12) as u8;
+    let field = if code == 7 { dice.between(1, 12) as u8 } else { 0 };
+    Refusal { code, record, field }
+}
+
+/// The state with one part changed, to each value at or beside a bound of that part; none twice.
+pub fn beside_bounds(base: &State) -> Vec<State> {
+    let parts = [
+        stage_beside(base),
+        heading_beside(base),
+        sums_beside(base),
+        refusal_beside(base),
+        held_beside(base),
+    ];
+    let mut states = Vec::new();
+    for state in parts.concat() {
+        if state != *base && !states.contains(&state) {
+            states.push(state);
+        }
+    }
+    states
+}
+
+fn stage_beside(base: &State) -> Vec<State> {
+    let mut states = Vec::new();
+    for stage in [0, 1, 2, 3, 4, 255] {
+        states.push(State { stage, ..*base });
+    }
+    for records in [0, 1, 2, 4_095, 4_096, 4_097, 65_535] {
+        states.push(State { records, ..*base });
+        let refusal = Refusal { record: records, ..base.refusal };
+        states.push(State { records, refusal, ..*base });
+    }
+    for set in [0, 1, 2, 3, 255] {
+        states.push(State { set, ..*base });
+    }
+    states
+}
+
+pub fn heading_beside(base: &State) -> Vec<State> {
+    let with = |heading| State { heading, ..*base };
+    let h = base.heading;
+    let mut states = Vec::new();
+    for group in [0, 1, 65_535] {
+        states.push(with(Heading { group, ..h }));
+    }
+    for class in [0, 1, 4, 5, 255] {
+        states.push(with(Heading { class, ..h }));
+    }
+    for head in [0, 1, 20_000, 20_001, 65_535] {
+        states.push(with(Heading { head, ..h }));
+    }
+    for kind in 0..3 {
+        for days in [0, 1, 366, 367, 65_535] {
+            let mut changed = h;
+            changed.days[kind] = days;
+            states.push(with(changed));
+        }
+    }
+    states.push(with(Heading::default()));
+    states.push(with(Heading { group: 1, class: 1, head: 0, days: [0; 3] }));
+    states
+}
+
+fn sums_beside(base: &State) -> Vec<State> {
+    let mut states = Vec::new();
+    for (i, bound) in BOUNDS.iter().enumerate() {
+        let most = u64::from(base.records) * bound;
+        for value in [0, most, most + 1, u64::MAX] {
+            let mut sums = base.sums.in_order();
+            sums[i] = value;
+            states.push(State { sums: figures_of(sums), ..*base });
+        }
+    }
+    states
+}
+
+fn refusal_beside(base: &State) -> Vec<State> {
+    let with = |refusal| State { refusal, ..*base };
+    let r = base.refusal;
+    let mut states = Vec::new();
+    for code in [0, 1, 6, 7, 8, 12, 13, 255] {
+        states.push(with(Refusal { code, ..r }));
+    }
+    for record in [0, base.records.wrapping_sub(1), base.records, base.records + 1, 65_535] {
+        states.push(with(Refusal { record, ..r }));
+    }
+    for field in [0, 1, 12, 13, 255] {
+        states.push(with(Refusal { field, ..r }));
+    }
+    states
+}
+
+fn held_beside(base: &State) -> Vec<State> {
+    let count = base.held_count;
+    let mut states = Vec::new();
+    for held_count in [0, 1, 2, count.wrapping_sub(1), count + 1, 26, 27, 28, 1 << 32, u64::MAX] {
+        states.push(State { held_count, ..*base });
+    }
+    for at in [0, count.min(26) as usize, 26] {
+        let mut state = *base;
+        state.held[at] ^= 1;
+        states.push(state);
+    }
+    for length in [0, 1, 3, 4, 26, 27, 255, 256, 259, 260, 65_535] {
+        states.push(holding(base, length, count));
+    }
+    // A record with one byte missing is held; with none missing it would be fulfilled.
+    for length in [4, 9, 25, 26] {
+        for held_count in [u64::from(length) + 1, u64::from(length) + 2] {
+            states.push(holding(base, length, held_count));
+        }
+    }
+    states
+}
+
+/// The state with a stated length in its first two held bytes, and so many held.
+fn holding(base: &State, length: u16, held_count: u64) -> State {
+    let mut held = base.held;
+    held[..2].copy_from_slice(&length.to_be_bytes());
+    for place in held.iter_mut().skip(held_count as usize) {
+        *place = 0;
+    }
+    State { held, held_count, ..*base }
+}
+
+/// States where stage, count of records and warming set meet their bounds together, all else zero.
+pub fn bare_states() -> Vec<State> {
+    let mut states = Vec::new();
+    for (stage, records) in [(0, 0), (0, 1), (1, 0), (1, 1), (2, 0), (2, 1), (2, 2), (3, 0), (3, 1)]
+    {
+        for set in [0, 1, 2] {
+            let code = if stage == REFUSED { 4 } else { 0 };
+            let refusal = Refusal { code, record: if code > 0 { records } else { 0 }, field: 0 };
+            states.push(State { stage, records, set, refusal, ..State::default() });
+        }
+    }
+    states
+}
