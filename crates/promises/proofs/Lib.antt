@@ -3,3 +3,6 @@ pub mod RuleThree
 pub mod SureStep
 pub mod StaysInRange
 pub mod OneAnswer
+pub mod Headings
+pub mod Paper
+pub mod Taken

@@ -1,0 +1,208 @@
+-- Headings: every line of kinds 3, 4 and 5 bears the group of the last heading record before it; the state's, where held bytes and run
+-- complete none before it.
+-- Assumes nothing.
+use Prim.Native.Nat.{ℕ, zero, suc, _+_, _-_, _*_, _/_, _%_, _≤_, _<_}
+use mathlib.Core.Path.{_≡_, refl, sym, ap, _∙_}
+use mathlib.Core.List.{List, [], _∷_, _++_, map, append-assoc, append-nil}
+use mathlib.Core.Bool.{Bool, true, false, _&&_, _||_, not}
+use mathlib.Core.Logic.{_⊎_, inl, inr, ⊎-elim}
+use native.Mathlib.Omega.{arith}
+use borrow.Author.Tests.{leb-true, eqb-true, le-leb, ne-eqb}
+use lib.ListN.{length, getD, take, drop, length-append, length-drop}
+use lib.Dec.{leb, eqb}
+use Rattle.codec.specs.Table.{table, fields, lineFields, totalFields}
+use Rattle.codec.specs.Codec.{pick, valAt, be, valuesAt, bytesOf, lineBytes, totalBytes}
+use Rattle.account.specs.declared.Account.{Account}
+use Rattle.account.specs.declared.Heading.{Heading}
+use Rattle.account.specs.Line.{joined, groupOf, lineOf, totalOf}
+use Rattle.account.specs.Range.{Headed, Unheaded, Fair}
+use Rattle.account.specs.Judge.{kindOf, valuesOf, underHeading, first, refusals, Step, accepted, judge}
+use Rattle.account.proofs.Tests.{by-test, not-false, and-r, lt-or-ge}
+use Rattle.account.proofs.First.{first-clear}
+use Rattle.account.proofs.Keeps.{fair-judge}
+use Rattle.book.specs.declared.State.{State}
+use Rattle.book.specs.Front.{Front, unfinished, badLength, whole, need, front}
+use Rattle.book.specs.State.{heldOf, holding, InRange}
+use Rattle.book.specs.Run.{Run, book, run}
+use Rattle.book.proofs.FrontLaws.{meaning}
+use Rattle.book.proofs.RunLaws.{book-ended, book-unfinished, book-bad, book-whole}
+use Rattle.promises.specs.Headings.{beginsWith, recordsBy, recordsOf, lastGroup, Mark, markOf, ownMark, marksOf}
+
+-- ---- the records of some bytes
+
+rest-short : (xs : List ℕ) (n : ℕ) → front xs ≡ whole → length xs < suc n → length (drop (need xs) xs) < n
+rest-short xs n e h = let m = meaning xs whole e in rw length-drop (omega arith)
+
+same-begin : (f : Front) (xs : List ℕ) (p q : List (List ℕ)) → (f ≡ whole → p ≡ q) → beginsWith f xs p ≡ beginsWith f xs q
+same-begin unfinished xs p q h = refl
+same-begin badLength xs p q h = refl
+same-begin whole xs p q h = ap (λ (l : List (List ℕ)). take (need xs) xs ∷ l) (h refl)
+
+enough : (n m : ℕ) (xs : List ℕ) → length xs < n → length xs < m → recordsBy n xs ≡ recordsBy m xs
+unfolding recordsBy
+enough zero m xs p q = absurd (omega arith)
+enough (suc n) zero xs p q = absurd (omega arith)
+enough (suc n) (suc m) xs p q =
+    same-begin (front xs) xs (recordsBy n (drop (need xs) xs)) (recordsBy m (drop (need xs) xs))
+    (λ e. enough n m (drop (need xs) xs) (rest-short xs n e p) (rest-short xs m e q))
+
+records-whole : (xs : List ℕ) → front xs ≡ whole → recordsOf xs ≡ take (need xs) xs ∷ recordsOf (drop (need xs) xs)
+unfolding recordsOf recordsBy
+records-whole xs e =
+    rw e
+    (ap (λ (l : List (List ℕ)). take (need xs) xs ∷ l)
+    (enough (length xs) (suc (length (drop (need xs) xs))) (drop (need xs) xs) (rest-short xs (length xs) e (omega arith)) (omega arith)))
+
+-- ---- what a line bears
+
+both-same : (k k′ g g′ : ℕ) → k ≡ k′ → g ≡ g′ → _≡_ {A = Mark} (record { kind = k; group = g }) (record { kind = k′; group = g′ })
+both-same k k′ g g′ p q = rw (p, q)
+
+line-mark : (k g ch4 n2o co2 excreted land : ℕ) → k < 256 → g < 65536 → markOf (lineBytes k g ch4 n2o co2 excreted land) ≡ record { kind = k; group = g }
+unfolding lineBytes lineFields bytesOf be valAt
+line-mark k g ch4 n2o co2 excreted land p q =
+    both-same (0 + k % 256) k ((0 + g / 256 % 256) * 256 + g % 256) g (omega arith) (omega arith)
+
+total-mark : (ch4 n2o co2 excreted land co2e : ℕ) → markOf (totalBytes ch4 n2o co2 excreted land co2e) ≡ record { kind = 8; group = 0 }
+unfolding totalBytes totalFields bytesOf be valAt
+total-mark ch4 n2o co2 excreted land co2e = refl
+
+group-most : (a : Account) → Fair a → a .heading .group ≤ 65535
+group-most a f = ⊎-elim (λ (h : Headed (a .heading) (a .days) (a .records)). h .group-most) (λ (u : Unheaded (a .heading) (a .days)). omega arith) (f .heading)
+
+-- ---- what one record does
+
+-- it is accepted: one record more, its line bears what it should, and the group is that of the last heading
+record Grown (a : Account) (r : List ℕ) (j : Step) : Type 0 where
+  counted : j .account .records ≡ a .records + 1
+  marks : map markOf (j .lines) ≡ ownMark (a .heading .group) (kindOf r)
+  group : j .account .heading .group ≡ lastGroup (a .heading .group) (r ∷ [])
+
+-- or refused: no record more, and no line
+record Stopped (a : Account) (j : Step) : Type 0 where
+  stage : j .account .stage ≡ 3
+  counted : j .account .records ≡ a .records
+  none : j .lines ≡ []
+
+module _ (a : Account) (r : List ℕ) (f : Fair a) (kinds : leb 1 (kindOf r) && leb (kindOf r) 8 ≡ true) where
+  bound : pick (leb (kindOf r) 5) (a .heading .group) 0 < 65536
+  bound = by-test (λ (n : ℕ). n < 65536) (leb (kindOf r) 5) (λ e. omega (arith, group-most a f)) (λ e. omega arith)
+
+  small-kind : kindOf r < 256
+  small-kind = omega (arith, leb-true (kindOf r) 8 (and-r (leb 1 (kindOf r)) (leb (kindOf r) 8) kinds))
+
+  new-heading : eqb (kindOf r) 2 ≡ true
+      → Grown a r (record { account = underHeading a (getD (valuesOf r) 0 0) (getD (valuesOf r) 1 0) (getD (valuesOf r) 2 0); lines = [] })
+  unfolding table valuesAt lastGroup
+  new-heading e = let k = eqb-true (kindOf r) 2 e in record { counted = refl; marks = rw k refl; group = rw k refl }
+
+  grown : Grown a r (accepted a (kindOf r) (valuesOf r))
+  unfolding accepted lastGroup
+  grown =
+      by-test (Grown a r) (eqb (kindOf r) 1)
+      (λ e1. let k = eqb-true (kindOf r) 1 e1 in record { counted = refl; marks = rw k refl; group = rw k refl })
+      (λ e1. by-test (Grown a r) (eqb (kindOf r) 2) new-heading
+      (λ e2. by-test (Grown a r) (eqb (kindOf r) 8)
+      (λ e8. let k = eqb-true (kindOf r) 8 e8 in record { counted = refl; marks = rw k (ap (λ (m : Mark). m ∷ []) (total-mark _ _ _ _ _ _)); group = rw k refl })
+      (λ e8. record { counted = refl; marks = rw (e1, e2) (ap (λ (m : Mark). m ∷ []) (line-mark _ _ _ _ _ _ _ small-kind bound)); group = rw e2 refl })))
+
+kind-in : (a : Account) (r : List ℕ) → first (refusals a r) ≡ 0 → leb 1 (kindOf r) && leb (kindOf r) 8 ≡ true
+kind-in a r e =
+    let t = first-clear (refusals a r) (omega arith, (omega arith, (omega arith, (omega arith, (omega arith, (omega arith, (omega arith, (omega arith, (omega arith, (omega arith, (omega arith, tt))))))))))) e in
+    not-false _ (t .1 .0 (omega arith))
+
+judged : (a : Account) (r : List ℕ) → Fair a → Stopped a (judge a r) ⊎ Grown a r (judge a r)
+unfolding judge
+judged a r f =
+    by-test (λ (j : Step). Stopped a j ⊎ Grown a r j) (eqb (first (refusals a r)) 0)
+    (λ e. inr (grown a r f (kind-in a r (eqb-true _ _ e))))
+    (λ e. inl (record { stage = refl; counted = refl; none = refl }))
+
+-- ---- a run of records
+
+map-append : (xs ys : List (List ℕ)) → map markOf (xs ++ ys) ≡ map markOf xs ++ map markOf ys
+map-append [] ys = refl
+map-append (x ∷ xs) ys = ap (λ (l : List Mark). markOf x ∷ l) (map-append xs ys)
+
+-- the lines of a run bear what those of the records accepted should
+record Marked (a : Account) (xs : List ℕ) (r : Run) : Type 0 where
+  grows : a .records ≤ r .state .account .records
+  marks : map markOf (r .lines) ≡ marksOf (a .heading .group) (take (r .state .account .records - a .records) (recordsOf xs))
+
+-- nothing accepted, no line
+none-marked : (a : Account) (xs : List ℕ) (r : Run) → r .state .account .records ≡ a .records → r .lines ≡ [] → Marked a xs r
+unfolding marksOf
+none-marked a xs r e n =
+    let z : r .state .account .records - a .records ≡ 0 = omega arith in
+    record { grows = omega arith; marks = rw (n, z) refl }
+
+-- one accepted, and then those behind it
+one-marked : (a : Account) (xs : List ℕ) (j : Step) (b : Run) → front xs ≡ whole → Grown a (take (need xs) xs) j → Marked (j .account) (drop (need xs) xs) b
+    → Marked a xs (record { state = b .state; lines = j .lines ++ b .lines; left = b .left })
+unfolding marksOf
+one-marked a xs j b e g m =
+    let n : b .state .account .records - a .records ≡ suc (b .state .account .records - j .account .records) = omega (arith, g .counted, m .grows) in
+    record {
+      grows = omega (arith, g .counted, m .grows);
+      marks = rw (map-append, g .marks, m .marks, g .group, n, records-whole xs e) refl;
+    }
+
+marked-at : (a : Account) (xs : List ℕ) → Fair a → a .stage < 2 → ((t : Account) (zs : List ℕ) → length zs < length xs → Fair t → Marked t zs (book t zs))
+    → (f : Front) → front xs ≡ f → Marked a xs (book a xs)
+marked-at a xs v k ih unfinished e = rw (book-unfinished a xs k e) (none-marked a xs _ refl refl)
+marked-at a xs v k ih badLength e = rw (book-bad a xs k e) (none-marked a xs _ refl refl)
+marked-at a xs v k ih whole e =
+    let m = meaning xs whole e in
+    let j = judge a (take (need xs) xs) in
+    let rest = drop (need xs) xs in
+    let short : length rest < length xs = rw length-drop (omega arith) in
+    rw (book-whole a xs k e)
+    (⊎-elim
+    (λ (s : Stopped a j).
+    let c = s .counted in
+    rw (book-ended (j .account) rest (omega (arith, s .stage)), s .none) (none-marked a xs _ c refl))
+    (λ (g : Grown a (take (need xs) xs) j). one-marked a xs j (book (j .account) rest) e g (ih (j .account) rest short (fair-judge a (take (need xs) xs) v k)))
+    (judged a (take (need xs) xs) v))
+
+marked : (n : ℕ) (a : Account) (xs : List ℕ) → length xs < n → Fair a → Marked a xs (book a xs)
+marked zero a xs h v = absurd (omega arith)
+marked (suc n) a xs h v =
+    ⊎-elim
+    (λ (k : a .stage < 2). marked-at a xs v k (λ t zs p w. marked n t zs (omega arith) w) (front xs) refl)
+    (λ (k : 2 ≤ a .stage). rw (book-ended a xs k) (none-marked a xs _ refl refl))
+    (lt-or-ge (a .stage) 2)
+
+-- the records that a run from s over xs accepts, of those that held bytes and run make together
+abbrev pub acceptedRecords : State → List ℕ → List (List ℕ)
+acceptedRecords s xs = take (run s xs .state .account .records - s .account .records) (recordsOf (heldOf s ++ xs))
+
+-- Line by line: the lines of a run bear the kinds of the records accepted, and the groups of the last headings before them, beginning
+-- with the group of the state.
+pub headings : (s : State) (xs : List ℕ) → InRange s → map markOf (run s xs .lines) ≡ marksOf (s .account .heading .group) (acceptedRecords s xs)
+unfolding run
+headings s xs v = marked (suc (length (heldOf s ++ xs))) (s .account) (heldOf s ++ xs) (omega arith) (v .account) .marks
+
+-- ---- at any one record
+
+marks-append : (g : ℕ) (xs ys : List (List ℕ)) → marksOf g (xs ++ ys) ≡ marksOf g xs ++ marksOf (lastGroup g xs) ys
+unfolding marksOf lastGroup
+marks-append g [] ys = refl
+marks-append g (x ∷ xs) ys = rw (marks-append (pick (eqb (kindOf x) 2) (valAt x 4 2) g) xs ys, append-assoc)
+
+under-heading : (g : ℕ) (r : List ℕ) (rs : List (List ℕ)) → 3 ≤ kindOf r → kindOf r ≤ 5 → marksOf g (r ∷ rs) ≡ record { kind = kindOf r; group = g } ∷ marksOf g rs
+unfolding marksOf lastGroup
+under-heading g r rs p q =
+    let one : eqb (kindOf r) 1 ≡ false = ne-eqb (kindOf r) 1 (λ e. omega (arith, e)) in
+    let two : eqb (kindOf r) 2 ≡ false = ne-eqb (kindOf r) 2 (λ e. omega (arith, e)) in
+    rw (one, two, le-leb _ _ q) refl
+
+-- Every ration and manure line bears the last group heading before it: where the records accepted are some, then r of kind 3, 4 or 5, then
+-- others, the lines are those of the first ones, then one of r's kind with the group of the last heading among the first ones (the
+-- state's where there is none), then those of the others.
+pub bears-last-heading : (s : State) (xs : List ℕ) → InRange s → (before after : List (List ℕ)) (r : List ℕ) → acceptedRecords s xs ≡ before ++ (r ∷ after) → 3 ≤ kindOf r → kindOf r ≤ 5
+    → map markOf (run s xs .lines)
+    ≡ marksOf (s .account .heading .group) before
+    ++ (record { kind = kindOf r; group = lastGroup (s .account .heading .group) before } ∷ marksOf (lastGroup (s .account .heading .group) before) after)
+bears-last-heading s xs v before after r e p q =
+    headings s xs v
+    ∙ rw (e, marks-append (s .account .heading .group) before (r ∷ after), under-heading (lastGroup (s .account .heading .group) before) r after p q) refl

@@ -1,0 +1,87 @@
+-- The paper's figures: P1 to P12, and the sample book, each computed from the definitions. And every premise of the promises is met by some
+-- state and some book: by the one before any record, by the sample book, and by one with a wrong length.
+-- Assumes nothing.
+use Prim.Native.Nat.{ℕ}
+use mathlib.Core.Path.{_≡_, refl, ap}
+use mathlib.Core.List.{List, [], _∷_, _++_}
+use mathlib.Core.Bool.{false}
+use mathlib.Core.Logic.{inl}
+use lib.Dec.{T}
+use lib.ListN.{getD, take, drop}
+use Rattle.codec.specs.Table.{table, size, lineFields, totalFields}
+use Rattle.codec.specs.Codec.{valAt, be, valuesAt, bytesOf, firstBad, recordBytes, lineBytes, totalBytes}
+use Rattle.grams.specs.Round.{roundDiv}
+use Rattle.grams.specs.Cattle as cattle
+use Rattle.grams.specs.Pig as pig
+use Rattle.grams.specs.Farm.{energyOf, soilOf, co2eOf}
+use Rattle.grams.specs.Cases.{every}
+use Rattle.account.specs.Figures.{figuresOf}
+use Rattle.account.specs.Range.{fair}
+use Rattle.account.specs.Judge.{kindOf, noRecord, refused, first, inPlace, accepted, judge}
+use Rattle.book.specs.Front.{front}
+use Rattle.book.specs.State.{noRecordYet, holding, inRange, InRange}
+use Rattle.book.specs.Run.{bookBy, book, run}
+use Rattle.book.specs.Call.{longest, answerOf, call}
+use Rattle.book.specs.Way.{Part, way, Ended}
+use Rattle.book.proofs.RunLaws.{run-leaves}
+use Rattle.book.proofs.RangeLaws.{range-new}
+use Rattle.promises.specs.Headings.{recordsBy, recordsOf, lastGroup}
+use Rattle.promises.specs.Paper.{verdictOf, paper, sample, sampleLines}
+use Rattle.promises.proofs.Headings.{acceptedRecords}
+
+-- P1 to P12: each row of the table gives what document 01 prints.
+pub figures-to-meet : T (every paper)
+unfolding table size valAt be valuesAt bytesOf firstBad recordBytes roundDiv cattle.entericOf cattle.belowZero cattle.manureOf pig.manureOf soilOf figuresOf first inPlace accepted judge front bookBy book run
+figures-to-meet = tt
+
+-- The sample book is accepted and closed, gives document 01's lines and total, and leaves nothing.
+pub sample-lines : run noRecordYet sample .lines ≡ sampleLines
+unfolding table size valAt valuesAt firstBad roundDiv cattle.entericOf energyOf co2eOf figuresOf first inPlace accepted judge front bookBy book run
+sample-lines = refl
+
+pub sample-closed : verdictOf (run noRecordYet sample .state .account) ≡ 2 ∷ 6 ∷ 0 ∷ 0 ∷ 0 ∷ []
+unfolding table size valAt valuesAt firstBad roundDiv cattle.entericOf energyOf co2eOf figuresOf first inPlace accepted judge front bookBy book run
+sample-closed = refl
+
+pub sample-left : run noRecordYet sample .left ≡ []
+unfolding table size valAt valuesAt firstBad first inPlace accepted judge front bookBy book run
+sample-left = refl
+
+-- ---- the premises are met
+
+-- A state in range that is open: the one before any record.
+pub open-state : InRange noRecordYet
+open-state = range-new
+
+-- One that is closed, and one that is refused.
+pub closed-state : InRange (run noRecordYet sample .state) × (run noRecordYet sample .state .account .stage ≡ 2)
+closed-state = (run-leaves noRecordYet sample range-new .range, ap (λ (l : List ℕ). getD l 0 0) sample-closed)
+
+pub refused-state : InRange (run noRecordYet (0 ∷ 3 ∷ []) .state) × (run noRecordYet (0 ∷ 3 ∷ []) .state .account .stage ≡ 3)
+unfolding valAt front bookBy book run
+refused-state = (run-leaves noRecordYet (0 ∷ 3 ∷ []) range-new .range, refl)
+
+-- One outside the ranges: a refusal stored under the number 13.
+pub outside-state : inRange (holding (refused noRecord 13 0) []) ≡ false
+unfolding inRange fair
+outside-state = refl
+
+-- A way that is at its end: the sample book in five parts, with buffers that are too small at first.
+abbrev pub parts : List Part
+parts =
+    record { offered = 25; room = 0 }
+    ∷ record { offered = 7; room = 45 }
+    ∷ record { offered = 30; room = 50 }
+    ∷ record { offered = 100; room = 92 }
+    ∷ record { offered = 100; room = 54 }
+    ∷ []
+
+pub ended-way : Ended (way noRecordYet sample parts)
+unfolding table size valAt be valuesAt firstBad bytesOf lineBytes totalBytes lineFields totalFields roundDiv cattle.entericOf energyOf co2eOf figuresOf fair first inPlace accepted judge front bookBy book run inRange longest answerOf call way
+ended-way = inl refl
+
+-- A ration after a heading: the third record of the sample, under group 12.
+pub ration-under-heading : (acceptedRecords noRecordYet sample ≡ take 2 (recordsOf sample) ++ (getD (recordsOf sample) 2 [] ∷ drop 3 (recordsOf sample)))
+    × ((kindOf (getD (recordsOf sample) 2 []) ≡ 3) × (lastGroup 0 (take 2 (recordsOf sample)) ≡ 12))
+unfolding table size valAt valuesAt firstBad first inPlace accepted judge front bookBy book run recordsBy recordsOf lastGroup
+ration-under-heading = (refl, (refl, refl))

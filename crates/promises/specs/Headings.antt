@@ -1,0 +1,48 @@
+-- Document 01, rule 3: "Every ration and manure line bears the last group heading before it." Said over the records that the bytes make:
+-- there is no state, no call and no line buffer in it.
+-- Assumes nothing.
+use Prim.Native.Nat.{ℕ, zero, suc}
+use mathlib.Core.List.{List, [], _∷_, _++_}
+use mathlib.Core.Bool.{_||_}
+use lib.ListN.{length, take, drop}
+use lib.Dec.{leb, eqb}
+use Rattle.codec.specs.Codec.{pick, valAt}
+use Rattle.account.specs.Judge.{kindOf}
+use Rattle.book.specs.Front.{Front, unfinished, badLength, whole, need, front}
+
+-- a whole record at the front of xs, and then others
+abbrev pub beginsWith : Front → List ℕ → List (List ℕ) → List (List ℕ)
+beginsWith unfinished xs others = []
+beginsWith badLength xs others = []
+beginsWith whole xs others = take (need xs) xs ∷ others
+
+-- at most n records of xs
+unfoldable pub recordsBy : ℕ → List ℕ → List (List ℕ)
+recordsBy zero xs = []
+recordsBy (suc n) xs = beginsWith (front xs) xs (recordsBy n (drop (need xs) xs))
+
+-- the whole records of xs, one after the other, up to an unfinished one or a length that no record has
+unfoldable pub recordsOf : List ℕ → List (List ℕ)
+recordsOf xs = recordsBy (suc (length xs)) xs
+
+-- the group of the last heading record (kind 2) of rs; g where there is none
+unfoldable pub lastGroup : ℕ → List (List ℕ) → ℕ
+lastGroup g [] = g
+lastGroup g (r ∷ rs) = lastGroup (pick (eqb (kindOf r) 2) (valAt r 4 2) g) rs
+
+-- what a line bears: its kind and its group, read from its bytes
+pub record Mark : Type 0 where
+  pub kind : ℕ
+  pub group : ℕ
+
+abbrev pub markOf : List ℕ → Mark
+markOf l = record { kind = valAt l 3 1; group = valAt l 4 2 }
+
+-- what the line of a record of kind k bears, g being the last group before it: kinds 3 to 5 bear g, 6 to 8 bear 0, and 1 and 2 have no line
+abbrev pub ownMark : ℕ → ℕ → List Mark
+ownMark g k = pick (eqb k 1 || eqb k 2) [] (record { kind = k; group = pick (leb k 5) g 0 } ∷ [])
+
+-- what the lines of the records rs bear, g being the last group before them
+unfoldable pub marksOf : ℕ → List (List ℕ) → List Mark
+marksOf g [] = []
+marksOf g (r ∷ rs) = ownMark g (kindOf r) ++ marksOf (lastGroup g (r ∷ [])) rs
