@@ -13,5 +13,5 @@ close-spec =
     tie.close
     (tie.spec
     (λ c. omega arith)
-    (λ c. too-high 0 (fields 8) _ (omega arith) (lit< tt) (omega arith))
-    (λ c. none-bad 1 (fields 8) _ (omega arith) (lit≤ tt)))
+    (λ c. too-high 0 (fields 8) _ 0 (omega arith) (lit< tt) (omega arith))
+    (λ c. none-bad 1 (fields 8) _ 0 (omega arith) (lit≤ tt)))

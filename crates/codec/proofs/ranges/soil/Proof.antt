@@ -13,5 +13,5 @@ soil-spec =
     tie.close
     (tie.spec
     (λ c. omega arith)
-    (λ c. too-high 0 (fields 7) _ (omega arith) (lit< tt) (omega arith))
-    (λ c. none-bad 1 (fields 7) _ (omega arith) (lit≤ tt)))
+    (λ c. too-high 0 (fields 7) _ 0 (omega arith) (lit< tt) (omega arith))
+    (λ c. none-bad 1 (fields 7) _ 0 (omega arith) (lit≤ tt)))
