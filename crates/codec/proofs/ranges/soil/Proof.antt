@@ -2,7 +2,7 @@
 -- Assumes nothing.
 use lib.Dec.{lit<, lit≤}
 use Rattle.codec.specs.Table.{table, fields}
-use Rattle.codec.proofs.Within.{too-low, too-high, none-bad}
+use Rattle.codec.proofs.Within.{too-high, none-bad}
 use native.Mathlib.Omega.{arith}
 use Rattle.codec.proofs.ranges.soil.Statement.{statement}
 use Rattle.codec.proofs.ranges.soil.Tie as tie
