@@ -5,7 +5,7 @@ use mathlib.Core.Bool.{Bool, true, false}
 use mathlib.Core.List.{List, [], _∷_}
 use Prim.Native.Nat.{ℕ, zero, suc, _+_, _<_, _≤_, suc-le-suc}
 use native.Mathlib.Omega.{arith}
-use native.Mathlib.Nat.{zero-add, add-zero, add-suc, suc-add, not-suc-le-zero, le-of-suc-le-suc}
+use native.Mathlib.Nat.{add-zero, add-suc, suc-add, not-suc-le-zero, le-of-suc-le-suc}
 use borrow.Author.Tests.{leb-true, le-leb, lt-leb}
 use lib.Dec.{leb}
 use lib.ListN.{length, getD, drop, drop-of-length-le}
@@ -65,7 +65,8 @@ Good zero fs vs i = Unit
 Good (suc n) [] vs i = Unit
 Good (suc n) (f ∷ fs) vs i = (f .1 ≤ getD vs i 0) × (getD vs i 0 ≤ f .2) × Good n fs vs (suc i)
 
-passed : (n : ℕ) (fs : List Field) (vs : List ℕ) (i : ℕ) → Good n fs vs i → firstBad fs vs i ≡ firstBad (drop n fs) vs (i + n)
+-- then the first out of its range is among those after them
+pub passed : (n : ℕ) (fs : List Field) (vs : List ℕ) (i : ℕ) → Good n fs vs i → firstBad fs vs i ≡ firstBad (drop n fs) vs (i + n)
 unfolding firstBad
 passed zero fs vs i g = rw add-zero
 passed (suc n) [] vs i g = refl
@@ -75,21 +76,18 @@ same-both : (b : Bool) (m : ℕ) → pick b m m ≡ m
 same-both true m = refl
 same-both false m = refl
 
-module _ (n : ℕ) (fs : List Field) (vs : List ℕ) (g : Good n fs vs 0) where
-  here : firstBad fs vs 0 ≡ firstBad (drop n fs) vs n
-  here = passed n fs vs 0 g ∙ ap (λ k. firstBad (drop n fs) vs k) (zero-add n)
-
+module _ (n : ℕ) (fs : List Field) (vs : List ℕ) (i : ℕ) (g : Good n fs vs i) where
   -- the value after them is below its lowest
-  pub too-low : n < length fs → getD vs n 0 < getD fs n none .1 → suc n ≡ firstBad fs vs 0
+  pub too-low : n < length fs → getD vs (i + n) 0 < getD fs n none .1 → suc (i + n) ≡ firstBad fs vs i
   unfolding firstBad
-  too-low h l = sym (here ∙ ap (λ k. firstBad k vs n) (drop-cons fs n none h) ∙ rw (lt-leb _ _ l))
+  too-low h l = sym (passed n fs vs i g ∙ ap (λ k. firstBad k vs (i + n)) (drop-cons fs n none h) ∙ rw (lt-leb _ _ l))
 
   -- the value after them is above its highest
-  pub too-high : n < length fs → getD fs n none .2 < getD vs n 0 → suc n ≡ firstBad fs vs 0
+  pub too-high : n < length fs → getD fs n none .2 < getD vs (i + n) 0 → suc (i + n) ≡ firstBad fs vs i
   unfolding firstBad
-  too-high h l = sym (here ∙ ap (λ k. firstBad k vs n) (drop-cons fs n none h) ∙ rw (lt-leb _ _ l, same-both))
+  too-high h l = sym (passed n fs vs i g ∙ ap (λ k. firstBad k vs (i + n)) (drop-cons fs n none h) ∙ rw (lt-leb _ _ l, same-both))
 
   -- there is no value after them
-  pub none-bad : length fs ≤ n → 0 ≡ firstBad fs vs 0
+  pub none-bad : length fs ≤ n → 0 ≡ firstBad fs vs i
   unfolding firstBad
-  none-bad h = sym (here ∙ ap (λ k. firstBad k vs n) (drop-of-length-le fs h))
+  none-bad h = sym (passed n fs vs i g ∙ ap (λ k. firstBad k vs (i + n)) (drop-of-length-le fs h))

@@ -1,5 +1,6 @@
 // The position, from 1, of the first value out of its range, or 0: a function for each kind, held to the kind's row of the table.
 ghost use mathlib.Core.Path.{_≡_};
+ghost use lib.ListN.{drop};
 ghost use Rattle.codec.specs.Table.{fields};
 ghost use Rattle.codec.specs.Codec.{firstBad};
 
@@ -120,6 +121,13 @@ pub fn pig(v: [u64; 12]) -> u8
     if 1000 < v[4] {
         return 5;
     }
+    pig_nitrogen(v)
+}
+
+// The pig's fields from protein on: after the five that its CH4 wants.
+fn pig_nitrogen(v: [u64; 12]) -> u8
+    ensures { λ r. ⌜ r ≡ firstBad (drop 5 (fields 5)) v 5 ⌝ }
+{
     if 4000 < v[5] {
         return 6;
     }

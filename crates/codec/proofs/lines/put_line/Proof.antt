@@ -1,5 +1,6 @@
 -- `codec::lines::put_line` meets its contract.
 -- Assumes nothing.
+use mathlib.Core.Path.{refl}
 use Rattle.codec.specs.Table.{lineFields}
 use Rattle.codec.specs.Codec.{lineBytes}
 use Rattle.codec.proofs.Stores.{bytes-stored}
@@ -17,4 +18,4 @@ put-line-spec =
     (λ c κs. omega arith)
     (λ c κs. omega arith)
     (λ c. omega arith)
-    (λ c. rw (bytes-stored, c .before .before .five .ensures, c .before .before .before .before .before .before .put2 .ensures, c .before .before .before .before .before .before .before .before .before .before .start .ensures)))
+    (λ c. rw (bytes-stored, c .before .before .five .ensures, c .before .before .before .before .before .before .put2 .ensures, c .before .before .before .before .before .before .before .before .before .before .start .ensures) refl))

@@ -1,5 +1,6 @@
 -- `codec::lines::put_total` meets its contract.
 -- Assumes nothing.
+use mathlib.Core.Path.{refl}
 use Rattle.codec.specs.Table.{totalFields}
 use Rattle.codec.specs.Codec.{totalBytes}
 use Rattle.codec.proofs.Stores.{bytes-stored}
@@ -19,4 +20,4 @@ put-total-spec =
     (λ c. omega arith)
     (λ c κs. omega arith)
     (λ c. omega arith)
-    (λ c. rw (bytes-stored, c .before .before .put8 .ensures, c .before .before .before .before .before .before .five .ensures, c .before .before .before .before .before .before .before .before .before .before .put2 .ensures, c .before .before .before .before .before .before .before .before .before .before .before .before .before .before .start .ensures)))
+    (λ c. rw (bytes-stored, c .before .before .put8 .ensures, c .before .before .before .before .before .before .five .ensures, c .before .before .before .before .before .before .before .before .before .before .put2 .ensures, c .before .before .before .before .before .before .before .before .before .before .before .before .before .before .start .ensures) refl))

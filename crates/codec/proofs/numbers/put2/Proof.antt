@@ -1,5 +1,6 @@
 -- `codec::numbers::put2` meets its contract.
 -- Assumes nothing.
+use mathlib.Core.Path.{refl}
 use native.Mathlib.Omega.{arith}
 use native.Mathlib.Numerals.{add-one}
 use lib.ListN.{length-set}
@@ -18,4 +19,4 @@ put2-spec =
     (λ c. omega arith)
     (λ c. simp length-set (omega arith))
     (λ c. simp length-set)
-    (λ c. rw add-one))
+    (λ c. rw add-one refl))

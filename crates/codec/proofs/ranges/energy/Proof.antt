@@ -13,11 +13,11 @@ energy-spec =
     tie.close
     (tie.spec
     (λ c. omega arith)
-    (λ c. too-low 0 (fields 6) _ (omega arith) (lit< tt) (omega arith))
+    (λ c. too-low 0 (fields 6) _ 0 (omega arith) (lit< tt) (omega arith))
     (λ c. omega arith)
-    (λ c. too-high 0 (fields 6) _ (omega arith) (lit< tt) (omega arith))
+    (λ c. too-high 0 (fields 6) _ 0 (omega arith) (lit< tt) (omega arith))
     (λ c. omega arith)
-    (λ c. too-high 1 (fields 6) _ (omega arith) (lit< tt) (omega arith))
+    (λ c. too-high 1 (fields 6) _ 0 (omega arith) (lit< tt) (omega arith))
     (λ c. omega arith)
-    (λ c. too-high 2 (fields 6) _ (omega arith) (lit< tt) (omega arith))
-    (λ c. none-bad 3 (fields 6) _ (omega arith) (lit≤ tt)))
+    (λ c. too-high 2 (fields 6) _ 0 (omega arith) (lit< tt) (omega arith))
+    (λ c. none-bad 3 (fields 6) _ 0 (omega arith) (lit≤ tt)))

@@ -13,11 +13,11 @@ enteric-spec =
     tie.close
     (tie.spec
     (λ c. omega arith)
-    (λ c. too-low 0 (fields 3) _ (omega arith) (lit< tt) (omega arith))
+    (λ c. too-low 0 (fields 3) _ 0 (omega arith) (lit< tt) (omega arith))
     (λ c. omega arith)
-    (λ c. too-high 0 (fields 3) _ (omega arith) (lit< tt) (omega arith))
+    (λ c. too-high 0 (fields 3) _ 0 (omega arith) (lit< tt) (omega arith))
     (λ c. omega arith)
-    (λ c. too-high 1 (fields 3) _ (omega arith) (lit< tt) (omega arith))
+    (λ c. too-high 1 (fields 3) _ 0 (omega arith) (lit< tt) (omega arith))
     (λ c. omega arith)
-    (λ c. too-high 2 (fields 3) _ (omega arith) (lit< tt) (omega arith))
-    (λ c. none-bad 3 (fields 3) _ (omega arith) (lit≤ tt)))
+    (λ c. too-high 2 (fields 3) _ 0 (omega arith) (lit< tt) (omega arith))
+    (λ c. none-bad 3 (fields 3) _ 0 (omega arith) (lit≤ tt)))

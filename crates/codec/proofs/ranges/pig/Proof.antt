@@ -1,9 +1,10 @@
 -- `codec::ranges::pig` meets its contract: what each test has found out.
 -- Assumes nothing.
-use lib.Dec.{lit<, lit≤}
-use Rattle.codec.specs.Table.{table, fields}
-use Rattle.codec.proofs.Within.{too-low, too-high, none-bad}
+use mathlib.Core.Path.{sym, _∙_}
+use lib.Dec.{lit<}
 use native.Mathlib.Omega.{arith}
+use Rattle.codec.specs.Table.{table, fields}
+use Rattle.codec.proofs.Within.{passed, too-low, too-high}
 use Rattle.codec.proofs.ranges.pig.Statement.{statement}
 use Rattle.codec.proofs.ranges.pig.Tie as tie
 
@@ -13,29 +14,16 @@ pig-spec =
     tie.close
     (tie.spec
     (λ c. omega arith)
-    (λ c. too-low 0 (fields 5) _ (omega arith) (lit< tt) (omega arith))
+    (λ c. too-low 0 (fields 5) _ 0 (omega arith) (lit< tt) (omega arith))
     (λ c. omega arith)
-    (λ c. too-high 0 (fields 5) _ (omega arith) (lit< tt) (omega arith))
+    (λ c. too-high 0 (fields 5) _ 0 (omega arith) (lit< tt) (omega arith))
     (λ c. omega arith)
-    (λ c. too-high 1 (fields 5) _ (omega arith) (lit< tt) (omega arith))
+    (λ c. too-high 1 (fields 5) _ 0 (omega arith) (lit< tt) (omega arith))
     (λ c. omega arith)
-    (λ c. too-high 2 (fields 5) _ (omega arith) (lit< tt) (omega arith))
+    (λ c. too-high 2 (fields 5) _ 0 (omega arith) (lit< tt) (omega arith))
     (λ c. omega arith)
-    (λ c. too-high 3 (fields 5) _ (omega arith) (lit< tt) (omega arith))
+    (λ c. too-high 3 (fields 5) _ 0 (omega arith) (lit< tt) (omega arith))
     (λ c. omega arith)
-    (λ c. too-high 4 (fields 5) _ (omega arith) (lit< tt) (omega arith))
-    (λ c. omega arith)
-    (λ c. too-high 5 (fields 5) _ (omega arith) (lit< tt) (omega arith))
-    (λ c. omega arith)
-    (λ c. too-high 6 (fields 5) _ (omega arith) (lit< tt) (omega arith))
-    (λ c. omega arith)
-    (λ c. too-high 7 (fields 5) _ (omega arith) (lit< tt) (omega arith))
-    (λ c. omega arith)
-    (λ c. too-high 8 (fields 5) _ (omega arith) (lit< tt) (omega arith))
-    (λ c. omega arith)
-    (λ c. too-high 9 (fields 5) _ (omega arith) (lit< tt) (omega arith))
-    (λ c. omega arith)
-    (λ c. too-high 10 (fields 5) _ (omega arith) (lit< tt) (omega arith))
-    (λ c. omega arith)
-    (λ c. too-high 11 (fields 5) _ (omega arith) (lit< tt) (omega arith))
-    (λ c. none-bad 12 (fields 5) _ (omega arith) (lit≤ tt)))
+    (λ c. too-high 4 (fields 5) _ 0 (omega arith) (lit< tt) (omega arith))
+    (λ c κs. omega arith)
+    (λ c. c .pig-nitrogen .ensures ∙ sym (passed 5 (fields 5) _ 0 (omega arith))))

@@ -2,7 +2,7 @@
 -- Assumes nothing.
 use lib.Dec.{lit<, lit≤}
 use Rattle.codec.specs.Table.{table, fields}
-use Rattle.codec.proofs.Within.{too-low, too-high, none-bad}
+use Rattle.codec.proofs.Within.{too-high, none-bad}
 use native.Mathlib.Omega.{arith}
 use Rattle.codec.proofs.ranges.soil.Statement.{statement}
 use Rattle.codec.proofs.ranges.soil.Tie as tie
@@ -13,5 +13,5 @@ soil-spec =
     tie.close
     (tie.spec
     (λ c. omega arith)
-    (λ c. too-high 0 (fields 7) _ (omega arith) (lit< tt) (omega arith))
-    (λ c. none-bad 1 (fields 7) _ (omega arith) (lit≤ tt)))
+    (λ c. too-high 0 (fields 7) _ 0 (omega arith) (lit< tt) (omega arith))
+    (λ c. none-bad 1 (fields 7) _ 0 (omega arith) (lit≤ tt)))

@@ -1,5 +1,6 @@
 -- `codec::read::heading` meets its contract.
 -- Assumes nothing.
+use mathlib.Core.Path.{refl}
 use Rattle.codec.specs.Table.{table}
 use Rattle.codec.proofs.Values.{values-placed}
 use native.Mathlib.Omega.{arith}
@@ -16,4 +17,4 @@ heading-spec =
     (λ c κs. omega arith)
     (λ c. omega arith)
     (λ c κs. omega arith)
-    (λ c. rw (values-placed, c .be162 .ensures, c .before .be8 .ensures, c .before .before .be16 .ensures)))
+    (λ c. rw (values-placed, c .be162 .ensures, c .before .be8 .ensures, c .before .before .be16 .ensures) refl))

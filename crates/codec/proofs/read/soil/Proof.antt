@@ -1,5 +1,6 @@
 -- `codec::read::soil` meets its contract.
 -- Assumes nothing.
+use mathlib.Core.Path.{refl}
 use Rattle.codec.specs.Table.{table}
 use Rattle.codec.proofs.Values.{values-placed}
 use native.Mathlib.Omega.{arith}
@@ -12,4 +13,4 @@ soil-spec =
     tie.close
     (tie.spec
     (λ c κs. omega arith)
-    (λ c. rw (values-placed, c .be32 .ensures)))
+    (λ c. rw (values-placed, c .be32 .ensures) refl))

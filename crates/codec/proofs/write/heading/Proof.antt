@@ -1,5 +1,6 @@
 -- `codec::write::heading` meets its contract.
 -- Assumes nothing.
+use mathlib.Core.Path.{refl}
 use Rattle.codec.specs.Table.{table, size}
 use Rattle.codec.proofs.Stores.{fields-stored}
 use native.Mathlib.Omega.{arith}
@@ -22,4 +23,4 @@ heading-spec =
     (λ c. omega arith)
     (λ c κs. omega arith)
     (λ c. omega arith)
-    (λ c. rw (fields-stored, c .before .before .put22 .ensures, c .before .before .before .before .before .before .put1 .ensures, c .before .before .before .before .before .before .before .before .before .before .put2 .ensures, c .before .before .before .before .before .before .before .before .before .before .before .before .before .before .start .ensures)))
+    (λ c. rw (fields-stored, c .before .before .put22 .ensures, c .before .before .before .before .before .before .put1 .ensures, c .before .before .before .before .before .before .before .before .before .before .put2 .ensures, c .before .before .before .before .before .before .before .before .before .before .before .before .before .before .start .ensures) refl))
