@@ -13,11 +13,11 @@ use Rattle.slip_text.specs.Asked.{pick}
 abbrev pub scaled : Float → Float
 scaled x = add binary64 (mul binary64 x (round binary64 false 1000 1)) (round binary64 false 1 2)
 
--- that whole part is a number of 64 bits
+-- x is a number from 0 to 10^12: up to there whole thousandths are doubles exactly
 abbrev pub showable : Float → Bool
-showable x = lt (fin true 1 (pos 0)) (scaled x) && lt (scaled x) (fin false 1 (pos 64))
+showable x = lt (fin true 1 (pos 0)) (scaled x) && lt (scaled x) (round binary64 false 1000000000000000 1)
 
--- x with three decimals; a dash where it is too large, below zero, or no number
+-- x with three decimals; a dash where it is not from 0 to 10^12, or no number
 unfoldable pub shown : Float → List ℕ
 shown x = pick (showable x) (thousandths (toUnsigned 64 (scaled x))) (45 ∷ [])
 

@@ -102,7 +102,7 @@ fn put_shown(out: &mut [u8], at: usize, x: f64) -> usize
     ensures { λ r. ⌜ r ≤ at + 24 ⌝ }
 {
     let y = x * 1000.0 + 0.5;
-    if (-1.0 < y) & (y < 18446744073709551616.0) {
+    if (-1.0 < y) & (y < 1000000000000000.0) {
         return text::put_thousandths(out, at, std::num::truncating_f64_to_u64(y));
     }
     text::put_byte(out, at, b'-')
