@@ -1,0 +1,5 @@
+mod Blanks
+mod Decimals
+mod Quotient
+mod Same
+mod Values

@@ -1,0 +1,42 @@
+-- The words of a line that a person types for document 01's what-if slip.
+use Prim.Native.Nat.{ℕ, zero, suc}
+use mathlib.Core.Bool.{Bool, true, false, _&&_, _||_, Bool·beq}
+use mathlib.Core.List.{List, [], _∷_}
+use lib.ListN.{take, drop}
+use lib.Dec.{eqb}
+
+-- a space, a tab or a carriage return
+abbrev pub isBlank : ℕ → Bool
+isBlank b = (eqb b 32 || eqb b 9) || eqb b 13
+
+abbrev pub oneMore : Bool → ℕ → ℕ
+oneMore true n = suc n
+oneMore false n = 0
+
+-- how many bytes at the start are blanks, or, with false, are none
+unfoldable pub leadingOf : Bool → List ℕ → ℕ
+leadingOf blanks [] = 0
+leadingOf blanks (b ∷ s) = oneMore (Bool·beq (isBlank b) blanks) (leadingOf blanks s)
+
+-- s behind its leading blanks
+abbrev pub trimmed : List ℕ → List ℕ
+trimmed s = drop (leadingOf true s) s
+
+-- the first word, and what stands behind it
+abbrev pub firstWord : List ℕ → List ℕ
+firstWord s = take (leadingOf false (trimmed s)) (trimmed s)
+
+abbrev pub pastWord : List ℕ → List ℕ
+pastWord s = drop (leadingOf false (trimmed s)) (trimmed s)
+
+-- the word behind n others: empty where there are no more
+unfoldable pub nthWord : ℕ → List ℕ → List ℕ
+nthWord zero s = firstWord s
+nthWord (suc n) s = nthWord n (pastWord s)
+
+-- two words are the same, byte for byte
+unfoldable pub sameText : List ℕ → List ℕ → Bool
+sameText [] [] = true
+sameText [] (b ∷ t) = false
+sameText (a ∷ s) [] = false
+sameText (a ∷ s) (b ∷ t) = eqb a b && sameText s t

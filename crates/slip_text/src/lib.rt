@@ -1,0 +1,143 @@
+// The what-if slip as text: a typed line read as a ration and a change, and a slip put on a line.
+ghost use mathlib.Core.Path.{_≡_};
+ghost use Prim.Native.Nat.{_+_, _≤_};
+ghost use lib.ListN.{length};
+ghost use mathlib.Core.List.{_∷_, []};
+ghost use Rattle.text.specs.Decimal.{decimal, Put};
+ghost use Rattle.reading.specs.Words.{nthWord};
+ghost use Rattle.reading.specs.Numbers.{decimalOf};
+ghost use Rattle.slip_text.specs.Asked.{changeNamed, daysOf, askedOf};
+ghost use Rattle.slip_text.specs.Shown.{shown, spacedShown, rationText, slipLine};
+use slip::Change;
+use slip::Ration;
+use slip::Slip;
+
+// What a line asks: nothing where it has no word.
+pub enum Asked {
+    Nothing,
+    Estimate(Ration, Change),
+    Wrong,
+}
+
+// A change by its name; with another name it is not good.
+struct Named {
+    good: bool,
+    change: Change,
+}
+
+fn decimal_word(line: &[u8], n: usize) -> reading::Double
+    ensures { λ r. ⌜ r ≡ decimalOf (nthWord n (now (line .entry))) ⌝ }
+{
+    reading::read_decimal(reading::word(line, n))
+}
+
+// Whole days that a ration can carry.
+fn read_days(line: &[u8]) -> reading::Whole
+    ensures { λ r. ⌜ r ≡ daysOf (nthWord 3 (now (line .entry))) ⌝ }
+    ensures { λ r. ⌜ r .value ≤ 65535 ⌝ }
+{
+    let days = reading::read_whole(reading::word(line, 3));
+    if days.value <= 65535 {
+        return days;
+    }
+    reading::Whole {
+        good: false,
+        value: 0,
+    }
+}
+
+fn read_change(line: &[u8], x: f64) -> Named
+    ensures { λ r. ⌜ r ≡ changeNamed (nthWord 4 (now (line .entry))) x ⌝ }
+{
+    let name = reading::word(line, 4);
+    if reading::is_word(name, b"feed") {
+        return Named {
+            good: true,
+            change: Change::Feed(x),
+        };
+    }
+    if reading::is_word(name, b"ym") {
+        return Named {
+            good: true,
+            change: Change::Ym(x),
+        };
+    }
+    Named {
+        good: reading::is_word(name, b"head"),
+        change: Change::Head(x),
+    }
+}
+
+// GE Ym head days CHANGE X
+pub fn read_line(line: &[u8]) -> Asked
+    ensures { λ r. ⌜ r ≡ askedOf (now (line .entry)) ⌝ }
+{
+    if reading::word(line, 0).len() == 0 {
+        return Asked::Nothing;
+    }
+    let ge = decimal_word(line, 0);
+    let ym = decimal_word(line, 1);
+    let head = decimal_word(line, 2);
+    let days = read_days(line);
+    let x = decimal_word(line, 5);
+    let named = read_change(line, x.value);
+    let more = reading::word(line, 6).len();
+    if ge.good & ym.good & head.good & days.good & named.good & x.good & (more == 0) {
+        let ration = Ration {
+            ge: ge.value,
+            ym: ym.value,
+            head: head.value,
+            days: days.value as u16,
+        };
+        let change = named.change;
+        return Asked::Estimate(ration, change);
+    }
+    Asked::Wrong
+}
+
+// Three decimals, or a dash.
+fn put_shown(out: &mut [u8], at: usize, x: f64) -> usize
+    requires { ⌜ at + 24 ≤ length (now out) ⌝ }
+    ensures { λ r. ⌜ Put (now (out .entry)) (now (out .exit)) at (shown x) r ⌝ }
+    ensures { λ r. ⌜ r ≤ at + 24 ⌝ }
+{
+    let y = x * 1000.0 + 0.5;
+    if (-1.0 < y) & (y < 1000000000000000.0) {
+        return text::put_thousandths(out, at, std::num::truncating_f64_to_u64(y));
+    }
+    text::put_byte(out, at, b'-')
+}
+
+fn put_spaced_shown(out: &mut [u8], at: usize, x: f64) -> usize
+    requires { ⌜ at + 25 ≤ length (now out) ⌝ }
+    ensures { λ r. ⌜ Put (now (out .entry)) (now (out .exit)) at (spacedShown x) r ⌝ }
+    ensures { λ r. ⌜ r ≤ at + 25 ⌝ }
+{
+    let after = text::put_byte(out, at, b' ');
+    put_shown(out, after, x)
+}
+
+fn put_ration(out: &mut [u8], at: usize, r: Ration) -> usize
+    requires { ⌜ at + 96 ≤ length (now out) ⌝ }
+    ensures { λ q. ⌜ Put (now (out .entry)) (now (out .exit)) at (rationText r) q ⌝ }
+    ensures { λ q. ⌜ q ≤ at + 96 ⌝ }
+{
+    let ge = put_spaced_shown(out, at, r.ge);
+    let ym = put_spaced_shown(out, ge, r.ym);
+    let head = put_spaced_shown(out, ym, r.head);
+    let after = text::put_byte(out, head, b' ');
+    text::put_decimal(out, after, r.days as u64)
+}
+
+// One line of at most 142 bytes.
+pub fn put_slip(out: &mut [u8], at: usize, s: Slip) -> usize
+    requires { ⌜ at + 142 ≤ length (now out) ⌝ }
+    ensures { λ r. ⌜ Put (now (out .entry)) (now (out .exit)) at (slipLine s) r ⌝ }
+    ensures { λ r. ⌜ r ≤ at + 142 ⌝ }
+{
+    let ration = s.ration;
+    let code = text::put_decimal(out, at, s.code as u64);
+    let days = put_ration(out, code, ration);
+    let kg = put_spaced_shown(out, days, s.kg);
+    text::put_byte(out, kg, b'\n')
+}
