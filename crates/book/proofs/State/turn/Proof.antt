@@ -1,7 +1,7 @@
 use mathlib.Core.Path.{_≡_, sym, _∙_}
 use native.Mathlib.Omega.{arith}
 use lib.Seq.{take-length}
-use Rattle.book.specs.Front.{unfinished, badLength, whole, front}
+use Rattle.book.specs.Front.{unfinished, badLength, front}
 use Rattle.book.specs.Inner.{codeOf}
 use Rattle.book.proofs.FrontLaws.{unfinished-short, code-unfinished, code-bad, code-whole}
 use Rattle.book.proofs.TurnLaws.{bad-count, turned-unfinished, turned-bad}
