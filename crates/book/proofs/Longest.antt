@@ -1,11 +1,11 @@
 -- The longest beginning that is ok.
 use Prim.Native.Nat.{ℕ, suc, zero, _≤_, _<_}
-use mathlib.Core.Path.{_≡_, refl, sym, _∙_}
+use mathlib.Core.Path.{_≡_, refl, _∙_}
 use mathlib.Core.Bool.{Bool, true, false}
 use mathlib.Core.Logic.{⊎-elim}
 use native.Mathlib.Omega.{arith}
 use Rattle.book.specs.Call.{longest}
-use Rattle.account.proofs.Tests.{by-test, no-bool, lt-or-ge}
+use Rattle.account.proofs.Tests.{lt-or-ge}
 
 pub longest-top : (ok : ℕ → Bool) (n : ℕ) → ok n ≡ true → longest ok n ≡ n
 unfolding longest
@@ -24,18 +24,3 @@ longest-is ok (suc k) i h e f =
     (λ (p : i < suc k). longest-less ok k (f (suc k) p (omega arith)) ∙ longest-is ok k i (omega arith) e (λ m a b. f m a (omega arith)))
     (λ (p : suc k ≤ i). let z : i ≡ suc k = omega arith in rw z (longest-top ok (suc k) (rw z at e)))
     (lt-or-ge i (suc k))
-
-pub longest-most : (ok : ℕ → Bool) (k : ℕ) → longest ok k ≤ k
-unfolding longest
-longest-most ok zero = omega arith
-longest-most ok (suc k) = let i = longest-most ok k in by-test (λ (n : ℕ). n ≤ suc k) (ok (suc k)) (λ e. omega arith) (λ e. omega arith)
-
-pub longest-least : (ok : ℕ → Bool) (k i : ℕ) → i ≤ k → ok i ≡ true → i ≤ longest ok k
-unfolding longest
-longest-least ok zero i h e = h
-longest-least ok (suc k) i h e =
-    by-test (λ (n : ℕ). i ≤ n) (ok (suc k)) (λ f. h)
-    (λ f.
-    ⊎-elim (λ (p : i < suc k). longest-least ok k i (omega arith) e)
-    (λ (p : suc k ≤ i). let z : i ≡ suc k = omega arith in no-bool (sym f ∙ (rw z at e)))
-    (lt-or-ge i (suc k)))

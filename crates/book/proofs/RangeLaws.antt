@@ -1,22 +1,21 @@
 -- The range of a state: its parts and the test that decides it; what a state in range holds; which states are in range.
 use Prim.Native.Nat.{ℕ, zero, suc, _-_, _≤_, _<_}
-use mathlib.Core.Path.{_≡_, refl, ap, ap₂, sym, _∙_}
-use mathlib.Core.List.{List, [], _∷_, _++_}
-use mathlib.Core.Bool.{Bool, true, _||_}
+use mathlib.Core.Path.{_≡_, refl, ap₂, sym, _∙_}
+use mathlib.Core.List.{List, [], _∷_}
+use mathlib.Core.Bool.{true, false, _||_}
 use native.Mathlib.Omega.{arith}
-use borrow.Author.Tests.{ltb-false, le-ltb, le-leb, leb-true, eqb-true, eq-eqb}
-use lib.ListN.{length, take, drop, replicate, length-append, length-drop, length-replicate, take-append-drop}
+use borrow.Author.Tests.{ltb-false, le-ltb, le-leb, lt-leb, leb-true, eqb-true, eq-eqb}
+use lib.ListN.{length, drop, replicate, length-append, length-drop, length-replicate, take-append-drop}
 use lib.Seq.{length-take-le, take-append-seam, drop-append-seam}
 use lib.Dec.{ltb, leb, eqb}
 use Rattle.account.specs.declared.Account.{Account}
 use Rattle.account.specs.Range.{Fair, fair}
 use Rattle.account.proofs.Clauses.{fair-parts, fair-test}
-use Rattle.account.proofs.Keeps.{fair-none}
 use Rattle.book.specs.declared.State.{State}
 use Rattle.book.specs.Front.{Front, unfinished, badLength, whole, front}
-use Rattle.book.specs.State.{heldOf, holding, noRecordYet, zeros, isUnfinished, InRange, inRange}
+use Rattle.book.specs.State.{heldOf, holding, zeros, isUnfinished, InRange, inRange}
 use Rattle.account.proofs.Tests.{no-bool, or-right, or-left}
-use Rattle.book.proofs.Choices.{both}
+use Rattle.book.proofs.Choices.{both, and-false}
 use Rattle.book.proofs.FrontLaws.{unfinished-short, front-none}
 
 -- ---- the parts and the test
@@ -48,6 +47,10 @@ unfolding inRange
 range-test s v =
     rw (eq-eqb _ _ (v .places), le-leb _ _ (v .count), fair-test (s .account) (v .account), v .unused, v .begun)
     (or-left (ltb (s .account .stage) 2) (eqb (s .count) 0) (λ e. eq-eqb _ _ (v .none (ltb-false _ _ e))))
+
+pub too-many : (s : State) → 27 < s .count → inRange s ≡ false
+unfolding inRange
+too-many s h = simp (lt-leb _ _ h, and-false)
 
 -- ---- what is held
 
@@ -94,6 +97,3 @@ range-holding a xs v k e =
 
 pub range-idle : (a : Account) → Fair a → InRange (holding a [])
 range-idle a v = record { account = v; places = refl; count = omega arith; unused = refl; begun = front-none; none = λ h. refl }
-
-pub range-new : InRange noRecordYet
-range-new = range-idle _ fair-none

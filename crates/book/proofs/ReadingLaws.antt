@@ -11,7 +11,7 @@ use Rattle.account.specs.Line.{joined}
 use Rattle.book.specs.declared.State.{State}
 use Rattle.book.specs.declared.turns.Turn.{Turn}
 use Rattle.book.specs.State.{InRange}
-use Rattle.book.specs.Run.{Run, Outcome, outcome, run}
+use Rattle.book.specs.Run.{Outcome, outcome, run}
 use Rattle.book.specs.Inner.{Reading, Turned}
 use Rattle.book.proofs.RunLaws.{run-none}
 use Rattle.book.proofs.Outcomes.{outcome-append}

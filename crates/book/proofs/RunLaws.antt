@@ -1,25 +1,24 @@
--- Rule 2: a book by what stands at its front, the law that a run may be broken anywhere, and what a run leaves.
-use Prim.Native.Nat.{ℕ, suc, zero, _+_, _-_, _≤_, _<_}
-use mathlib.Core.Path.{_≡_, refl, ap, sym, _∙_}
-use mathlib.Core.List.{List, [], _∷_, _++_, append-assoc, append-nil}
+-- Rule 2: a book by what stands at its front, and the law that a run may be broken anywhere.
+use Prim.Native.Nat.{ℕ, suc, zero, _≤_, _<_}
+use mathlib.Core.Path.{_≡_, refl, ap, _∙_}
+use mathlib.Core.List.{List, [], _++_, append-assoc, append-nil}
 use mathlib.Core.Logic.{⊎-elim}
 use native.Mathlib.Omega.{arith}
 use borrow.Author.Tests.{lt-ltb, le-ltb}
-use lib.ListN.{length, take, drop, length-append, length-drop}
-use lib.Seq.{take-append-le, drop-append-le, drop-append-add, drop-drop, drop-length}
+use lib.ListN.{length, take, drop, length-drop}
+use lib.Seq.{take-append-le, drop-append-le}
 use lib.Dec.{ltb}
 use Rattle.codec.specs.Codec.{pick}
 use Rattle.account.specs.declared.Account.{Account}
 use Rattle.account.specs.Range.{Fair}
 use Rattle.account.specs.Judge.{judge, refused}
-use Rattle.account.proofs.Keeps.{fair-judge, fair-length}
 use Rattle.book.specs.declared.State.{State}
 use Rattle.book.specs.Front.{Front, unfinished, badLength, whole, need, front}
 use Rattle.book.specs.State.{heldOf, InRange, holding}
 use Rattle.book.specs.Run.{Run, then, ended, byFront, bookBy, book, run}
 use Rattle.account.proofs.Tests.{lt-or-ge}
-use Rattle.book.proofs.FrontLaws.{meaning, length-append-two, bad-append, whole-append, held-bad, held-whole}
-use Rattle.book.proofs.RangeLaws.{held-holding, holding-held, ended-held, ended-is, range-holding, range-idle}
+use Rattle.book.proofs.FrontLaws.{meaning, length-append-two, bad-append, whole-append}
+use Rattle.book.proofs.RangeLaws.{held-holding, holding-held, ended-held, ended-is, range-idle}
 
 -- ---- the count of records that bounds a book does not matter, as long as it is above the count of bytes
 
@@ -125,80 +124,3 @@ book-goes (suc n) a xs ys h =
 pub run-append : (s : State) (xs ys : List ℕ) → run s (xs ++ ys) ≡ then (run s xs .lines) (run (run s xs .state) (run s xs .left ++ ys))
 unfolding run
 run-append s xs ys = rw append-assoc at (book-goes (suc (length (heldOf s ++ xs))) (s .account) (heldOf s ++ xs) ys (omega arith))
-
--- ---- a run keeps the range, and leaves an end of its bytes
-
--- l is an end of xs
-pub record Tail (l xs : List ℕ) : Type 0 where
-  pub at : ℕ
-  pub inside : at ≤ length xs
-  pub is : l ≡ drop at xs
-
-pub record Leaves (xs : List ℕ) (r : Run) : Type 0 where
-  pub range : InRange (r .state)
-  pub tail : Tail (r .left) xs
-
-tail-none : (xs : List ℕ) → Tail [] xs
-tail-none xs = record { at = length xs; inside = omega arith; is = sym (drop-length xs) }
-
-tail-all : (xs : List ℕ) → Tail xs xs
-tail-all xs = record { at = 0; inside = omega arith; is = refl }
-
-tail-drop : (l xs : List ℕ) (k : ℕ) → k ≤ length xs → Tail l (drop k xs) → Tail l xs
-tail-drop l xs k h t = record { at = k + t .at; inside = omega (arith, length-drop k xs, t .inside); is = t .is ∙ drop-drop (t .at) k xs }
-
-leaves-at : (a : Account) (xs : List ℕ) → Fair a → a .stage < 2
-    → ((b : Account) (zs : List ℕ) → length zs < length xs → Fair b → Leaves zs (book b zs)) → (f : Front) → front xs ≡ f → Leaves xs (book a xs)
-leaves-at a xs v k ih unfinished e = rw (book-unfinished a xs k e) (record { range = range-holding a xs v k e; tail = tail-none xs })
-leaves-at a xs v k ih badLength e =
-    rw (book-bad a xs k e) (record { range = range-idle (refused a 1 0) (fair-length a v); tail = record { at = 2; inside = meaning xs badLength e .0; is = refl } })
-leaves-at a xs v k ih whole e =
-    let m = meaning xs whole e in
-    let j = judge a (take (need xs) xs) in
-    let short : length (drop (need xs) xs) < length xs = rw length-drop (omega arith) in
-    let i = ih (j .account) (drop (need xs) xs) short (fair-judge a (take (need xs) xs) v k) in
-    rw (book-whole a xs k e) (record { range = i .range; tail = tail-drop (book (j .account) (drop (need xs) xs) .left) xs (need xs) (m .3) (i .tail) })
-
-book-leaves-by : (n : ℕ) (a : Account) (xs : List ℕ) → length xs < n → Fair a → Leaves xs (book a xs)
-book-leaves-by zero a xs h v = absurd (omega arith)
-book-leaves-by (suc n) a xs h v =
-    ⊎-elim
-    (λ (k : a .stage < 2). leaves-at a xs v k (λ b zs p w. book-leaves-by n b zs (omega arith) w) (front xs) refl)
-    (λ (k : 2 ≤ a .stage). rw (book-ended a xs k) (record { range = range-idle a v; tail = tail-all xs }))
-    (lt-or-ge (a .stage) 2)
-
-pub book-leaves : (a : Account) (xs : List ℕ) → Fair a → Leaves xs (book a xs)
-book-leaves a xs v = book-leaves-by (suc (length xs)) a xs (omega arith) v
-
-pub over-held : (h xs : List ℕ) (k : ℕ) → length h ≤ k → drop k (h ++ xs) ≡ drop (k - length h) xs
-over-held h xs k p =
-    let e : k ≡ length h + (k - length h) = omega arith in
-    ap (λ (n : ℕ). drop n (h ++ xs)) e ∙ drop-append-add h xs (k - length h)
-
--- an end of h and xs that begins behind h is an end of xs
-tail-over : (h xs l : List ℕ) (k : ℕ) → length h ≤ k → k ≤ length (h ++ xs) → Tail l (drop k (h ++ xs)) → Tail l xs
-tail-over h xs l k p q t = tail-drop l xs (k - length h) (omega (arith, length-append h xs)) (rw (over-held h xs k p) at t)
-
-leaves-on : (s : State) (xs : List ℕ) → InRange s → s .account .stage < 2 → (f : Front) → front (heldOf s ++ xs) ≡ f → Leaves xs (run s xs)
-unfolding run
-leaves-on s xs v k unfinished e =
-    rw (book-unfinished (s .account) (heldOf s ++ xs) k e) (record { range = range-holding (s .account) (heldOf s ++ xs) (v .account) k e; tail = tail-none xs })
-leaves-on s xs v k badLength e =
-    let zs = heldOf s ++ xs in
-    let h = held-bad (heldOf s) xs (v .begun) e in
-    rw (book-bad (s .account) zs k e)
-    (record { range = range-idle (refused (s .account) 1 0) (fair-length (s .account) (v .account)); tail = tail-over (heldOf s) xs (drop 2 zs) 2 (omega arith) (meaning zs badLength e .0) (tail-all (drop 2 zs)) })
-leaves-on s xs v k whole e =
-    let zs = heldOf s ++ xs in
-    let h = held-whole (heldOf s) xs (v .begun) in
-    let j = judge (s .account) (take (need zs) zs) in
-    let i = book-leaves (j .account) (drop (need zs) zs) (fair-judge (s .account) (take (need zs) zs) (v .account) k) in
-    rw (book-whole (s .account) zs k e)
-    (record { range = i .range; tail = tail-over (heldOf s) xs (book (j .account) (drop (need zs) zs) .left) (need zs) (omega arith) (meaning zs whole e .3) (i .tail) })
-
-pub run-leaves : (s : State) (xs : List ℕ) → InRange s → Leaves xs (run s xs)
-run-leaves s xs v =
-    ⊎-elim
-    (λ (k : s .account .stage < 2). leaves-on s xs v k (front (heldOf s ++ xs)) refl)
-    (λ (k : 2 ≤ s .account .stage). rw (run-ended s xs v k) (record { range = v; tail = tail-all xs }))
-    (lt-or-ge (s .account .stage) 2)

@@ -13,7 +13,7 @@ use Rattle.book.specs.declared.Fed.{Fed}
 use Rattle.book.specs.declared.turns.Turn.{Turn}
 use Rattle.book.specs.Front.{Front, unfinished, badLength, whole, need, front}
 use Rattle.book.specs.State.{heldOf, InRange, holding}
-use Rattle.book.specs.Run.{Run, Outcome, outcome, run}
+use Rattle.book.specs.Run.{Run, outcome, run}
 use Rattle.book.specs.Call.{answerOf}
 
 -- the number of a front

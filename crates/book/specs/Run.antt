@@ -2,7 +2,7 @@
 -- bytes and the run make together, going on from the state's fields, the unfinished rest being held; in stages 2 and 3 it takes nothing.
 -- It knows no calls, parts or line buffers."
 use Prim.Native.Nat.{ℕ, zero, suc}
-use mathlib.Core.List.{List, [], _∷_, _++_}
+use mathlib.Core.List.{List, [], _++_}
 use lib.ListN.{length, take, drop}
 use lib.Dec.{ltb}
 use Rattle.codec.specs.Codec.{pick}

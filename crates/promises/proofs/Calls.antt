@@ -11,10 +11,10 @@ use Rattle.book.specs.State.{InRange}
 use Rattle.book.specs.Run.{outcome, run}
 use Rattle.book.specs.Call.{longest, fits, answerOf, call}
 use Rattle.book.specs.Way.{after}
-use Rattle.book.proofs.RunLaws.{run-leaves, Tail}
-use Rattle.book.proofs.Longest.{longest-most}
 use Rattle.book.proofs.Outcomes.{outcome-append}
 use Rattle.book.proofs.CallLaws.{call-at}
+use Rattle.promises.proofs.RunLeaves.{Tail, run-leaves}
+use Rattle.promises.proofs.Fitting.{longest-most}
 
 -- how many of the k bytes offered are run
 abbrev some : State → List ℕ → ℕ → ℕ → ℕ

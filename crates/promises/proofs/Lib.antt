@@ -1,7 +1,10 @@
+mod RunLeaves
+mod Fitting
 mod Calls
 pub mod RuleThree
 pub mod SureStep
 pub mod StaysInRange
+pub mod Answers
 pub mod OneAnswer
 pub mod Headings
 pub mod Paper

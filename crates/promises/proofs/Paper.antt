@@ -23,11 +23,11 @@ use Rattle.book.specs.State.{noRecordYet, holding, inRange, InRange}
 use Rattle.book.specs.Run.{bookBy, book, run}
 use Rattle.book.specs.Call.{longest, answerOf, call}
 use Rattle.book.specs.Way.{Part, way, Ended}
-use Rattle.book.proofs.RunLaws.{run-leaves}
-use Rattle.book.proofs.RangeLaws.{range-new}
 use Rattle.promises.specs.Headings.{recordsBy, recordsOf, lastGroup}
 use Rattle.promises.specs.Paper.{verdictOf, paper, sample, sampleLines}
 use Rattle.promises.proofs.Headings.{acceptedRecords}
+use Rattle.promises.proofs.RunLeaves.{run-leaves}
+use Rattle.promises.proofs.StaysInRange.{new-in-range}
 
 -- P1 to P12: each row of the table gives what document 01 prints.
 pub figures-to-meet : T (every paper)
@@ -51,15 +51,15 @@ sample-left = refl
 
 -- A state in range that is open: the one before any record.
 pub open-state : InRange noRecordYet
-open-state = range-new
+open-state = new-in-range
 
 -- One that is closed, and one that is refused.
 pub closed-state : InRange (run noRecordYet sample .state) × (run noRecordYet sample .state .account .stage ≡ 2)
-closed-state = (run-leaves noRecordYet sample range-new .range, ap (λ (l : List ℕ). getD l 0 0) sample-closed)
+closed-state = (run-leaves noRecordYet sample new-in-range .range, ap (λ (l : List ℕ). getD l 0 0) sample-closed)
 
 pub refused-state : InRange (run noRecordYet (0 ∷ 3 ∷ []) .state) × (run noRecordYet (0 ∷ 3 ∷ []) .state .account .stage ≡ 3)
 unfolding valAt front bookBy book run
-refused-state = (run-leaves noRecordYet (0 ∷ 3 ∷ []) range-new .range, refl)
+refused-state = (run-leaves noRecordYet (0 ∷ 3 ∷ []) new-in-range .range, refl)
 
 -- One outside the ranges: a refusal stored under the number 13.
 pub outside-state : inRange (holding (refused noRecord 13 0) []) ≡ false

@@ -6,10 +6,12 @@ use mathlib.Core.Bool.{true, false}
 use native.Mathlib.Omega.{arith}
 use lib.ListN.{length, replicate, length-replicate}
 use lib.Seq.{take-length}
+use Rattle.account.specs.Judge.{noRecord}
+use Rattle.account.proofs.Keeps.{fair-none}
 use Rattle.book.specs.declared.State.{State}
 use Rattle.book.specs.State.{noRecordYet, InRange, inRange}
 use Rattle.book.specs.Call.{numbers, answerOf, outside, call}
-use Rattle.book.proofs.RangeLaws.{range-new, range-parts, range-test}
+use Rattle.book.proofs.RangeLaws.{range-idle, range-parts, range-test}
 use Rattle.book.proofs.ReadingLaws.{reading-none}
 use Rattle.book.proofs.CallLaws.{done-ended}
 use Rattle.promises.proofs.Calls.{call-range}
@@ -20,7 +22,7 @@ test-decides s = (range-parts s, range-test s)
 
 -- The state before any record is in range.
 pub new-in-range : InRange noRecordYet
-new-in-range = range-new
+new-in-range = range-idle noRecord fair-none
 
 -- From a state in range every call ends in one.
 pub stays-in-range : (s : State) (xs : List ℕ) (room : ℕ) → InRange s → InRange (call s xs room .state)

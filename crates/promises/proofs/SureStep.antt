@@ -1,6 +1,6 @@
 -- The sure step. Document 01: "In stages 0 and 1, at least one input byte and 54 bytes of room always take at least one byte."
 use Prim.Native.Nat.{ℕ, suc, _-_, _≤_, _<_}
-use mathlib.Core.Path.{_≡_, refl, ap}
+use mathlib.Core.Path.{_≡_, refl}
 use mathlib.Core.List.{List, [], _∷_, _++_, append-nil}
 use native.Mathlib.Omega.{arith}
 use borrow.Author.Tests.{le-leb}
@@ -14,10 +14,11 @@ use Rattle.book.specs.Front.{Front, unfinished, badLength, whole, need, front}
 use Rattle.book.specs.State.{heldOf, InRange}
 use Rattle.book.specs.Run.{outcome, book, run}
 use Rattle.book.specs.Call.{longest, fits, call}
-use Rattle.book.proofs.FrontLaws.{meaning, held-bad, held-whole}
-use Rattle.book.proofs.RunLaws.{book-unfinished, book-bad, book-whole, book-none, book-leaves, over-held}
-use Rattle.book.proofs.Longest.{longest-most, longest-least}
+use Rattle.book.proofs.FrontLaws.{held-bad, held-whole}
+use Rattle.book.proofs.RunLaws.{book-unfinished, book-bad, book-whole, book-none}
 use Rattle.book.proofs.CallLaws.{call-at}
+use Rattle.promises.proofs.RunLeaves.{book-leaves, over-held}
+use Rattle.promises.proofs.Fitting.{longest-most, longest-least}
 
 -- ---- an open state takes one byte of some at least
 

@@ -30,11 +30,11 @@ feed-spec =
     (tie.spec
     Inv-loop
     μ-loop
-    (λ c κs. search needs)
-    (λ c κs. search needs)
+    (λ c κs. tt)
+    (λ c κs. tt)
     (λ c. let t = c .before .before .in-range in meets-outside _ _ _ (sym (t .ensures) ∙ not-true (t .result) (c .before .if1 .taken)) (c .outside .ensures))
     (λ c. let t = c .before .in-range in reading-none _ _ _ (range-parts _ (sym (t .ensures) ∙ not-false (t .result) (c .if1 .left))))
-    (λ c κs. search needs)
+    (λ c κs. tt)
     (λ c. c .before .before .before .before .before .loop .inv .long)
     (λ c. let r = c .before .before .before .before .before .loop .inv in meets r (c .fed .ensures) (done-ended r (c .before .if2 .taken)))
     (λ c. c .before .before .before .before .loop .inv .fits)
@@ -48,7 +48,7 @@ feed-spec =
     let r = head t .loop .inv in
     omega (arith, written-inside r (t .next .ensures), r .long, entry t .good))
     (λ c. let t = c .before .before .before .before .before in omega (arith, taken-inside (head t .loop .inv) (t .next .ensures), entry t .good))
-    (λ c κs. search needs)
+    (λ c κs. tt)
     (λ c. let t = c .before .before .before .before .before .before .before in read-turn (head t .loop .inv) (t .next .ensures) .long)
     (λ c.
     let t = c .before .before .before .before .before .before .before in
@@ -62,6 +62,6 @@ feed-spec =
     let a = t .next .ensures in
     omega (arith, taken-inside (head t .loop .inv) a, a .some (c .if3 .left)))
     (λ c. let t = c .before .before .before .before .before .before in read-turn (head t .loop .inv) (t .next .ensures))
-    (λ c κs. search needs)
+    (λ c κs. tt)
     (λ c. c .before .before .loop .inv .long)
     (λ c. let r = c .before .before .loop .inv in meets r (c .fed3 .ensures) (done-end r (c .before .loop-test .left))))

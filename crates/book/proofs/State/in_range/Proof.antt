@@ -1,11 +1,11 @@
-use mathlib.Core.Path.{_≡_}
+use mathlib.Core.Path.{_≡_, sym}
 use native.Mathlib.Omega.{arith}
 use borrow.Author.Needs.{needs}
-use borrow.Author.Tests.{lt-leb, le-leb}
+use borrow.Author.Tests.{le-leb}
 use lib.ListN.{length}
 use Rattle.book.specs.State.{inRange}
-use Rattle.book.proofs.Choices.{and-false}
 use Rattle.book.proofs.FrontLaws.{code-zero}
+use Rattle.book.proofs.RangeLaws.{too-many}
 use Rattle.book.proofs.State.in_range.Statement.{statement}
 use Rattle.book.proofs.State.in_range.Tie as tie
 
@@ -17,9 +17,9 @@ unfolding inRange
 in-range-spec =
     tie.close
     (tie.spec
-    (λ c. simp (lt-leb _ _ (c .if1 .taken), and-false))
-    (λ c κs. search needs)
-    (λ c κs. search needs)
+    (λ c. sym (too-many (c .before .before .before .args .self) (c .if1 .taken)))
+    (λ c κs. tt)
+    (λ c κs. tt)
     (λ c. search needs)
     (λ c κs. let l = places c in omega arith)
     (λ c.

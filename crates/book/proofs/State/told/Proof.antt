@@ -1,5 +1,5 @@
 use Prim.Native.Nat.{ℕ, _+_}
-use mathlib.Core.Path.{_≡_, ap}
+use mathlib.Core.Path.{ap}
 use native.Mathlib.Omega.{arith}
 use borrow.Author.Needs.{needs}
 use Rattle.book.specs.Front.{whole}
@@ -28,7 +28,7 @@ told-spec =
     let j = c .before .before .before .before .before .before .before in
     let p = entry j .pre in
     turned-full (p .0) (p .1) (j .judge-all .ensures) _ (c .before .before .before .if1 .taken) (ap (λ (x : ℕ). x + 1) (c .before .before .be16 .ensures)) (c .before .hold .ensures))
-    (λ c κs. search needs)
+    (λ c κs. tt)
     (λ c.
     let j = c .before .before .before .before .before .before .before .before in
     let l = j .judge-all .ensures .least (omega (arith, c .before .before .before .before .if1 .left)) in

@@ -1,8 +1,7 @@
 use mathlib.Core.Path.{_≡_, sym, _∙_}
 use native.Mathlib.Omega.{arith}
-use borrow.Author.Needs.{needs}
 use lib.Seq.{take-length}
-use Rattle.book.specs.Front.{unfinished, badLength, whole, front}
+use Rattle.book.specs.Front.{unfinished, badLength, front}
 use Rattle.book.specs.Inner.{codeOf}
 use Rattle.book.proofs.FrontLaws.{unfinished-short, code-unfinished, code-bad, code-whole}
 use Rattle.book.proofs.TurnLaws.{bad-count, turned-unfinished, turned-bad}
@@ -30,8 +29,8 @@ turn-spec =
     (λ c κs. (unfinished-short _ (is-unfinished c), omega arith))
     (λ c. omega (arith, entry (c .before .before .before) .pre .more))
     (λ c. let t = c .before .before in turned-unfinished (entry (t .before) .pre) (is-unfinished t) (c .before .hold .ensures))
-    (λ c κs. search needs)
-    (λ c κs. search needs)
+    (λ c κs. tt)
+    (λ c κs. tt)
     (λ c. let t = c .before .before .before in omega (arith, bad-count (entry (t .before .before) .pre) (is-bad t)))
     (λ c. let t = c .before .before .before in turned-bad (entry (t .before .before) .pre) (is-bad t) (c .before .before .refuse .ensures) (c .before .idle .ensures))
     (λ c κs.

@@ -1,6 +1,5 @@
 use Prim.Native.Nat.{_-_}
 use native.Mathlib.Omega.{arith}
-use borrow.Author.Needs.{needs}
 use lib.ListN.{length}
 use Rattle.book.proofs.RecordLaws.{record-in, record-whole, Running, running-none, ran-ended, ran-end, ran-out, Next, record-inside, ran-full, running-on}
 use Rattle.book.proofs.records.judge_all.Statement.{statement}
@@ -42,7 +41,7 @@ judge-all-spec =
     (λ c. c .before .before .before .loop .inv .reading .long)
     (λ c. let l = c .before .before .before in let p = l .before .before .before .pre in ran-ended (p .1) (p .2) (l .loop .inv) (c .if1 .taken))
     (λ c κs. c .before .before .before .loop .inv .reading .within)
-    (λ c κs. search needs)
+    (λ c κs. tt)
     (λ c. c .before .before .before .before .before .before .loop .inv .reading .long)
     (λ c.
     let y = c .before in

@@ -1,0 +1,99 @@
+-- What each answer of a call means, in document 01's numbers: "More: all input taken. Full: the next record is complete and right but its
+-- line doesn't fit; its last byte isn't taken. Closed: the close is in; .. Refused: ..".
+use Prim.Native.Nat.{ℕ, _+_, _-_, _≤_, _<_}
+use mathlib.Core.Path.{_≡_, refl, ap}
+use mathlib.Core.List.{List, [], _∷_}
+use mathlib.Core.Bool.{Bool, true, false}
+use native.Mathlib.Omega.{arith}
+use native.Mathlib.Nat.{sub-zero}
+use borrow.Author.Tests.{ltb-true, ltb-false, leb-false, eqb-true, eqb-false}
+use lib.ListN.{length, take}
+use lib.Dec.{ltb, eqb}
+use Rattle.codec.specs.Codec.{pick}
+use Rattle.account.specs.declared.Account.{Account}
+use Rattle.account.specs.Line.{joined}
+use Rattle.book.specs.declared.State.{State}
+use Rattle.book.specs.declared.Answer.the-variants.{More, Full, Closed, Refused}
+use Rattle.book.specs.State.{InRange}
+use Rattle.book.specs.Run.{outcome, run}
+use Rattle.book.specs.Call.{numbers, longest, fits, answerOf, call}
+use Rattle.book.proofs.CallLaws.{call-at}
+use Rattle.promises.proofs.RunLeaves.{run-leaves}
+use Rattle.promises.proofs.Fitting.{longest-most, longest-next}
+
+-- ---- an answer's numbers tell what it was made of
+
+-- what a list of numbers says of the account reached, of the bytes taken, and of the n offered
+abbrev Says : Account → ℕ → ℕ → List ℕ → Type 0
+Says a taken n ks =
+    (ks ≡ 17 ∷ [] → taken ≡ n)
+    × (ks ≡ 16 ∷ [] → (a .stage < 2) × (taken ≡ n → ⊥))
+    × (ks ≡ 0 ∷ [] → a .stage ≡ 2)
+    × ((c k f : ℕ) → ks ≡ c ∷ k ∷ f ∷ [] → (2 < a .stage) × (ks ≡ a .refusal .code ∷ a .refusal .number ∷ a .refusal .field ∷ []))
+
+first-of : List ℕ → ℕ
+first-of [] = 0
+first-of (k ∷ ks) = k
+
+says : (a : Account) (taken n : ℕ) → Says a taken n (numbers (answerOf a taken n))
+unfolding answerOf first-of
+says a taken n = by (ltb (a .stage) 2) (eqb taken n) (eqb (a .stage) 2) refl refl refl
+  where
+    by : (p q r : Bool) → ltb (a .stage) 2 ≡ p → eqb taken n ≡ q → eqb (a .stage) 2 ≡ r
+        → Says a taken n (numbers (pick p (pick q More Full) (pick r Closed (Refused (a .refusal)))))
+    by true true r e f g =
+        (λ h. eqb-true taken n f, λ h. absurd (omega (arith, ap first-of h)), λ h. absurd (omega (arith, ap first-of h)), λ c k l h. absurd (omega (arith, ap length h)))
+    by true false r e f g =
+        (λ h. absurd (omega (arith, ap first-of h)), λ h. (ltb-true _ _ e, eqb-false taken n f), λ h. absurd (omega (arith, ap first-of h)), λ c k l h. absurd (omega (arith, ap length h)))
+    by false q true e f g =
+        (λ h. absurd (omega (arith, ap first-of h)), λ h. absurd (omega (arith, ap first-of h)), λ h. eqb-true _ _ g, λ c k l h. absurd (omega (arith, ap length h)))
+    by false q false e f g =
+        let s : 2 ≤ a .stage = ltb-false _ _ e in
+        let t : a .stage ≡ 2 → ⊥ = eqb-false (a .stage) 2 g in
+        (λ h. absurd (omega (arith, ap length h)), λ h. absurd (omega (arith, ap length h)), λ h. absurd (omega (arith, ap length h)), λ c k l h. (omega (arith, t), refl))
+
+-- ---- the answer of a call from a state in range
+
+module _ (s : State) (xs : List ℕ) (room : ℕ) (v : InRange s) where
+  -- the bytes that are run, and what is said of the answer
+  many : ℕ
+  many = longest (fits s xs room) (length xs)
+
+  called : call s xs room ≡ record {
+    state = run s (take many xs) .state;
+    taken = many - length (run s (take many xs) .left);
+    bytes = joined (run s (take many xs) .lines);
+    answer = answerOf (run s (take many xs) .state .account) (many - length (run s (take many xs) .left)) (length xs);
+  }
+  unfolding many
+  called = call-at s xs room many (outcome (run s (take many xs))) v refl refl
+
+  told : Says (call s xs room .state .account) (call s xs room .taken) (length xs) (numbers (call s xs room .answer))
+  told = rw called (says (run s (take many xs) .state .account) (many - length (run s (take many xs) .left)) (length xs))
+
+  -- More (17): all input is taken.
+  pub more-means : numbers (call s xs room .answer) ≡ 17 ∷ [] → call s xs room .taken ≡ length xs
+  more-means = told .0
+
+  -- Full (16): the book is open, a byte is left, and the lines of one byte more do not fit.
+  pub full-means : numbers (call s xs room .answer) ≡ 16 ∷ []
+      → (call s xs room .state .account .stage < 2) × (call s xs room .taken < length xs) × (room < length (joined (run s (take (call s xs room .taken + 1) xs) .lines)))
+  unfolding many
+  full-means e =
+      let t = told .1 e in
+      let h : run s (take many xs) .state .account .stage < 2 = rw called at (t .0) in
+      let l : run s (take many xs) .left ≡ [] = run-leaves s (take many xs) v .all h in
+      let n : call s xs room .taken ≡ many = rw (called, l, sub-zero) in
+      let m = longest-most (fits s xs room) (length xs) in
+      let k : many < length xs = omega (arith, n, t .1) in
+      (t .0, rw n k, rw n (leb-false _ _ (longest-next (fits s xs room) (length xs) k)))
+
+  -- Closed (0): the close is in.
+  pub closed-means : numbers (call s xs room .answer) ≡ 0 ∷ [] → call s xs room .state .account .stage ≡ 2
+  closed-means = told .2
+
+  -- Refused: its three numbers are those of the refusal in the state handed back.
+  pub refused-means : (code number field : ℕ) → numbers (call s xs room .answer) ≡ code ∷ number ∷ field ∷ []
+      → (2 < call s xs room .state .account .stage)
+      × (numbers (call s xs room .answer) ≡ call s xs room .state .account .refusal .code ∷ call s xs room .state .account .refusal .number ∷ call s xs room .state .account .refusal .field ∷ [])
+  refused-means = told .3
