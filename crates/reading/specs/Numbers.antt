@@ -18,6 +18,7 @@ takes v b = (leb 48 b && leb b 57) && ltb v 100000000000000
 abbrev pub noWhole : Whole
 noWhole = record { good = false; value = 0 }
 
+-- w where the test passes, else no number
 abbrev pub goesOn : Bool → Whole → Whole
 goesOn true w = w
 goesOn false w = noWhole
@@ -35,10 +36,11 @@ wholeOf s = goesOn (ltb 0 (length s)) (digitsFrom 0 s)
 abbrev pub double : ℕ → ℕ → Float
 double a b = round binary64 false a b
 
--- before the first point, and behind it
+-- what stands before the first point
 abbrev pub beforePoint : List ℕ → List ℕ
 beforePoint s = take (indexOf 46 s) s
 
+-- what stands behind it: nothing where there is no point
 abbrev pub behindPoint : List ℕ → List ℕ
 behindPoint s = drop (indexOf 46 s + 1) s
 
@@ -50,6 +52,7 @@ isDecimal whole all s = ((ltb 0 (indexOf 46 s) && whole .good) && all .good) && 
 abbrev pub +0 : Float
 +0 = fin false 0 (pos 0)
 
+-- x where the test passes, else no decimal
 abbrev pub pickDouble : Bool → Float → Double
 pickDouble true x = record { good = true; value = x }
 pickDouble false x = record { good = false; value = +0 }

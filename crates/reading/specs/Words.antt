@@ -9,6 +9,7 @@ use lib.Dec.{eqb}
 abbrev pub isBlank : ℕ → Bool
 isBlank b = (eqb b 32 || eqb b 9) || eqb b 13
 
+-- one more than n where the test passes, else none
 abbrev pub oneMore : Bool → ℕ → ℕ
 oneMore true n = suc n
 oneMore false n = 0
@@ -22,10 +23,11 @@ leadingOf blanks (b ∷ s) = oneMore (Bool·beq (isBlank b) blanks) (leadingOf b
 abbrev pub trimmed : List ℕ → List ℕ
 trimmed s = drop (leadingOf true s) s
 
--- the first word, and what stands behind it
+-- the first word
 abbrev pub firstWord : List ℕ → List ℕ
 firstWord s = take (leadingOf false (trimmed s)) (trimmed s)
 
+-- what stands behind the first word
 abbrev pub pastWord : List ℕ → List ℕ
 pastWord s = drop (leadingOf false (trimmed s)) (trimmed s)
 

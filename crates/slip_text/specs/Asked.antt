@@ -27,10 +27,11 @@ changeNamed name x =
     (pick (sameText name (121 ∷ 109 ∷ [])) (record { good = true; change = Ym x })
     (record { good = sameText name (104 ∷ 101 ∷ 97 ∷ 100 ∷ []); change = Head x }))
 
--- whole days up to 65535, whether in the ration's range or not
+-- days up to 65535, whether in the ration's range or not
 abbrev pub upTo65535 : Whole → Whole
 upTo65535 days = pick (leb (days .value) 65535) days noWhole
 
+-- the days that the word names
 abbrev pub daysOf : List ℕ → Whole
 daysOf word = upTo65535 (wholeOf word)
 
