@@ -5,3 +5,4 @@ pub mod Told
 pub mod Written
 pub mod Clauses
 pub mod Keeps
+pub mod Counts

@@ -1,0 +1,33 @@
+-- The herd desk's number: how the code makes it, and that code and count can be read back from it.
+use Prim.Native.Nat.{ℕ, _+_, _-_, _*_, _^_, _/_, _%_, _≤_}
+use mathlib.Core.Path.{_≡_, refl}
+use mathlib.Core.List.{List, []}
+use native.Mathlib.Omega.{arith}
+use lib.ListN.{length, getD}
+use Rattle.book.specs.declared.State.{State}
+use Rattle.book.specs.declared.Fed.{Fed}
+use Rattle.book.specs.declared.Answer.{Answer}
+use Rattle.book.specs.declared.Answer.the-variants.{More, Full, Closed, Refused}
+use Rattle.book.specs.State.{noRecordYet}
+use Rattle.book.specs.Call.{numbers, call, fedOf}
+use Rattle.desk.specs.Desk.{codeOf, deskCall, deskNumber}
+use Rattle.desk.proofs.Sizes.{written-fits}
+
+pub is-number : {s : State} {f : Fed} {code : ℕ} (xs : List ℕ) (room : ℕ) → s ≡ noRecordYet → f ≡ fedOf (call s xs room)
+    → code ≡ codeOf (f .answer) (length xs - f .taken) → code * 2 ^ 32 + f .written ≡ deskNumber xs room
+is-number xs room n e k = rw (k, e, n)
+
+-- the code is the number that the book's own definition gives the answer, but for 18
+pub code-is : (a : Answer) → codeOf a 0 ≡ getD (numbers a) 0 0
+code-is Closed = refl
+code-is Full = refl
+code-is More = refl
+code-is (Refused r) = refl
+
+module _ (xs : List ℕ) (room : ℕ) where
+  -- the code is read back by dividing by 2^32, and the bytes written are what is left
+  pub code-back : deskNumber xs room / 2 ^ 32 ≡ codeOf (deskCall xs room .answer) (length xs - deskCall xs room .taken)
+  code-back = omega (arith, written-fits xs room)
+
+  pub written-back : deskNumber xs room % 2 ^ 32 ≡ length (deskCall xs room .bytes)
+  written-back = omega (arith, written-fits xs room)
