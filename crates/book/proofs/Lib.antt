@@ -9,3 +9,4 @@ pub mod ReadingLaws
 pub mod CallLaws
 pub mod RecordLaws
 pub mod TurnLaws
+pub mod RunLeaves

@@ -6,9 +6,10 @@ use mathlib.Core.Logic.{⊎-elim}
 use native.Mathlib.Omega.{arith}
 use lib.ListN.{length, take, drop, length-append, length-drop}
 use Rattle.account.specs.declared.Account.{Account}
-use Rattle.account.specs.Judge.{judge, refused}
+use Rattle.account.specs.Judge.{judge, refused, noRecord}
 use Rattle.account.specs.Line.{joined}
 use Rattle.account.proofs.Counts.{linesMost, judge-counts}
+use Rattle.account.proofs.Keeps.{fair-none}
 use Rattle.account.proofs.Tests.{lt-or-ge}
 use Rattle.book.specs.declared.State.{State}
 use Rattle.book.specs.declared.Fed.{Fed}
@@ -17,8 +18,9 @@ use Rattle.book.specs.State.{heldOf, noRecordYet, InRange}
 use Rattle.book.specs.Run.{Run, outcome, book, run}
 use Rattle.book.specs.Call.{longest, fits, call, fedOf}
 use Rattle.book.proofs.FrontLaws.{meaning}
-use Rattle.book.proofs.RangeLaws.{range-new}
-use Rattle.book.proofs.RunLaws.{book-ended, book-unfinished, book-bad, book-whole, run-leaves}
+use Rattle.book.proofs.RangeLaws.{range-idle}
+use Rattle.book.proofs.RunLaws.{book-ended, book-unfinished, book-bad, book-whole}
+use Rattle.book.proofs.RunLeaves.{run-leaves}
 use Rattle.book.proofs.CallLaws.{call-at}
 
 joined-length : (ls ms : List (List ℕ)) → length (joined (ls ++ ms)) ≡ length (joined ls) + length (joined ms)
@@ -58,10 +60,14 @@ run-paid s xs = paid-by (suc (length (heldOf s ++ xs))) (s .account) (heldOf s +
 pub run-small : (s : State) (xs : List ℕ) → InRange s → length (joined (run s xs .lines)) ≤ linesMost * 4096
 run-small s xs v = omega (arith, run-paid s xs, run-leaves s xs v .range .account .counted .records-most)
 
+-- the state before any record is in range
+new-range : InRange noRecordYet
+new-range = range-idle noRecord fair-none
+
 pub call-small : (xs : List ℕ) (room : ℕ) → length (call noRecordYet xs room .bytes) ≤ linesMost * 4096
 call-small xs room =
     let n = longest (fits noRecordYet xs room) (length xs) in
-    rw (call-at noRecordYet xs room n (outcome (run noRecordYet (take n xs))) range-new refl refl) (run-small noRecordYet (take n xs) range-new)
+    rw (call-at noRecordYet xs room n (outcome (run noRecordYet (take n xs))) new-range refl refl) (run-small noRecordYet (take n xs) new-range)
 
 -- so the bytes written stay below 2^32
 pub written-fits : (xs : List ℕ) (room : ℕ) → length (call noRecordYet xs room .bytes) < 2 ^ 32

@@ -18,7 +18,7 @@ use Rattle.book.specs.State.{InRange}
 use Rattle.book.specs.Run.{outcome, run}
 use Rattle.book.specs.Call.{numbers, longest, fits, answerOf, call}
 use Rattle.book.proofs.CallLaws.{call-at}
-use Rattle.promises.proofs.RunLeaves.{run-leaves}
+use Rattle.book.proofs.RunLeaves.{run-leaves}
 use Rattle.promises.proofs.Fitting.{longest-most, longest-next}
 
 -- ---- an answer's numbers tell what it was made of

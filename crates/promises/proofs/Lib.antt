@@ -1,4 +1,3 @@
-mod RunLeaves
 mod Fitting
 mod Calls
 pub mod RuleThree

@@ -26,7 +26,7 @@ use Rattle.book.specs.Way.{Part, way, Ended}
 use Rattle.promises.specs.Headings.{recordsBy, recordsOf, lastGroup}
 use Rattle.promises.specs.Paper.{verdictOf, paper, sample, sampleLines}
 use Rattle.promises.proofs.Headings.{acceptedRecords}
-use Rattle.promises.proofs.RunLeaves.{run-leaves}
+use Rattle.book.proofs.RunLeaves.{run-leaves}
 use Rattle.promises.proofs.StaysInRange.{new-in-range}
 
 -- P1 to P12: each row of the table gives what document 01 prints.

@@ -17,7 +17,7 @@ use Rattle.book.specs.Call.{longest, fits, call}
 use Rattle.book.proofs.FrontLaws.{held-bad, held-whole}
 use Rattle.book.proofs.RunLaws.{book-unfinished, book-bad, book-whole, book-none}
 use Rattle.book.proofs.CallLaws.{call-at}
-use Rattle.promises.proofs.RunLeaves.{book-leaves, over-held}
+use Rattle.book.proofs.RunLeaves.{book-leaves, over-held}
 use Rattle.promises.proofs.Fitting.{longest-most, longest-least}
 
 -- ---- an open state takes one byte of some at least
