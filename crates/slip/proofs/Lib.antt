@@ -1,0 +1,4 @@
+pub mod Laws
+pub mod Positive
+pub mod Nearest
+mod Wrong
