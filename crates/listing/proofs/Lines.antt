@@ -1,0 +1,138 @@
+-- Laws of the lister's text: numbers of eight bytes, and the text of lines by the one at their front.
+use Prim.Native.Nat.{ℕ, zero, suc, _+_, _*_, _≤_, _<_}
+use mathlib.Core.Path.{_≡_, refl, ap, sym, _∙_}
+use mathlib.Core.List.{List, [], _∷_, _++_}
+use mathlib.Core.Bool.{Bool, false}
+use native.Mathlib.Omega.{arith}
+use borrow.Author.Tests.{ltb-false, lt-ltb, le-ltb, eq-eqb, ne-eqb}
+use native.Mathlib.Numerals.{add-one}
+use lib.ListN.{length, getD, set, take, drop, length-drop}
+use lib.Seq.{take-suc, drop-drop, take-append-seam}
+use lib.Dec.{ltb}
+use Rattle.codec.specs.Table.{lineFields, totalFields}
+use Rattle.codec.specs.Codec.{pick, valAt, valuesAt}
+use Rattle.account.proofs.Tests.{by-test}
+use Rattle.account.specs.declared.Account.{Account}
+use Rattle.book.specs.declared.State.{State}
+use Rattle.book.specs.declared.Fed.{Fed}
+use Rattle.book.specs.Call.{call, fedOf, laid}
+use Rattle.text.specs.Decimal.{numbersLine, Put}
+use Rattle.text.proofs.Puts.{none, one, put-length, and-then}
+use Rattle.listing.specs.Listing.{isTotal, lineSize, lineNumbers, textBy, linesText, closedWord, unfinishedWord, refusedWord, endText, Lists}
+
+pub eight-bytes : (s : List ℕ) (at h l : ℕ) → h ≡ valAt s at 4 → l ≡ valAt s (at + 4) 4 → h * 4294967296 + l ≡ valAt s at 8
+unfolding valAt
+eight-bytes s at h l eh el =
+    let byte : (i j : ℕ) → i ≡ j → getD s i 0 ≡ getD s j 0 = λ i j e. ap (λ (n : ℕ). getD s n 0) e in
+    let b4 = byte (at + 4 + 0) (at + 4) (omega arith) in
+    let b5 = byte (at + 4 + 1) (at + 5) (omega arith) in
+    let b6 = byte (at + 4 + 2) (at + 6) (omega arith) in
+    let b7 = byte (at + 4 + 3) (at + 7) (omega arith) in
+    omega arith
+
+pub size-least : (xs : List ℕ) → 46 ≤ lineSize xs
+size-least xs = by-test (λ (n : ℕ). 46 ≤ n) (isTotal xs) (λ e. omega arith) (λ e. omega arith)
+
+-- the count of lines that bounds a text does not matter, as long as it is above the count of bytes
+same-text : (n m : ℕ) (xs : List ℕ) → length xs < n → length xs < m → textBy n xs ≡ textBy m xs
+unfolding textBy
+same-text zero m xs p q = absurd (omega arith)
+same-text (suc n) zero xs p q = absurd (omega arith)
+same-text (suc n) (suc m) xs p q =
+    by-test (λ (t : List ℕ). t ≡ textBy (suc m) xs) (ltb (length xs) (lineSize xs)) (λ e. rw e)
+    (λ e. rw e (ap (λ (t : List ℕ). numbersLine (lineNumbers xs) ++ t) (same-text n m (drop (lineSize xs) xs) (shorter n p e) (shorter m q e))))
+  where
+    shorter : (k : ℕ) → length xs < suc k → ltb (length xs) (lineSize xs) ≡ false → length (drop (lineSize xs) xs) < k
+    shorter k h e = let h2 = ltb-false (length xs) (lineSize xs) e in rw length-drop (omega (arith, size-least xs))
+
+pub text-none : (xs : List ℕ) → length xs < lineSize xs → linesText xs ≡ []
+unfolding linesText textBy
+text-none xs h = rw (lt-ltb _ _ h)
+
+pub text-some : (xs : List ℕ) → lineSize xs ≤ length xs → linesText xs ≡ numbersLine (lineNumbers xs) ++ linesText (drop (lineSize xs) xs)
+unfolding linesText textBy
+text-some xs h =
+    let ys = drop (lineSize xs) xs in
+    let short : length ys < length xs = rw length-drop (omega (arith, size-least xs)) in
+    rw (le-ltb _ _ h) (ap (λ (t : List ℕ). numbersLine (lineNumbers xs) ++ t) (same-text (length xs) (suc (length ys)) ys short (omega arith)))
+
+-- by the kind of the line record at the front
+module _ (xs : List ℕ) (k : getD xs 3 0 ≡ 8) where
+  pub size-total : lineSize xs ≡ 54
+  size-total = rw (eq-eqb _ _ k)
+
+  pub numbers-total : lineNumbers xs ≡ drop 2 (valuesAt totalFields xs 0)
+  unfolding lineNumbers
+  numbers-total = rw (eq-eqb _ _ k)
+
+module _ (xs : List ℕ) (k : getD xs 3 0 ≡ 8 → ⊥) where
+  pub size-detail : lineSize xs ≡ 46
+  size-detail = rw (ne-eqb _ _ k)
+
+  pub numbers-detail : lineNumbers xs ≡ drop 2 (valuesAt lineFields xs 0)
+  unfolding lineNumbers
+  numbers-detail = rw (ne-eqb _ _ k)
+
+-- one byte more of a word is put
+pub put-more : {out₀ out : List ℕ} {at : ℕ} (word : List ℕ) (i : ℕ) → Put out₀ out at (take i word) (at + i) → i < length word → at + i < length out
+    → Put out₀ (set out (at + i) (getD word i 0)) at (take (i + 1) word) (at + (i + 1))
+put-more {out₀} {out} {at} word i p h k =
+    let e : at + i + 1 ≡ at + suc i = omega arith in
+    rw (add-one i, take-suc word i 0 h) (rw e at (and-then p (one out (at + i) (getD word i 0) k)))
+
+-- ---- the loop over the lines
+
+-- the lines up to i are put, up to at; putting the text of those left makes the whole
+pub record Putting (out₀ lines out : List ℕ) (i at : ℕ) : Type 0 where
+  pub same : length out ≡ length out₀
+  pub inside : i ≤ length lines
+  pub room : at + 4 * length lines ≤ length out + 4 * i
+  pub rest : (zs : List ℕ) (q : ℕ) → Put out zs at (linesText (drop i lines)) q → Put out₀ zs 0 (linesText lines) q
+
+pub putting-none : (out lines : List ℕ) → 4 * length lines ≤ length out → Putting out lines out 0 0
+putting-none out lines h = record { same = refl; inside = omega arith; room = omega arith; rest = λ zs q p. p }
+
+module _ {out₀ lines out : List ℕ} {i at : ℕ} (g : Putting out₀ lines out i at) where
+  module _ {rest : List ℕ} (e : rest ≡ drop i lines) where
+    -- no whole line is left
+    pub putting-ends : length rest < lineSize rest → Put out₀ out 0 (linesText lines) at
+    putting-ends h = g .rest out at (rw (← e, text-none rest h) (none out at (omega (arith, g .room, g .inside))))
+
+    -- one line of n bytes is put
+    pub putting-on : {out′ : List ℕ} {n r : ℕ} → n ≡ lineSize rest → n ≤ length rest → Put out out′ at (numbersLine (lineNumbers rest)) r
+        → r ≤ at + 4 * lineSize rest → Putting out₀ lines out′ (i + n) r
+    putting-on {out′} {n} {r} m h p s =
+        let d : drop (lineSize rest) rest ≡ drop (i + n) lines = ap (λ (k : ℕ). drop k rest) (sym m) ∙ ap (λ (l : List ℕ). drop n l) e ∙ drop-drop n i lines in
+        let t = text-some rest (omega arith) in
+        record {
+          same = put-length p ∙ g .same;
+          inside = omega (arith, ap length e, length-drop i lines, g .inside);
+          room = omega (arith, put-length p, g .room);
+          rest = λ zs q u. g .rest zs q (rw (← e, t) (and-then p (rw (← d) at u)));
+        }
+
+-- ---- the last word
+
+module _ (a : Account) where
+  pub end-closed : a .stage ≡ 2 → endText a ≡ closedWord
+  unfolding endText
+  end-closed e = rw (eq-eqb _ _ e)
+
+  module _ (other : a .stage ≡ 2 → ⊥) where
+    pub end-unfinished : (a .stage ≡ 3 → ⊥) → endText a ≡ unfinishedWord
+    unfolding endText
+    end-unfinished n = rw (ne-eqb _ _ other, ne-eqb _ _ n)
+
+    pub end-refused : a .stage ≡ 3 → endText a ≡ refusedWord ++ numbersLine (a .refusal .code ∷ a .refusal .number ∷ a .refusal .field ∷ [])
+    unfolding endText
+    end-refused e = rw (ne-eqb _ _ other, eq-eqb _ _ e)
+
+-- ---- one call over a part
+
+pub lists : (s : State) (part before : List ℕ) {out out′ after : List ℕ} {f : Fed} {w room : ℕ} → length before ≡ room → f ≡ fedOf (call s part (length before))
+    → after ≡ laid (call s part (length before)) before → Put out out′ 0 (linesText (take (f .written) after)) w
+    → Lists (call s part room) out out′ (record { state = f .state; taken = f .taken; written = w })
+lists s part before {after = after} {f = f} l e d p =
+    let c = call s part (length before) in
+    let t : take (f .written) after ≡ c .bytes = rw (e, d) (take-append-seam (c .bytes) (drop (length (c .bytes)) before)) in
+    rw (← l) (record { state = ap (λ (g : Fed). g .state) e; taken = ap (λ (g : Fed). g .taken) e; text = rw t at p })

@@ -1,0 +1,46 @@
+use mathlib.Core.Path.{_≡_}
+use native.Mathlib.Omega.{arith}
+use borrow.Author.Needs.{needs}
+use lib.ListN.{length}
+use Rattle.listing.specs.Listing.{lineSize}
+use Rattle.listing.proofs.Lines.{size-total, numbers-total, size-detail, numbers-detail}
+use Rattle.listing.proofs.put_line.Statement.{statement}
+use Rattle.listing.proofs.put_line.Tie as tie
+
+eight : (c : tie.After-total-numbers) → length (c .total-numbers .result) ≡ 8
+eight c = search needs
+
+seven : (c : tie.After-detail-numbers) → length (c .detail-numbers .result) ≡ 7
+seven c = search needs
+
+total : (c : tie.Then1) → lineSize (c .before .before .before .before .args .s .now) ≡ 54
+total c = size-total (c .before .before .before .before .args .s .now) (c .if1 .taken)
+
+detail : (c : tie.Else1) → lineSize (c .before .before .before .before .args .s .now) ≡ 46
+detail c = size-detail (c .before .before .before .before .args .s .now) (c .if1 .left)
+
+pub put-line-spec : {M : Type 1} → statement M
+put-line-spec =
+    tie.close
+    (tie.spec
+    (λ c. search needs)
+    (λ c κs. omega (arith, total c))
+    (λ c. search needs)
+    (λ c κs. let t = c .before .before in omega (arith, eight t, total (t .before)))
+    (λ c κs. search needs)
+    (λ c. search needs)
+    (λ c κs. let t = c .before .before in omega (arith, seven t, detail (t .before)))
+    (λ c. search needs)
+    (λ c.
+    let p = c .before .before .put-numbers .ensures in
+    let t = c .before .before .before .before .before in
+    let k = t .before .if1 .taken in
+    let line = t .before .before .before .before .before .args .s .now in
+    (rw (numbers-total line k, ← t .total-numbers .ensures) (p .0), omega (arith, p .1, eight t, total (t .before))))
+    (λ c. search needs)
+    (λ c.
+    let p = c .before .before .put-numbers2 .ensures in
+    let t = c .before .before .before .before .before in
+    let k = t .before .if1 .left in
+    let line = t .before .before .before .before .before .args .s .now in
+    (rw (numbers-detail line k, ← t .detail-numbers .ensures) (p .0), omega (arith, p .1, seven t, detail (t .before)))))

@@ -1,0 +1,63 @@
+-- Document 01, "Figures to meet": "The lister reads a book on standard input and prints a text line per line record: kind, group, the five
+-- figures, and for kind 8 CO2e; then `closed`, `unfinished`, or `refused` with code, records, field, one space between."
+use Prim.Native.Nat.{ℕ, zero, suc, _≤_}
+use mathlib.Core.Path.{_≡_}
+use mathlib.Core.List.{List, [], _∷_, _++_}
+use lib.ListN.{length, getD, drop}
+use mathlib.Core.Bool.{Bool}
+use lib.Dec.{ltb, eqb}
+use Rattle.codec.specs.declared.Field.{Field}
+use Rattle.codec.specs.Table.{lineFields, totalFields}
+use Rattle.codec.specs.Codec.{pick, valuesAt}
+use Rattle.text.specs.Decimal.{numbersLine, Put}
+use Rattle.account.specs.declared.Account.{Account}
+use Rattle.book.specs.Call.{Call}
+use Rattle.listing.specs.declared.Listed.{Listed}
+
+-- the line record at the front of some bytes is the close's: its kind is 8
+abbrev pub isTotal : List ℕ → Bool
+isTotal xs = eqb (getD xs 3 0) 8
+
+-- the bytes of the line record at the front
+abbrev pub lineSize : List ℕ → ℕ
+lineSize xs = pick (isTotal xs) 54 46
+
+-- the fields of the line record at the front
+abbrev pub fieldsOf : List ℕ → List Field
+fieldsOf xs = pick (isTotal xs) totalFields lineFields
+
+-- what is printed of it: all its values but the first two, which are its length and its version
+unfoldable pub lineNumbers : List ℕ → List ℕ
+lineNumbers xs = drop 2 (valuesAt (fieldsOf xs) xs 0)
+
+-- a text line per line record, of at most n that stand whole in the bytes
+unfoldable pub textBy : ℕ → List ℕ → List ℕ
+textBy zero xs = []
+textBy (suc n) xs = pick (ltb (length xs) (lineSize xs)) [] (numbersLine (lineNumbers xs) ++ textBy n (drop (lineSize xs) xs))
+
+-- a text line per line record: there are no more of them than bytes
+unfoldable pub linesText : List ℕ → List ℕ
+linesText xs = textBy (suc (length xs)) xs
+
+-- `closed`, `unfinished` and `refused `, in ASCII
+abbrev pub closedWord : List ℕ
+closedWord = 99 ∷ 108 ∷ 111 ∷ 115 ∷ 101 ∷ 100 ∷ 10 ∷ []
+
+abbrev pub unfinishedWord : List ℕ
+unfinishedWord = 117 ∷ 110 ∷ 102 ∷ 105 ∷ 110 ∷ 105 ∷ 115 ∷ 104 ∷ 101 ∷ 100 ∷ 10 ∷ []
+
+abbrev pub refusedWord : List ℕ
+refusedWord = 114 ∷ 101 ∷ 102 ∷ 117 ∷ 115 ∷ 101 ∷ 100 ∷ 32 ∷ []
+
+-- the last word, by the stage of the account reached
+unfoldable pub endText : Account → List ℕ
+endText a =
+    pick (eqb (a .stage) 2) closedWord
+    (pick (eqb (a .stage) 3) (refusedWord ++ numbersLine (a .refusal .code ∷ a .refusal .number ∷ a .refusal .field ∷ []))
+    unfinishedWord)
+
+-- r is what a call gives, with its lines as text at the front of the buffer
+pub record Lists (c : Call) (out out′ : List ℕ) (r : Listed) : Type 0 where
+  pub state : r .state ≡ c .state
+  pub taken : r .taken ≡ c .taken
+  pub text : Put out out′ 0 (linesText (c .bytes)) (r .written)

@@ -1,0 +1,170 @@
+// The lister's text: a text line per line record, and the last word.
+use account::Account;
+use book::State;
+use codec::numbers::be8;
+use codec::numbers::be16;
+use codec::numbers::be32;
+use text::put_numbers;
+ghost use mathlib.Core.Path.{_≡_};
+ghost use mathlib.Core.List.{_∷_, []};
+ghost use Prim.Native.Nat.{_+_, _*_, _≤_};
+ghost use lib.ListN.{length, drop};
+ghost use Rattle.codec.specs.Table.{lineFields, totalFields};
+ghost use Rattle.codec.specs.Codec.{valAt, valuesAt};
+ghost use Rattle.text.specs.Decimal.{Put, numbersLine};
+ghost use Rattle.book.specs.Call.{call};
+ghost use Rattle.listing.specs.Listing.{lineSize, lineNumbers, linesText, endText, Lists};
+
+// What one call over a part of a book makes: the new state, the bytes taken, and the bytes of text.
+pub struct Listed {
+    pub state: State,
+    pub taken: usize,
+    pub written: usize,
+}
+
+fn be64(s: &[u8], at: usize) -> u64
+    requires { ⌜ at + 8 ≤ length (now s) ⌝ }
+    ensures { λ r. ⌜ r ≡ valAt (now (s .entry)) at 8 ⌝ }
+{
+    let high = be32(s, at);
+    let low = be32(s, at + 4);
+    high * 4294967296 + low
+}
+
+// Kind, group and the five figures.
+fn detail_numbers(line: &[u8]) -> [u64; 7]
+    requires { ⌜ 46 ≤ length (now line) ⌝ }
+    ensures { λ r. ⌜ r ≡ drop 2 (valuesAt lineFields (now (line .entry)) 0) ⌝ }
+{
+    [
+        be8(line, 3),
+        be16(line, 4),
+        be64(line, 6),
+        be64(line, 14),
+        be64(line, 22),
+        be64(line, 30),
+        be64(line, 38),
+    ]
+}
+
+// Kind, group, the five sums and CO2e.
+fn total_numbers(line: &[u8]) -> [u64; 8]
+    requires { ⌜ 54 ≤ length (now line) ⌝ }
+    ensures { λ r. ⌜ r ≡ drop 2 (valuesAt totalFields (now (line .entry)) 0) ⌝ }
+{
+    [
+        be8(line, 3),
+        be16(line, 4),
+        be64(line, 6),
+        be64(line, 14),
+        be64(line, 22),
+        be64(line, 30),
+        be64(line, 38),
+        be64(line, 46),
+    ]
+}
+
+// The bytes of the line record at the front of s.
+fn line_size(s: &[u8]) -> usize
+    requires { ⌜ 46 ≤ length (now s) ⌝ }
+    ensures { λ n. ⌜ n ≡ lineSize (now (s .entry)) ⌝ }
+{
+    if s[3] == 8 { 54 } else { 46 }
+}
+
+// The text line of the line record at the front of s.
+fn put_line(out: &mut [u8], at: usize, s: &[u8]) -> usize
+    requires { ⌜ (46 ≤ length (now s)) × (lineSize (now s) ≤ length (now s)) ⌝ }
+    requires { ⌜ at + 4 * lineSize (now s) ≤ length (now out) ⌝ }
+    ensures { λ r. ⌜ Put (now (out .entry)) (now (out .exit)) at (numbersLine (lineNumbers (now (s .entry)))) r ⌝ }
+    ensures { λ r. ⌜ r ≤ at + 4 * lineSize (now (s .entry)) ⌝ }
+{
+    if s[3] == 8 {
+        let numbers = total_numbers(s);
+        put_numbers(out, at, &numbers)
+    } else {
+        let numbers = detail_numbers(s);
+        put_numbers(out, at, &numbers)
+    }
+}
+
+// The bytes of s from i on.
+fn rest_of(s: &[u8], i: usize) -> &[u8]
+    requires { ⌜ i ≤ length (now s) ⌝ }
+    ensures { λ r. ⌜ now r ≡ drop i (now (s .entry)) ⌝ }
+{
+    &s[i..]
+}
+
+// A text line per line record, from the start of out: at most four bytes for each byte of the lines.
+pub fn put_lines(out: &mut [u8], lines: &[u8]) -> usize
+    requires { ⌜ 4 * length (now lines) ≤ length (now out) ⌝ }
+    ensures { λ r. ⌜ Put (now (out .entry)) (now (out .exit)) 0 (linesText (now (lines .entry))) r ⌝ }
+{
+    let mut i = 0;
+    let mut at = 0;
+    while i < lines.len() {
+        let rest = rest_of(lines, i);
+        if rest.len() < 46 {
+            return at;
+        }
+        let n = line_size(rest);
+        if rest.len() < n {
+            return at;
+        }
+        at = put_line(out, at, rest);
+        i += n;
+    }
+    at
+}
+
+fn put_word(out: &mut [u8], at: usize, word: &[u8]) -> usize
+    requires { ⌜ at + length (now word) ≤ length (now out) ⌝ }
+    ensures { λ r. ⌜ Put (now (out .entry)) (now (out .exit)) at (now (word .entry)) r ⌝ }
+{
+    let mut i = 0;
+    while i < word.len() {
+        out[at + i] = word[i];
+        i += 1;
+    }
+    at + i
+}
+
+// The last word.
+pub fn put_end(out: &mut [u8], at: usize, account: Account) -> usize
+    requires { ⌜ at + 72 ≤ length (now out) ⌝ }
+    ensures { λ r. ⌜ Put (now (out .entry)) (now (out .exit)) at (endText account) r ⌝ }
+{
+    if account.stage == 2 {
+        return put_word(out, at, b"closed\n");
+    }
+    if account.stage != 3 {
+        return put_word(out, at, b"unfinished\n");
+    }
+    let refusal = account.refusal;
+    let numbers = [
+        refusal.code as u64,
+        refusal.number as u64,
+        refusal.field as u64,
+    ];
+    let end = put_word(out, at, b"refused ");
+    put_numbers(out, end, &numbers)
+}
+
+// One call over a part of a book, its lines as text from the start of out.
+pub fn list(state: State, part: &[u8], out: &mut [u8]) -> Listed
+    requires { ⌜ 65536 ≤ length (now out) ⌝ }
+    ensures { λ r. ⌜ Lists (call state (now (part .entry)) 16384) (now (out .entry)) (now (out .exit)) r ⌝ }
+    ensures { λ r. ⌜ r .taken ≤ length (now (part .entry)) ⌝ }
+{
+    let mut lines = [0u8; 16384];
+    let fed = state.feed(part, &mut lines);
+    let n = fed.written;
+    let written = put_lines(out, &lines[..n]);
+    let next = fed.state;
+    Listed {
+        state: next,
+        taken: fed.taken,
+        written,
+    }
+}
