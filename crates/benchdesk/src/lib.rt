@@ -1,0 +1,59 @@
+// For the bench alone: a book read in parts, as the herd desk reads it whole.
+use book::Answer;
+use book::Fed;
+use book::State;
+ghost use Prim.Native.Nat.{_≤_};
+ghost use lib.ListN.{length};
+
+fn code_of(answer: Answer) -> u64
+    ensures { λ r. ⌜ r ≤ 255 ⌝ }
+{
+    match answer {
+        Answer::Closed => 0,
+        Answer::Full => 16,
+        Answer::More => 17,
+        Answer::Refused(refusal) => refusal.code as u64,
+    }
+}
+
+fn least(a: usize, b: usize) -> usize
+    ensures { λ r. ⌜ (r ≤ a) × (r ≤ b) ⌝ }
+{
+    if a < b { a } else { b }
+}
+
+// The first bytes of rest, part of them at most.
+fn feed_part(state: State, rest: &[u8], part: usize, out: &mut [u8]) -> Fed
+    ensures { λ r. ⌜ (r .taken ≤ length (now (rest .entry))) × (r .written ≤ length (now (out .entry))) ⌝ }
+{
+    let n = least(part, rest.len());
+    state.feed(&rest[..n], out)
+}
+
+fn number(code: u64, w: usize) -> u64
+    requires { ⌜ code ≤ 255 ⌝ }
+{
+    code * 4294967296 + w as u64 % 4294967296
+}
+
+// Code times 2^32, plus the bytes written: as herd_desk, but for 18, since nothing is offered after the close.
+#[no_mangle]
+pub extern "C" fn bench_parts(book: &[u8], lines: &mut [u8], part: usize) -> u64 {
+    let mut state = State::new();
+    let mut i = 0;
+    let mut w = 0;
+    let mut calls = book.len();
+    while calls > 0 {
+        calls -= 1;
+        let fed = feed_part(state, &book[i..], part, &mut lines[w..]);
+        state = fed.state;
+        i += fed.taken;
+        w += fed.written;
+        let answer = fed.answer;
+        let code = code_of(answer);
+        if (code != 17) | (i == book.len()) {
+            return number(code, w);
+        }
+    }
+    number(17, w)
+}
