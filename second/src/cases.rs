@@ -10,6 +10,7 @@ use crate::slips;
 use crate::state::{Heading, Refusal, State, CLOSED, MOST_RECORDS, NO_RECORD, OPEN, REFUSED};
 use crate::states::{bare_states, beside_bounds, heading_beside, most_sums, right_state};
 use crate::trial::{bytes_of, Call, Case};
+use crate::writes;
 
 /// Document 01's sample book.
 pub const SAMPLE: &str = concat!(
@@ -27,10 +28,16 @@ pub fn sample() -> Vec<u8> {
 
 /// The case of this seed and index.
 pub fn case(seed: u64, index: u64) -> Case {
+    if let Some(case) = writes::in_a_row(seed, index) {
+        return case;
+    }
     let mut dice = Dice::of_case(seed, index);
     let dice = &mut dice;
     if dice.one_in(4_000) {
         return longest_book(dice);
+    }
+    if dice.one_in(8) {
+        return writes::some_write(dice);
     }
     match dice.below(20) {
         0..=3 => from_no_record(dice),
@@ -174,6 +181,7 @@ pub fn stored() -> Vec<Case> {
     cases.extend(each_number());
     cases.extend(each_clause());
     cases.extend(slips::at_the_ends());
+    cases.extend(writes::stored());
     let mut dice = Dice::of_case(1, 0);
     cases.push(longest_book(&mut dice));
     cases.extend((0..60).map(|_| slips::some_slip(&mut dice)));
@@ -200,12 +208,12 @@ fn sample_cases() -> Vec<Case> {
 }
 
 /// Twelve heads of cattle or pigs, and nothing eaten yet.
-fn under(class: u8) -> State {
+pub fn under(class: u8) -> State {
     let heading = Heading { group: 5, class, head: 12, days: [0; 3] };
     State { stage: OPEN, records: 2, set: 1, heading, ..State::default() }
 }
 
-fn place_of(kind: u8) -> State {
+pub fn place_of(kind: u8) -> State {
     match kind {
         1 => State::default(),
         5 => under(4),

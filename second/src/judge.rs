@@ -16,11 +16,15 @@ pub struct Accepted {
 /// Judges a record whose bytes are all there and whose length is 4..26; the state's held bytes don't matter.
 pub fn judge(state: &State, record: &[u8]) -> Result<Accepted, Fault> {
     let kind = kind_of(record)?;
+    judge_values(state, kind, &values_of(kind, record))
+}
+
+/// Judges the values of a kind 1..8, as many as it has fields: from 5 to 12.
+pub fn judge_values(state: &State, kind: u8, values: &[u128]) -> Result<Accepted, Fault> {
     in_its_place(state, kind)?;
-    let values = values_of(kind, record);
-    in_their_ranges(kind, &values)?;
-    makes_sense(state, kind, &values)?;
-    Ok(accept(&state.empty_handed(), kind, &values))
+    in_their_ranges(kind, values)?;
+    makes_sense(state, kind, values)?;
+    Ok(accept(&state.empty_handed(), kind, values))
 }
 
 fn refuse_if(wrong: bool, code: u8) -> Result<(), Fault> {

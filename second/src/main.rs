@@ -1,4 +1,4 @@
-//! The second program: the farm book once more, from document 01 alone, to compare with.
+//! The second program: the farm book once more, from documents 01 and 02 alone, to compare with.
 
 mod books;
 mod calls;
@@ -15,9 +15,13 @@ mod slips;
 mod state;
 mod states;
 mod trial;
+mod writer;
+mod writes;
 
 #[cfg(test)]
 mod tests;
+#[cfg(test)]
+mod writer_tests;
 
 use std::io::{self, BufRead, BufWriter, Read, Write};
 

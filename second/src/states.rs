@@ -58,7 +58,7 @@ fn some_heading(dice: &mut Dice) -> Heading {
     }
 }
 
-fn some_refusal(dice: &mut Dice, record: u16) -> Refusal {
+pub fn some_refusal(dice: &mut Dice, record: u16) -> Refusal {
     let code = dice.between(1, 12) as u8;
     let field = if code == 7 { dice.between(1, 12) as u8 } else { 0 };
     Refusal { code, record, field }

@@ -4,9 +4,10 @@ use crate::feed::{feed, Answer, Reply};
 use crate::figures::Figures;
 use crate::slip::{slip, Change, Ration};
 use crate::state::{Heading, Refusal, State};
-use std::fmt::Write;
+use crate::writer::write;
+use std::fmt::Write as _;
 
-/// What stands in the line buffer before each call.
+/// What stands in the buffer before each call.
 pub const FILL: u8 = 0xA5;
 
 /// A longer run of lines is told by its checksum alone.
@@ -22,6 +23,7 @@ pub struct Call {
 pub enum Case {
     Book { state: State, input: Vec<u8>, calls: Vec<Call> },
     Slip { ration: Ration, change: Change },
+    Write { state: State, kind: u64, values: Vec<u64>, room: usize },
 }
 
 /// What is wrong with a line that is no case.
@@ -83,14 +85,16 @@ impl Case {
                 text + "\n"
             }
             Case::Slip { ration, change } => slip_text(ration, *change),
+            Case::Write { state, kind, values, room } => write_text(state, *kind, values, *room),
         }
     }
 
-    /// What the calls, or the slip, should give.
+    /// What the calls, the slip or the writer should give.
     pub fn answer(&self) -> String {
         match self {
             Case::Book { state, input, calls } => book_answer(state, input, calls),
             Case::Slip { ration, change } => slip_answer(*ration, *change),
+            Case::Write { state, kind, values, room } => write_answer(state, *kind, values, *room),
         }
     }
 
@@ -99,7 +103,8 @@ impl Case {
         let case = match tokens.next()? {
             "B" => tokens.book()?,
             "S" => tokens.slip()?,
-            other => return Err(format!("{other:?} is neither B nor S")),
+            "W" => tokens.write()?,
+            other => return Err(format!("{other:?} is none of B, S and W")),
         };
         match tokens.next() {
             Err(_) => Ok(case),
@@ -178,12 +183,22 @@ impl<'a> Tokens<'a> {
         };
         Ok(Case::Slip { ration, change })
     }
+
+    fn write(&mut self) -> Result<Case, Fault> {
+        let state = self.state()?;
+        let (kind, room) = (self.number()?, self.number()?);
+        let count: usize = self.number()?;
+        let values = (0..count).map(|_| self.number()).collect::<Result<_, _>>()?;
+        Ok(Case::Write { state, kind, values, room })
+    }
 }
 
-/// A checksum whose numbers stay small, over the whole line buffer.
-fn checksum(buffer: &[u8]) -> (u32, u32) {
+/// A checksum whose numbers stay small, over the whole buffer: the bytes written, and what stood past them.
+fn checksum(written: &[u8], room: usize) -> (u32, u32) {
+    let mut buffer = written.to_vec();
+    buffer.resize(room, FILL);
     let (mut a, mut b) = (0, 0);
-    for &byte in buffer {
+    for byte in buffer {
         a = (a + u32::from(byte) + 1) % 65_521;
         b = (b + a) % 65_521;
     }
@@ -212,9 +227,7 @@ fn call_text(reply: &Reply, room: usize) -> String {
     };
     let Refusal { code, record, field } = refusal;
     let written = reply.lines.len();
-    let mut buffer = reply.lines.clone();
-    buffer.resize(room, FILL);
-    let (a, b) = checksum(&buffer);
+    let (a, b) = checksum(&reply.lines, room);
     let shown = if written <= MOST_SHOWN { hex(&reply.lines) } else { "-".to_string() };
     let taken = reply.taken;
     format!("{number} {code:x} {record:x} {field:x} {taken:x} {written:x} {a:x} {b:x} {shown}\n")
@@ -244,4 +257,23 @@ fn slip_answer(given: Ration, change: Change) -> String {
     let [ge, ym, head, kg] =
         [made.ration.ge, made.ration.ym, made.ration.head, made.kg].map(bits_text);
     format!("{:x} {ge} {ym} {head} {:x} {kg}\n", made.code, made.ration.days)
+}
+
+fn write_text(state: &State, kind: u64, values: &[u64], room: usize) -> String {
+    let mut text = format!("W {} {kind:x} {room:x} {:x}", state_text(state), values.len());
+    for value in values {
+        let _ = write!(text, " {value:x}");
+    }
+    text + "\n"
+}
+
+/// Code 0 where the record is written; a refusal writes nothing and keeps the state.
+fn write_answer(given: &State, kind: u64, values: &[u64], room: usize) -> String {
+    let (Refusal { code, record, field }, bytes, state) = match write(given, kind, values, room) {
+        Ok(wrote) => (Refusal::default(), wrote.bytes, wrote.state),
+        Err(refusal) => (refusal, Vec::new(), *given),
+    };
+    let (a, b) = checksum(&bytes, room);
+    let (written, shown, state) = (bytes.len(), hex(&bytes), state_text(&state));
+    format!("{code:x} {record:x} {field:x} {written:x} {a:x} {b:x} {shown}\n{state}\n")
 }

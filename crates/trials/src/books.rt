@@ -20,9 +20,9 @@ ghost use Prim.Native.Nat.{_≤_};
 ghost use lib.ListN.{length};
 
 // A state read, and where the next word begins.
-struct Resumed {
-    state: State,
-    next: usize,
+pub(crate) struct Resumed {
+    pub state: State,
+    pub next: usize,
 }
 
 // What one call gave: the state, the bytes taken, and the bytes of answer so far.
@@ -90,7 +90,7 @@ fn account_of(v: [u64; 18]) -> Account {
     }
 }
 
-fn read_state(line: &[u8], at: usize) -> Resumed {
+pub(crate) fn read_state(line: &[u8], at: usize) -> Resumed {
     let mut values = [0u64; 18];
     let mut held = [0u8; 27];
     let after = read_numbers(line, at, &mut values);
@@ -130,13 +130,13 @@ fn put_sums(out: &mut [u8], at: usize, f: Figures) -> usize {
     put_words(out, at, &values)
 }
 
-fn put_refusal(out: &mut [u8], at: usize, r: Refusal) -> usize {
+pub(crate) fn put_refusal(out: &mut [u8], at: usize, r: Refusal) -> usize {
     let values = [r.code as u64, r.number as u64, r.field as u64];
     put_words(out, at, &values)
 }
 
 // A state on a line of its own.
-fn put_state(out: &mut [u8], at: usize, s: State) -> usize {
+pub(crate) fn put_state(out: &mut [u8], at: usize, s: State) -> usize {
     let a = s.account;
     let sums = a.sums;
     let refusal = a.refusal;
@@ -163,7 +163,7 @@ fn put_answer(out: &mut [u8], at: usize, answer: Answer) -> usize {
 }
 
 // The bytes written, where there are 1 to 200 of them.
-fn put_lines(out: &mut [u8], at: usize, lines: &[u8]) -> usize {
+pub(crate) fn put_lines(out: &mut [u8], at: usize, lines: &[u8]) -> usize {
     if lines.len() == 0 {
         return put(out, at, b'-');
     }
@@ -194,7 +194,7 @@ fn call(state: State, src: &[u8], room: &mut [u8], out: &mut [u8], at: usize) ->
     }
 }
 
-fn fill(room: &mut [u8]) {
+pub(crate) fn fill(room: &mut [u8]) {
     let mut i = 0;
     while i < room.len() {
         room[i] = 165;
@@ -203,7 +203,7 @@ fn fill(room: &mut [u8]) {
 }
 
 // Writes the answers out where they begin to fill the buffer; how many bytes are left in it.
-fn flushed(out: &[u8], w: usize) -> usize {
+pub(crate) fn flushed(out: &[u8], w: usize) -> usize {
     if w < 32768 {
         return w;
     }
@@ -213,7 +213,7 @@ fn flushed(out: &[u8], w: usize) -> usize {
     0
 }
 
-fn least(a: u64, b: usize) -> usize
+pub(crate) fn least(a: u64, b: usize) -> usize
     ensures { λ r. ⌜ r ≤ b ⌝ }
 {
     if a < b as u64 { a as usize } else { b }

@@ -1,8 +1,9 @@
-// Replays trials of the book reader and of the slip: cases on standard input, answers on standard output (docs/notes-second.md).
+// Replays trials of the book reader, of the writer and of the slip: cases on standard input, answers on standard output (docs/notes-second.md).
 mod books;
 mod shown;
 mod slips;
 mod words;
+mod written;
 
 use libc::STDIN_FILENO;
 use libc::STDOUT_FILENO;
@@ -35,6 +36,9 @@ fn replay(line: &[u8], input: &mut [u8], room: &mut [u8], out: &mut [u8], w: usi
     }
     if line[0] == b'S' {
         return slips::replay(line, 2, out, w);
+    }
+    if line[0] == b'W' {
+        return written::replay(line, 2, room, out, w);
     }
     books::replay(line, 2, input, room, out, w)
 }

@@ -1,0 +1,14 @@
+-- The records before, or the entry as it is. Assumes nothing.
+use mathlib.Core.Path.{refl}
+use borrow.Author.Needs.{needs}
+use Rattle.typed.proofs.Lines.{filled, kept}
+use Rattle.typed.proofs.completed.Statement.{statement}
+use Rattle.typed.proofs.completed.Tie as tie
+
+pub completed-spec : {M : Type 1} → statement M
+completed-spec =
+    tie.close
+    (tie.spec
+    (λ c. search needs)
+    (λ c. (filled _ _ (c .if1 .taken), refl))
+    (λ c. (kept _ _ (c .if1 .left), search needs)))

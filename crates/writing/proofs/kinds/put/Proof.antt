@@ -1,0 +1,52 @@
+-- What the kind's own function stores. Assumes nothing.
+use mathlib.Core.Path.{_≡_, refl}
+use native.Mathlib.Omega.{arith}
+use Rattle.codec.specs.Table.{table, size}
+use Rattle.writing.proofs.Listed.{eighth}
+use Rattle.writing.proofs.ByKind.{counted, fitting, stored}
+use Rattle.writing.proofs.kinds.put.Statement.{statement}
+use Rattle.writing.proofs.kinds.put.Tie as tie
+
+eight : (c : tie.At-match-rest) → c .before .before .before .args .kind ≡ 8
+eight c =
+    let r = c .match .rest in
+    let o = c .before .before .before .pre .2 in
+    eighth _ (o .least) (o .most) (r .0 .0 .0 .0 .0 .0 .1) (r .0 .0 .0 .0 .0 .1) (r .0 .0 .0 .0 .1) (r .0 .0 .0 .1) (r .0 .0 .1) (r .0 .1) (r .1)
+
+pub put-spec : {M : Type 1} → statement M
+unfolding table size
+put-spec =
+    tie.close
+    (tie.spec
+    (λ c κs. counted 1 (c .before .match .keys1) 3 refl (c .before .before .before .before .pre .2))
+    (λ c κs. fitting 1 (c .before .before .match .keys1) (c .three .ensures) (c .before .before .before .before .before .pre .0) (c .before .before .before .before .before .pre .1))
+    (λ c κs. counted 2 (c .before .match .keys2) 3 refl (c .before .before .before .before .pre .2))
+    (λ c κs. fitting 2 (c .before .before .match .keys2) (c .three2 .ensures) (c .before .before .before .before .before .pre .0) (c .before .before .before .before .before .pre .1))
+    (λ c κs. counted 3 (c .before .match .keys3) 3 refl (c .before .before .before .before .pre .2))
+    (λ c κs. fitting 3 (c .before .before .match .keys3) (c .three3 .ensures) (c .before .before .before .before .before .pre .0) (c .before .before .before .before .before .pre .1))
+    (λ c κs. counted 4 (c .before .match .keys4) 9 refl (c .before .before .before .before .pre .2))
+    (λ c κs. fitting 4 (c .before .before .match .keys4) (c .nine .ensures) (c .before .before .before .before .before .pre .0) (c .before .before .before .before .before .pre .1))
+    (λ c κs. counted 5 (c .before .match .keys5) 12 refl (c .before .before .before .before .pre .2))
+    (λ c κs. fitting 5 (c .before .before .match .keys5) (c .twelve .ensures) (c .before .before .before .before .before .pre .0) (c .before .before .before .before .before .pre .1))
+    (λ c κs. counted 6 (c .before .match .keys6) 3 refl (c .before .before .before .before .pre .2))
+    (λ c κs. fitting 6 (c .before .before .match .keys6) (c .three4 .ensures) (c .before .before .before .before .before .pre .0) (c .before .before .before .before .before .pre .1))
+    (λ c κs. counted 7 (c .before .match .keys7) 1 refl (c .before .before .before .before .pre .2))
+    (λ c κs. fitting 7 (c .before .before .match .keys7) (c .one .ensures) (c .before .before .before .before .before .pre .0) (c .before .before .before .before .before .pre .1))
+    (λ c κs. counted 8 (eight (c .before)) 1 refl (c .before .before .before .before .pre .2))
+    (λ c κs. fitting 8 (eight (c .before .before)) (c .one2 .ensures) (c .before .before .before .before .before .pre .0) (c .before .before .before .before .before .pre .1))
+    (λ c. omega arith)
+    (λ c. stored 1 (c .before .before .before .before .before .match .keys1) (c .before .before .before .three .ensures) _ (c .before .before .farm .ensures))
+    (λ c. omega arith)
+    (λ c. stored 2 (c .before .before .before .before .before .match .keys2) (c .before .before .before .three2 .ensures) _ (c .before .before .heading .ensures))
+    (λ c. omega arith)
+    (λ c. stored 3 (c .before .before .before .before .before .match .keys3) (c .before .before .before .three3 .ensures) _ (c .before .before .enteric .ensures))
+    (λ c. omega arith)
+    (λ c. stored 4 (c .before .before .before .before .before .match .keys4) (c .before .before .before .nine .ensures) _ (c .before .before .cattle .ensures))
+    (λ c. omega arith)
+    (λ c. stored 5 (c .before .before .before .before .before .match .keys5) (c .before .before .before .twelve .ensures) _ (c .before .before .pig .ensures))
+    (λ c. omega arith)
+    (λ c. stored 6 (c .before .before .before .before .before .match .keys6) (c .before .before .before .three4 .ensures) _ (c .before .before .energy .ensures))
+    (λ c. omega arith)
+    (λ c. stored 7 (c .before .before .before .before .before .match .keys7) (c .before .before .before .one .ensures) _ (c .before .before .soil .ensures))
+    (λ c. omega arith)
+    (λ c. stored 8 (eight (c .before .before .before .before .before)) (c .before .before .before .one2 .ensures) _ (c .before .before .close .ensures)))

@@ -1,0 +1,43 @@
+-- What the kind's own function tells. Assumes nothing.
+use mathlib.Core.Path.{_≡_, refl}
+use Rattle.codec.specs.Table.{table}
+use Rattle.writing.proofs.Listed.{eighth}
+use Rattle.writing.proofs.ByKind.{counted, told}
+use Rattle.writing.proofs.kinds.weighed.Statement.{statement}
+use Rattle.writing.proofs.kinds.weighed.Tie as tie
+
+eight : (c : tie.At-match-rest) → c .before .before .args .kind ≡ 8
+eight c =
+    let r = c .match .rest in
+    let o = c .before .before .pre .2 in
+    eighth _ (o .least) (o .most) (r .0 .0 .0 .0 .0 .0 .1) (r .0 .0 .0 .0 .0 .1) (r .0 .0 .0 .0 .1) (r .0 .0 .0 .1) (r .0 .0 .1) (r .0 .1) (r .1)
+
+pub weighed-spec : {M : Type 1} → statement M
+unfolding table
+weighed-spec =
+    tie.close
+    (tie.spec
+    (λ c κs. counted 1 (c .match .keys1) 3 refl (c .before .before .pre .2))
+    (λ c κs. (c .before .before .before .pre .0, c .before .before .before .pre .1))
+    (λ c κs. counted 2 (c .match .keys2) 3 refl (c .before .before .pre .2))
+    (λ c κs. (c .before .before .before .pre .0, c .before .before .before .pre .1))
+    (λ c κs. counted 3 (c .match .keys3) 3 refl (c .before .before .pre .2))
+    (λ c κs. (c .before .before .before .pre .0, c .before .before .before .pre .1))
+    (λ c κs. counted 4 (c .match .keys4) 9 refl (c .before .before .pre .2))
+    (λ c κs. (c .before .before .before .pre .0, c .before .before .before .pre .1))
+    (λ c κs. counted 5 (c .match .keys5) 12 refl (c .before .before .pre .2))
+    (λ c κs. (c .before .before .before .pre .0, c .before .before .before .pre .1))
+    (λ c κs. counted 6 (c .match .keys6) 3 refl (c .before .before .pre .2))
+    (λ c κs. (c .before .before .before .pre .0, c .before .before .before .pre .1))
+    (λ c κs. counted 7 (c .match .keys7) 1 refl (c .before .before .pre .2))
+    (λ c κs. (c .before .before .before .pre .0, c .before .before .before .pre .1))
+    (λ c κs. counted 8 (eight c) 1 refl (c .before .before .pre .2))
+    (λ c κs. (c .before .before .before .pre .0, c .before .before .before .pre .1))
+    (λ c. told 1 (c .before .before .match .keys1) (c .before .three .ensures) _ (c .farm .ensures))
+    (λ c. told 2 (c .before .before .match .keys2) (c .before .three2 .ensures) _ (c .heading .ensures))
+    (λ c. told 3 (c .before .before .match .keys3) (c .before .three3 .ensures) _ (c .enteric .ensures))
+    (λ c. told 4 (c .before .before .match .keys4) (c .before .nine .ensures) _ (c .cattle .ensures))
+    (λ c. told 5 (c .before .before .match .keys5) (c .before .twelve .ensures) _ (c .pig .ensures))
+    (λ c. told 6 (c .before .before .match .keys6) (c .before .three4 .ensures) _ (c .energy .ensures))
+    (λ c. told 7 (c .before .before .match .keys7) (c .before .one .ensures) _ (c .soil .ensures))
+    (λ c. told 8 (eight (c .before .before)) (c .before .one2 .ensures) _ (c .close .ensures)))
