@@ -4,7 +4,7 @@
 
 #include <string.h>
 
-enum { MOST_RECORDS = 4096, DETAIL_LINE = 46, TOTAL_LINE = 54 };
+enum { MOST_RECORDS = 4096, DETAIL_LINE = 46, TOTAL_LINE = 54, SUBTOTAL = 16 };
 
 /* A fault is a refusal's code with its field above it; no fault is 0. */
 #define FAULT(code) (code)
@@ -61,7 +61,7 @@ static int farm(struct reader *r, const uint8_t *p) {
     return 0;
 }
 
-static int heading(struct reader *r, const uint8_t *p) {
+static int heading(const struct reader *r, const uint8_t *p, struct heading *h) {
     uint64_t group = be16(p), head = be16(p + 3);
     if (group == 0) {
         return OUT_OF_RANGE(1);
@@ -75,7 +75,7 @@ static int heading(struct reader *r, const uint8_t *p) {
     if (group <= r->heading.group) {
         return FAULT(8);
     }
-    r->heading = (struct heading){(uint16_t)group, p[2], (uint16_t)head, {0, 0, 0}};
+    *h = (struct heading){(uint16_t)group, p[2], (uint16_t)head, {0, 0, 0}};
     return 0;
 }
 
@@ -216,18 +216,52 @@ static enum answer refuse(struct reader *r, int fault) {
     return REFUSED;
 }
 
+/* The line of the group under the heading; groups are numbered from 1, and without a heading it has no bytes. */
+static size_t subtotal_size(const struct reader *r) {
+    return r->heading.group != 0 ? DETAIL_LINE : 0;
+}
+
+static void put_subtotal(const struct reader *r, uint8_t *line) {
+    put_line(line, DETAIL_LINE - 2, SUBTOTAL, r->heading.group, &r->subtotal);
+}
+
+static enum answer new_group(struct reader *r, const uint8_t *p, uint8_t *line, size_t room, size_t *written) {
+    struct heading next;
+    int fault = heading(r, p, &next);
+    size_t size = subtotal_size(r);
+    if (fault) {
+        return refuse(r, fault);
+    }
+    if (room < size) {
+        return FULL;
+    }
+    if (size > 0) {
+        put_subtotal(r, line);
+        *written += size;
+    }
+    r->heading = next;
+    r->subtotal = (struct figures){0, 0, 0, 0, 0};
+    r->records++;
+    return MORE;
+}
+
 static enum answer close_book(struct reader *r, const uint8_t *p, uint8_t *line, size_t room, size_t *written) {
     const struct figures *sums = &r->sums;
+    size_t size = subtotal_size(r);
     if (be16(p) != r->records) {
         return refuse(r, FAULT(12));
     }
-    if (room < TOTAL_LINE) {
+    if (room < size + TOTAL_LINE) {
         return FULL;
+    }
+    if (size > 0) {
+        put_subtotal(r, line);
+        line += size;
     }
     uint64_t per_ch4 = r->set == 1 ? 21 : 23, per_n2o = r->set == 1 ? 310 : 296;
     put_line(line, TOTAL_LINE - 2, 8, 0, sums);
     put64(line + DETAIL_LINE, sums->co2 + per_ch4 * sums->ch4 + per_n2o * sums->n2o);
-    *written += TOTAL_LINE;
+    *written += size + TOTAL_LINE;
     r->stage = CLOSED_BOOK;
     r->records++;
     return CLOSED;
@@ -241,13 +275,11 @@ static void add(struct figures *sums, const struct figures *f) {
     sums->land += f->land;
 }
 
-/* What the record says, by its kind; the close is not among them. */
+/* What the record says, by its kind; heading and close are not among them. */
 static int read_record(struct reader *r, unsigned kind, const uint8_t *p, struct figures *f, uint64_t *days) {
     switch (kind) {
     case 1:
         return farm(r, p);
-    case 2:
-        return heading(r, p);
     case 3:
         return enteric(r, p, f, days);
     case 4:
@@ -261,12 +293,15 @@ static int read_record(struct reader *r, unsigned kind, const uint8_t *p, struct
     }
 }
 
-/* One whole record whose length is 4..26. MORE: accepted, and `written` grew by its line. FULL: nothing has changed. */
+/* One whole record whose length is 4..26. MORE: accepted, and `written` grew by its lines. FULL: nothing has changed. */
 static enum answer judge(struct reader *r, const uint8_t *record, uint8_t *line, size_t room, size_t *written) {
     struct figures f = {0, 0, 0, 0, 0};
     uint64_t days = 0;
     unsigned kind = record[3];
     int fault = misplaced(r, record);
+    if (!fault && kind == 2) {
+        return new_group(r, record + 4, line, room, written);
+    }
     if (!fault && kind == 8) {
         return close_book(r, record + 4, line, room, written);
     }
@@ -276,7 +311,7 @@ static enum answer judge(struct reader *r, const uint8_t *record, uint8_t *line,
     if (fault) {
         return refuse(r, fault);
     }
-    if (kind > 2) {
+    if (kind > 1) {
         if (room < DETAIL_LINE) {
             return FULL;
         }
@@ -285,6 +320,7 @@ static enum answer judge(struct reader *r, const uint8_t *record, uint8_t *line,
         add(&r->sums, &f);
     }
     if (kind >= 3 && kind <= 5) {
+        add(&r->subtotal, &f);
         r->heading.days[kind - 3] += (uint16_t)days;
     }
     r->records++;

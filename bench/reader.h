@@ -24,6 +24,7 @@ struct reader {
     uint8_t set;
     uint16_t records;
     struct heading heading;
+    struct figures subtotal; /* of kinds 3 to 5 under the heading, so its CO2 stays 0 */
     struct figures sums;
     uint8_t code, field; /* of the refusal */
     uint8_t held_count;

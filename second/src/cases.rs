@@ -3,12 +3,16 @@
 use crate::books::{
     after, closed_run, damaged_run, right_close, right_run, values_outside, wrong_record,
 };
-use crate::calls::{some_calls, MOST_ROOM};
+use crate::calls::{some_calls, MOST_ROOM, ROOMS};
 use crate::dice::Dice;
+use crate::figures::Subtotal;
 use crate::record::{fields_of, record_of};
 use crate::slips;
 use crate::state::{Heading, Refusal, State, CLOSED, MOST_RECORDS, NO_RECORD, OPEN, REFUSED};
-use crate::states::{bare_states, beside_bounds, heading_beside, most_sums, right_state};
+use crate::states::{
+    bare_states, beside_bounds, heading_beside, most_subtotal, most_sums, right_state,
+    subtotal_beside,
+};
 use crate::trial::{bytes_of, Call, Case};
 use crate::writes;
 
@@ -177,6 +181,8 @@ pub fn stored() -> Vec<Case> {
     let mut cases = sample_cases();
     cases.extend(field_ends());
     cases.extend(each_place());
+    cases.extend(groups());
+    cases.extend(group_ends());
     cases.extend(heaviest());
     cases.extend(each_number());
     cases.extend(each_clause());
@@ -198,12 +204,102 @@ fn whole(state: State, input: Vec<u8>, room: usize) -> Case {
 fn sample_cases() -> Vec<Case> {
     let start = State::default();
     let mut cases = vec![whole(start, sample(), 4_096), whole(start, Vec::new(), 0)];
-    for room in [0, 1, 45, 46, 47, 53, 54, 55, 91, 92, 93, 100, 191, 192] {
+    for room in ROOMS.into_iter().chain([191, 192, 237, 238]) {
         let calls = vec![Call { offer: 1_000, room }; 5];
         cases.push(Case::Book { state: start, input: sample(), calls });
     }
-    let calls = vec![Call { offer: 1, room: 54 }; sample().len() + 1];
-    cases.push(Case::Book { state: start, input: sample(), calls });
+    cases.push(byte_by_byte(sample()));
+    cases
+}
+
+/// With the room that makes each step sure.
+fn byte_by_byte(input: Vec<u8>) -> Case {
+    let calls = vec![Call { offer: 1, room: 100 }; input.len() + 1];
+    Case::Book { state: State::default(), input, calls }
+}
+
+/// Records of these kinds with plain values, a heading with its group and class, and a right close where 8 stands.
+fn book_of(records: &[(u8, u64, u64)]) -> Vec<u8> {
+    let record = |(before, &(kind, group, class)): (usize, &(u8, u64, u64))| match kind {
+        2 => record_of(2, &[group, class, 40]),
+        8 => record_of(8, &[before as u64]),
+        _ => record_of(kind, &plain_values(kind)),
+    };
+    records.iter().enumerate().flat_map(record).collect()
+}
+
+/// Cattle, nothing, pigs and cattle again, with energy and soil between their rations.
+pub fn several_groups() -> Vec<u8> {
+    let plain = |kind| (kind, 0, 0);
+    let heading = |group, class| (2, group, class);
+    let cattle = [heading(12, 1), plain(3), plain(6), plain(4), plain(7), plain(3)];
+    let pigs = [heading(13, 2), heading(500, 4), plain(7), plain(5), plain(6), plain(5)];
+    let last = [heading(65_535, 3), plain(4), plain(6), plain(8)];
+    book_of(&[&[plain(1), plain(6)], &cattle[..], &pigs, &last].concat())
+}
+
+/// Books whose groups have many rations, one, or none.
+fn groups() -> Vec<Case> {
+    let start = State::default();
+    let plain = |kind| (kind, 0, 0);
+    let heading = |group| (2, group, 1);
+    let books = [
+        several_groups(),
+        book_of(&[plain(1), plain(8)]),
+        book_of(&[plain(1), plain(7), plain(6), plain(8)]),
+        book_of(&[plain(1), heading(1), plain(8)]),
+        book_of(&[plain(1), heading(1), heading(2), heading(65_535), plain(8)]),
+        book_of(&[plain(1), heading(9), plain(6), plain(7), heading(10), plain(3), plain(8)]),
+        book_of(&[plain(1), heading(9), plain(3), heading(9), plain(8)]),
+    ];
+    let mut cases: Vec<Case> = Vec::new();
+    for input in books {
+        cases.push(whole(start, input.clone(), 4_096));
+        for room in [46, 54, 92, 99, 100, 101, 146] {
+            let calls = vec![Call { offer: 1_000, room }; 12];
+            cases.push(Case::Book { state: start, input: input.clone(), calls });
+        }
+        cases.push(byte_by_byte(input));
+    }
+    cases
+}
+
+/// Records that end a group, after others or alone, with each room that matters; wrong ones with room and without.
+fn group_ends() -> Vec<Case> {
+    let mut with_group = State { records: 4, sums: most_sums(3), ..under(1) };
+    with_group.subtotal =
+        Subtotal { ch4: 434_501, n2o: 18_304, excreted: 1_318_672, land: 302_400 };
+    let full_group = State { subtotal: most_subtotal(4), ..with_group };
+    let no_group =
+        State { heading: Heading::default(), subtotal: Subtotal::default(), ..with_group };
+    let (enteric, energy) = (record_of(3, &plain_values(3)), record_of(6, &plain_values(6)));
+    let heading = |group, head| record_of(2, &[group, 1, head]);
+    let close = |before| record_of(8, &[before]);
+    let ends = [
+        (with_group, heading(6, 40)),
+        (full_group, heading(6, 40)),
+        (no_group, heading(6, 40)),
+        (with_group, close(4)),
+        (full_group, close(4)),
+        (no_group, close(4)),
+        (with_group, [enteric.clone(), heading(6, 40)].concat()),
+        (with_group, [enteric, close(5)].concat()),
+        (with_group, [energy.clone(), close(5)].concat()),
+        (no_group, [energy, close(5)].concat()),
+        (with_group, [heading(6, 40), close(5)].concat()),
+        (with_group, [heading(6, 40), heading(7, 40)].concat()),
+    ];
+    let mut cases = Vec::new();
+    for wrong in [heading(6, 20_001), heading(5, 40), close(5)] {
+        cases.extend([0, 100].map(|room| whole(with_group, wrong.clone(), room)));
+    }
+    for (state, input) in ends {
+        for room in ROOMS.into_iter().chain([147]) {
+            let first = Call { offer: input.len(), room };
+            let calls = vec![first, Call { room: 100, ..first }];
+            cases.push(Case::Book { state, input: input.clone(), calls });
+        }
+    }
     cases
 }
 
@@ -238,7 +334,7 @@ pub fn field_end_records(kind: u8) -> Vec<Vec<u8>> {
 
 fn field_ends() -> Vec<Case> {
     let cases_of = |kind| {
-        field_end_records(kind).into_iter().map(move |record| whole(place_of(kind), record, 54))
+        field_end_records(kind).into_iter().map(move |record| whole(place_of(kind), record, 100))
     };
     (1..=8).flat_map(cases_of).collect()
 }
@@ -251,12 +347,12 @@ fn each_place() -> Vec<Case> {
     let mut cases = Vec::new();
     for kind in 1..=8 {
         let record = record_of(kind, &plain_values(kind));
-        cases.extend(places.iter().map(|&state| whole(state, record.clone(), 54)));
+        cases.extend(places.iter().map(|&state| whole(state, record.clone(), 100)));
     }
     cases
 }
 
-/// The largest figures there are, added to the largest sums.
+/// The largest figures there are, added to the largest subtotal and sums.
 fn heaviest() -> Vec<Case> {
     let records: [(u8, &[u64]); 6] = [
         (3, &[366, 100_000, 2_000]),
@@ -270,9 +366,10 @@ fn heaviest() -> Vec<Case> {
     for (kind, values) in records {
         let mut state = place_of(kind);
         state.heading.head = 20_000;
+        state.subtotal = most_subtotal(state.records);
         state.sums = most_sums(state.records);
         let input = [record_of(kind, values), record_of(8, &[3])].concat();
-        cases.push(whole(state, input, 100));
+        cases.push(whole(state, input, 146));
     }
     cases
 }
@@ -323,6 +420,7 @@ fn each_clause() -> Vec<Case> {
     let mut held = under(3);
     held.records = 7;
     held.sums.ch4 = 1_000_000;
+    held.subtotal.ch4 = 400_000;
     let held = after(&held, &sample()[20..26]);
     let closed = State { stage: CLOSED, ..under(4) };
     let mut refused = State { stage: REFUSED, ..under(2) };
@@ -333,5 +431,6 @@ fn each_clause() -> Vec<Case> {
     }
     let without_heading = State { heading: Heading::default(), ..under(1) };
     states.extend(heading_beside(&without_heading));
-    states.into_iter().map(|state| whole(state, vec![0], 54)).collect()
+    states.extend(subtotal_beside(&without_heading));
+    states.into_iter().map(|state| whole(state, vec![0], 100)).collect()
 }

@@ -1,20 +1,20 @@
 //! Books for the C host: a line each of book, room, the herd desk's number, and the lines.
 
 use crate::books::{closed_run, damaged_run, right_run};
-use crate::cases::{field_end_records, plain_values, sample};
+use crate::calls::ROOMS;
+use crate::cases::{field_end_records, plain_values, sample, several_groups};
 use crate::dice::Dice;
 use crate::feed::herd_desk;
 use crate::record::record_of;
 use crate::state::State;
 use crate::trial::hex;
 
-const ROOMS: [usize; 14] = [0, 1, 45, 46, 47, 53, 54, 55, 91, 92, 93, 100, 1_000, 8_192];
-
 /// The lines of one book, with many rooms, among them just enough and one byte less.
 pub fn book_text(dice: &mut Dice, book: &[u8]) -> String {
     let enough = herd_desk(book, 1 << 20).1.len();
     let mut rooms = ROOMS.to_vec();
     rooms.extend([
+        8_192,
         enough,
         enough + 1,
         enough.saturating_sub(1),
@@ -30,14 +30,15 @@ fn desk_line(book: &[u8], room: usize) -> String {
     format!("{} {room:x} {number:x} {}\n", hex(book), hex(&lines))
 }
 
-/// The book of this seed and index: the sample, no bytes, then right, damaged, unfinished and trailing ones.
+/// The book of this seed and index: the sample, no bytes, several groups, then right, damaged, unfinished and trailing ones.
 pub fn some_book(dice: &mut Dice, index: u64) -> Vec<u8> {
     let start = State::default();
     let count = dice.between(1, 12);
     match index {
         0 => sample(),
         1 => Vec::new(),
-        2..=13 => damaged_run(dice, &start, index as u8 - 1),
+        2 => several_groups(),
+        3..=14 => damaged_run(dice, &start, index as u8 - 2),
         _ => match dice.below(6) {
             0 | 1 => closed_run(dice, &start, count),
             2 => right_run(dice, &start, count),
@@ -82,10 +83,19 @@ fn cut(dice: &mut Dice, mut book: Vec<u8>) -> Vec<u8> {
 
 /// So many soil records between the farm and a right close.
 pub fn long_book(details: u64) -> Vec<u8> {
+    long_book_of(details, |i| record_of(7, &[i]))
+}
+
+/// So many headings between the farm and a right close, without a ration under any.
+pub fn many_groups(groups: u64) -> Vec<u8> {
+    long_book_of(groups, |i| record_of(2, &[i + 1, 1, i]))
+}
+
+fn long_book_of(count: u64, record: impl Fn(u64) -> Vec<u8>) -> Vec<u8> {
     let mut book = record_of(1, &[7, 2010, 2]);
-    for area in 0..details {
-        book.extend(record_of(7, &[area]));
+    for i in 0..count {
+        book.extend(record(i));
     }
-    book.extend(record_of(8, &[details + 1]));
+    book.extend(record_of(8, &[count + 1]));
     book
 }

@@ -40,13 +40,13 @@ pub fn feed(given: &State, input: &[u8], room: usize) -> Reply {
             break;
         }
         match step(&reply.state, byte) {
-            Step::Accepted(_, line) if reply.lines.len() + line.len() > room => {
+            Step::Accepted(_, lines) if reply.lines.len() + lines.len() > room => {
                 reply.answer = Answer::Full;
                 return reply;
             }
-            Step::Accepted(state, line) => {
+            Step::Accepted(state, lines) => {
                 reply.state = state;
-                reply.lines.extend(line);
+                reply.lines.extend(lines);
             }
             Step::Held(state) | Step::Refused(state) => reply.state = state,
         }
@@ -76,7 +76,7 @@ fn step(state: &State, byte: u8) -> Step {
         return Step::Held(State { held_count: have as u64, held, ..*state });
     }
     match judge(state, &front[..have]) {
-        Ok(accepted) => Step::Accepted(accepted.state, accepted.line),
+        Ok(accepted) => Step::Accepted(accepted.state, accepted.lines),
         Err(fault) => Step::Refused(refused(state, fault)),
     }
 }

@@ -26,6 +26,33 @@ impl Figures {
     }
 }
 
+/// Grams of the records of kinds 3 to 5 under one heading, which give no CO2.
+#[derive(Clone, Copy, Debug, Default, PartialEq, Eq)]
+pub struct Subtotal {
+    pub ch4: u64,
+    pub n2o: u64,
+    pub excreted: u64,
+    pub land: u64,
+}
+
+impl Subtotal {
+    pub fn plus(self, more: Figures) -> Subtotal {
+        assert_eq!(more.co2, 0, "a group has no CO2");
+        Subtotal {
+            ch4: self.ch4 + more.ch4,
+            n2o: self.n2o + more.n2o,
+            excreted: self.excreted + more.excreted,
+            land: self.land + more.land,
+        }
+    }
+
+    /// The five figures of its line.
+    pub fn figures(self) -> Figures {
+        let Subtotal { ch4, n2o, excreted, land } = self;
+        Figures { ch4, n2o, co2: 0, excreted, land }
+    }
+}
+
 /// round(n/d): the nearest whole number, a half going up.
 pub fn round(n: u128, d: u128) -> u64 {
     u64::try_from((2 * n + d) / (2 * d)).expect("a figure fits 64 bits")

@@ -1,16 +1,19 @@
-//! Document 01, "Refusal numbers, in the order they are tried": what one whole record does, from 2 to 12.
+//! Document 01, "Refusal numbers, in the order they are tried": what one whole record does, from 2 to 12; document 02's W2: subtotals.
 
-use crate::figures::{self, Figures};
+use crate::figures::{self, Figures, Subtotal};
 use crate::record::{big_endian, fields_of, length_of, values_of};
 use crate::state::{Heading, State, CLOSED, MOST_RECORDS, OPEN};
 
 /// A record's refusal: code, and field where the code is 7.
 pub type Fault = (u8, u8);
 
-/// An accepted record: the state after it and the bytes of its line, none for kinds 1 and 2.
+/// The kind of a subtotal's line, which is no record's.
+const SUBTOTAL: u8 = 16;
+
+/// An accepted record: the state after it and the bytes of its lines, which fit together or not at all.
 pub struct Accepted {
     pub state: State,
-    pub line: Vec<u8>,
+    pub lines: Vec<u8>,
 }
 
 /// Judges a record whose bytes are all there and whose length is 4..26; the state's held bytes don't matter.
@@ -96,13 +99,13 @@ fn accept(state: &State, kind: u8, v: &[u128]) -> Accepted {
     let counted = State { records: state.records + 1, stage: OPEN, ..*state };
     let head = u128::from(state.heading.head);
     match kind {
-        1 => Accepted { state: State { set: v[2] as u8, ..counted }, line: Vec::new() },
-        2 => Accepted { state: State { heading: heading_of(v), ..counted }, line: Vec::new() },
-        3 => detail(with_days(counted, kind, v), kind, figures::enteric(head, v)),
-        4 => detail(with_days(counted, kind, v), kind, figures::cattle(head, v)),
-        5 => detail(with_days(counted, kind, v), kind, figures::pig(head, v)),
-        6 => detail(counted, kind, figures::energy(v)),
-        7 => detail(counted, kind, figures::soil(v)),
+        1 => Accepted { state: State { set: v[2] as u8, ..counted }, lines: Vec::new() },
+        2 => new_group(counted, heading_of(v)),
+        3 => of_group(with_days(counted, kind, v), kind, figures::enteric(head, v)),
+        4 => of_group(with_days(counted, kind, v), kind, figures::cattle(head, v)),
+        5 => of_group(with_days(counted, kind, v), kind, figures::pig(head, v)),
+        6 => of_farm(counted, kind, figures::energy(v)),
+        7 => of_farm(counted, kind, figures::soil(v)),
         _ => close(counted),
     }
 }
@@ -117,16 +120,40 @@ fn with_days(mut state: State, kind: u8, v: &[u128]) -> State {
     state
 }
 
-fn detail(state: State, kind: u8, made: Figures) -> Accepted {
-    let group = if kind <= 5 { state.heading.group } else { 0 };
-    let line = line_of(kind, group, &made.in_order());
-    Accepted { state: State { sums: state.sums.plus(made), ..state }, line }
+/// The old group's subtotal is told, and the new one starts from zero.
+fn new_group(state: State, heading: Heading) -> Accepted {
+    let lines = subtotal_line(&state);
+    Accepted { state: State { heading, subtotal: Subtotal::default(), ..state }, lines }
 }
 
+/// A detail record of the group under the heading, kinds 3 to 5.
+fn of_group(state: State, kind: u8, made: Figures) -> Accepted {
+    let lines = line_of(kind, state.heading.group, &made.in_order());
+    let (subtotal, sums) = (state.subtotal.plus(made), state.sums.plus(made));
+    Accepted { state: State { subtotal, sums, ..state }, lines }
+}
+
+/// A detail record of the farm, kinds 6 and 7, which no subtotal counts.
+fn of_farm(state: State, kind: u8, made: Figures) -> Accepted {
+    let lines = line_of(kind, 0, &made.in_order());
+    Accepted { state: State { sums: state.sums.plus(made), ..state }, lines }
+}
+
+/// The last group's subtotal, which stays in the state, then the total.
 fn close(state: State) -> Accepted {
     let mut numbers = state.sums.in_order().to_vec();
     numbers.push(figures::co2e(state.set, state.sums));
-    Accepted { state: State { stage: CLOSED, ..state }, line: line_of(8, 0, &numbers) }
+    let lines = [subtotal_line(&state), line_of(8, 0, &numbers)].concat();
+    Accepted { state: State { stage: CLOSED, ..state }, lines }
+}
+
+/// The line of the group under the heading; none where there is no heading.
+fn subtotal_line(state: &State) -> Vec<u8> {
+    if state.heading.stands() {
+        line_of(SUBTOTAL, state.heading.group, &state.subtotal.figures().in_order())
+    } else {
+        Vec::new()
+    }
 }
 
 fn line_of(kind: u8, group: u16, numbers: &[u64]) -> Vec<u8> {

@@ -100,6 +100,6 @@ fn desk_books(seed: &str, count: &str) -> Result<(), String> {
     }))?;
     write_all(std::iter::once(desk::field_end_text()))?;
     let mut dice = dice::Dice::of_case(seed, count);
-    let long_books = [4_094, 4_095].into_iter().map(desk::long_book);
-    write_all(long_books.map(|book| desk::book_text(&mut dice, &book)))
+    let long_books = [desk::long_book(4_094), desk::long_book(4_095), desk::many_groups(4_094)];
+    write_all(long_books.into_iter().map(|book| desk::book_text(&mut dice, &book)))
 }

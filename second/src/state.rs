@@ -1,6 +1,6 @@
-//! Document 01, "Lines, calls and state": what a state holds, and the ranges it must lie in.
+//! Document 01, "Lines, calls and state", with document 02's W2: what a state holds, and the ranges it must lie in.
 
-use crate::figures::Figures;
+use crate::figures::{Figures, Subtotal};
 use crate::record::LENGTHS;
 
 pub const NO_RECORD: u8 = 0;
@@ -20,6 +20,13 @@ pub struct Heading {
     pub days: [u16; 3],
 }
 
+impl Heading {
+    /// Whether there is a heading: groups are numbered from 1.
+    pub fn stands(&self) -> bool {
+        self.group > 0
+    }
+}
+
 #[derive(Clone, Copy, Debug, Default, PartialEq, Eq)]
 pub struct Refusal {
     pub code: u8,
@@ -34,6 +41,7 @@ pub struct State {
     pub records: u16,
     pub set: u8,
     pub heading: Heading,
+    pub subtotal: Subtotal,
     pub sums: Figures,
     pub refusal: Refusal,
     pub held_count: u64,
@@ -57,7 +65,8 @@ impl State {
             && self.held_in_range()
             && self.set_in_range()
             && self.heading_in_range()
-            && self.sums_in_range()
+            && self.subtotal_in_range()
+            && self.figures_in_range(&self.sums)
             && self.refusal_in_range()
     }
 
@@ -104,14 +113,24 @@ impl State {
             && heading.days.iter().all(|&days| days <= 366)
     }
 
-    fn sums_in_range(&self) -> bool {
+    /// Bounded as the sums, and zero where there is no heading.
+    fn subtotal_in_range(&self) -> bool {
+        if self.heading.stands() {
+            self.figures_in_range(&self.subtotal.figures())
+        } else {
+            self.subtotal == Subtotal::default()
+        }
+    }
+
+    /// At most what so many records can give.
+    fn figures_in_range(&self, figures: &Figures) -> bool {
         let records = u64::from(self.records);
         let (grams, n2o, co2) = (100_000_000_000, 10_000_000_000, 10_000_000_000_000);
-        self.sums.ch4 <= records * grams
-            && self.sums.excreted <= records * grams
-            && self.sums.land <= records * grams
-            && self.sums.n2o <= records * n2o
-            && self.sums.co2 <= records * co2
+        figures.ch4 <= records * grams
+            && figures.excreted <= records * grams
+            && figures.land <= records * grams
+            && figures.n2o <= records * n2o
+            && figures.co2 <= records * co2
     }
 
     fn refusal_in_range(&self) -> bool {

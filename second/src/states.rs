@@ -1,7 +1,7 @@
 //! States by chance: ones in range, and ones with a single part at or beside its bound.
 
 use crate::dice::Dice;
-use crate::figures::Figures;
+use crate::figures::{Figures, Subtotal};
 use crate::state::{Heading, Refusal, State, CLOSED, MOST_RECORDS, NO_RECORD, OPEN, REFUSED};
 
 /// Grams that a record can add: CH4, N2O, CO2, excreted N, land N.
@@ -10,6 +10,16 @@ const BOUNDS: [u64; 5] =
 
 fn figures_of([ch4, n2o, co2, excreted, land]: [u64; 5]) -> Figures {
     Figures { ch4, n2o, co2, excreted, land }
+}
+
+/// The subtotal's part of them, which leaves out CO2.
+fn subtotal_of([ch4, n2o, _, excreted, land]: [u64; 5]) -> Subtotal {
+    Subtotal { ch4, n2o, excreted, land }
+}
+
+/// The subtotal at its bounds.
+pub fn most_subtotal(records: u16) -> Subtotal {
+    subtotal_of(BOUNDS.map(|bound| u64::from(records) * bound))
 }
 
 /// The sums at their bounds.
@@ -33,6 +43,8 @@ pub fn right_state(dice: &mut Dice, stage: u8) -> State {
     }
     if records > 1 && !dice.one_in(4) {
         state.heading = some_heading(dice);
+        state.subtotal =
+            subtotal_of(BOUNDS.map(|bound| some_sum(dice, u64::from(records) * bound)));
     }
     if stage == REFUSED {
         state.refusal = some_refusal(dice, records);
@@ -69,6 +81,7 @@ pub fn beside_bounds(base: &State) -> Vec<State> {
     let parts = [
         stage_beside(base),
         heading_beside(base),
+        subtotal_beside(base),
         sums_beside(base),
         refusal_beside(base),
         held_beside(base),
@@ -119,7 +132,22 @@ pub fn heading_beside(base: &State) -> Vec<State> {
         }
     }
     states.push(with(Heading::default()));
+    states.push(State { subtotal: Subtotal::default(), ..with(Heading::default()) });
     states.push(with(Heading { group: 1, class: 1, head: 0, days: [0; 3] }));
+    states
+}
+
+/// Where there is no heading, all but zero are out of range.
+pub fn subtotal_beside(base: &State) -> Vec<State> {
+    let mut states = Vec::new();
+    for (i, bound) in BOUNDS.iter().enumerate() {
+        let most = u64::from(base.records) * bound;
+        for value in [0, 1, most, most + 1, u64::MAX] {
+            let mut figures = base.subtotal.figures().in_order();
+            figures[i] = value;
+            states.push(State { subtotal: subtotal_of(figures), ..*base });
+        }
+    }
     states
 }
 

@@ -1,13 +1,13 @@
 //! Document 01's figures and tables, and what the makers of cases promise.
 
 use crate::books::{after, closed_run, damaged_run, right_close, wrong_record, LARGE};
-use crate::cases::{self, sample};
-use crate::desk::long_book;
+use crate::cases::{self, sample, several_groups};
+use crate::desk::{long_book, many_groups};
 use crate::dice::Dice;
 use crate::feed::{feed, herd_desk, Answer, Reply};
-use crate::figures::{self, co2e, pig_ch4_product, round, Figures};
+use crate::figures::{self, co2e, pig_ch4_product, round, Figures, Subtotal};
 use crate::lister::list;
-use crate::record::{fields_of, length_of, record_of};
+use crate::record::{fields_of, length_of, number, record_of};
 use crate::slip::{slip, Change, Ration};
 use crate::state::{Heading, Refusal, State, CLOSED, MOST_RECORDS, OPEN, REFUSED};
 use crate::states::{beside_bounds, right_state};
@@ -204,6 +204,7 @@ fn both_warming_sets() {
 const SAMPLE_TEXT: &str = "3 12 434501 0 0 0 0
 6 0 0 0 875000 0 0
 3 12 392453 0 0 0 0
+16 12 826954 0 0 0 0
 8 0 826954 0 875000 0 0 18241034
 closed
 ";
@@ -222,11 +223,11 @@ fn the_sample_book() {
 #[test]
 fn the_sample_for_the_herd_desk() {
     let book = sample();
-    assert_eq!(herd_desk(&book, 192).0, 192);
-    assert_eq!(herd_desk(&book, 191).0, (16 << 32) + 138);
+    assert_eq!(herd_desk(&book, 238).0, 238);
+    assert_eq!(herd_desk(&book, 237).0, (16 << 32) + 138);
     assert_eq!(herd_desk(&book, 45).0, 16 << 32);
-    assert_eq!(herd_desk(&book[..60], 192).0, (17 << 32) + 138);
-    assert_eq!(herd_desk(&[book, vec![0]].concat(), 192).0, (18 << 32) + 192);
+    assert_eq!(herd_desk(&book[..60], 238).0, (17 << 32) + 138);
+    assert_eq!(herd_desk(&[book, vec![0]].concat(), 238).0, (18 << 32) + 238);
     assert_eq!(herd_desk(&[], 0).0, 17 << 32);
     assert_eq!(herd_desk(&[0, 27], 0).0, 1 << 32);
 }
@@ -270,9 +271,170 @@ fn full_keeps_the_last_byte() {
     assert_eq!(feed(&reply.state, &record[11..], 45).answer, Answer::Full);
     let done = feed(&reply.state, &record[11..], 46);
     assert_eq!((done.answer, done.taken, done.lines.len()), (Answer::More, 1, 46));
-    let close = right_close(&state);
-    assert_eq!(feed(&state, &close, 53).answer, Answer::Full);
-    assert_eq!(feed(&state, &close, 54).answer, Answer::Closed);
+}
+
+/// With less room all but the last byte is taken and nothing written; with just enough, or more, all of it.
+fn fits_from(state: &State, record: &[u8], room: usize) {
+    let last = record.len() - 1;
+    for short in [0, 1, 45, 46, 53, 54, 99].into_iter().filter(|&short| short < room) {
+        let reply = feed(state, record, short);
+        let (answer, written) = (reply.answer, reply.lines.len());
+        assert_eq!((answer, reply.taken, written), (Answer::Full, last, 0));
+        assert_eq!(reply.state.empty_handed(), *state);
+        assert_eq!(feed(&reply.state, &record[last..], room).lines.len(), room);
+    }
+    for enough in [room, room + 1, 1_000] {
+        let reply = feed(state, record, enough);
+        assert_eq!((reply.taken, reply.lines.len()), (record.len(), room));
+        assert_ne!(reply.answer, Answer::Full);
+    }
+}
+
+/// An open state of four records without a heading.
+fn no_group() -> State {
+    State { stage: OPEN, records: 4, set: 1, ..State::default() }
+}
+
+/// An open state of four records whose group 9 of this class has a subtotal.
+fn with_group(class: u8) -> State {
+    let subtotal = Subtotal { ch4: 1, n2o: 2, excreted: 0x0304, land: 5 };
+    State { records: 4, subtotal, ..under(class, 10) }
+}
+
+/// The line of `with_group`.
+const GROUP_LINE: [u8; 46] = [
+    0, 44, 1, 16, 0, 9, 0, 0, 0, 0, 0, 0, 0, 1, 0, 0, 0, 0, 0, 0, 0, 2, 0, 0, 0, 0, 0, 0, 0, 0, 0,
+    0, 0, 0, 0, 0, 3, 4, 0, 0, 0, 0, 0, 0, 0, 5,
+];
+
+#[test]
+fn the_lines_of_one_record_fit_together_or_not_at_all() {
+    fits_from(&State::default(), &record_of(1, &[7, 2010, 1]), 0);
+    fits_from(&no_group(), &record_of(2, &[9, 1, 0]), 0);
+    fits_from(&no_group(), &right_close(&no_group()), 54);
+    for class in 1..=4 {
+        let state = with_group(class);
+        fits_from(&state, &record_of(2, &[10, 1, 0]), 46);
+        fits_from(&state, &record_of(7, &[100]), 46);
+        fits_from(&state, &right_close(&state), 100);
+    }
+}
+
+#[test]
+fn a_new_heading_gives_the_old_groups_subtotal() {
+    let reply = all(&with_group(1), &record_of(2, &[10, 4, 3]));
+    assert_eq!((reply.answer, reply.lines), (Answer::More, GROUP_LINE.to_vec()));
+    assert_eq!(reply.state.subtotal, Subtotal::default());
+    assert_eq!(reply.state.heading, Heading { group: 10, class: 4, head: 3, days: [0; 3] });
+    assert_eq!(reply.state.sums, with_group(1).sums);
+    assert!(all(&no_group(), &record_of(2, &[10, 4, 3])).lines.is_empty());
+}
+
+#[test]
+fn the_close_gives_the_last_groups_subtotal_before_the_total() {
+    let state = with_group(4);
+    let reply = all(&state, &right_close(&state));
+    assert_eq!((reply.answer, reply.lines.len()), (Answer::Closed, 100));
+    assert_eq!(reply.lines[..46], GROUP_LINE);
+    assert_eq!(reply.lines[46..52], [0, 52, 1, 8, 0, 0]);
+    assert_eq!(reply.state, State { stage: CLOSED, records: 5, ..state });
+    let without = all(&no_group(), &right_close(&no_group()));
+    assert_eq!(without.lines.len(), 54);
+    assert_eq!(without.lines[..6], [0, 52, 1, 8, 0, 0]);
+}
+
+#[test]
+fn a_heading_without_rations_gives_zeros() {
+    let text = list(&many_groups(3));
+    let wanted = "16 1 0 0 0 0 0\n16 2 0 0 0 0 0\n16 3 0 0 0 0 0\n8 0 0 0 0 0 0 0\nclosed\n";
+    assert_eq!(text, wanted);
+}
+
+#[test]
+fn kinds_3_to_5_are_in_the_subtotal_and_6_and_7_are_not() {
+    let cattle = with_group(1);
+    let before = cattle.subtotal;
+    let (ch4, n2o, excreted, land) = (before.ch4, before.n2o, before.excreted, before.land);
+    let then =
+        |state: &State, kind, values: &[u64]| after(state, &record_of(kind, values)).subtotal;
+    let enteric = then(&cattle, 3, &[365, 30_000, 65]);
+    assert_eq!(enteric, Subtotal { ch4: ch4 + 127_898, ..before });
+    let nitrogen = then(&cattle, 4, &COW);
+    assert_eq!(nitrogen, Subtotal { n2o: n2o + 18_304, excreted: excreted + 1_318_672, ..before });
+    let mut pigs = with_group(4);
+    pigs.heading.head = 100;
+    let wanted = Subtotal {
+        ch4: ch4 + 128_640,
+        n2o: n2o + 1_267 + 1_584,
+        excreted: excreted + 403_200,
+        land: land + 302_400,
+    };
+    assert_eq!(then(&pigs, 5, &PIG), wanted);
+    for state in [cattle, pigs] {
+        assert_eq!(then(&state, 6, &[1, 125, 70_000]), before);
+        assert_eq!(then(&state, 7, &[100]), before);
+    }
+}
+
+#[test]
+fn a_refusal_keeps_the_subtotal_and_gives_no_line() {
+    let state = with_group(1);
+    let old_group = record_of(2, &[9, 1, 0]);
+    let wrong = [old_group, record_of(2, &[10, 5, 0]), record_of(8, &[3]), record_of(5, &PIG)];
+    for (record, code) in wrong.iter().zip([8, 7, 12, 6]) {
+        let reply = all(&state, record);
+        assert_eq!(refused_by(&state, record).0, code);
+        assert_eq!((reply.lines.len(), reply.state.subtotal), (0, state.subtotal));
+    }
+}
+
+#[test]
+fn several_groups_in_one_book() {
+    let text = "6 0 0 0 875000 0 0
+3 12 434501 0 0 0 0
+6 0 0 0 875000 0 0
+4 12 0 6018 0 433536 0
+7 0 0 0 18333333 0 0
+3 12 434501 0 0 0 0
+16 12 869002 6018 0 433536 0
+16 13 0 0 0 0 0
+7 0 0 0 18333333 0 0
+5 500 51456 1141 0 161280 120960
+6 0 0 0 875000 0 0
+5 500 51456 1141 0 161280 120960
+16 500 102912 2282 0 322560 241920
+4 65535 0 6018 0 433536 0
+6 0 0 0 875000 0 0
+16 65535 0 6018 0 433536 0
+8 0 971914 14318 40166666 1189632 241920 65015440
+closed
+";
+    assert_eq!(list(&several_groups()), text);
+}
+
+/// The lines of a kind, their figures added up.
+fn added_up(lines: &[u8], kind: u8) -> [u128; 5] {
+    let (mut sums, mut at) = ([0; 5], 0);
+    while at < lines.len() {
+        let end = at + 2 + number(&lines[at..at + 2]) as usize;
+        if lines[at + 3] == kind {
+            let figures = lines[at + 6..at + 46].chunks(8).map(number);
+            sums.iter_mut().zip(figures).for_each(|(sum, figure)| *sum += figure);
+        }
+        at = end;
+    }
+    sums
+}
+
+#[test]
+fn the_farm_is_its_subtotals_added_up() {
+    let mut dice = Dice::of_case(10, 10);
+    for _ in 0..500 {
+        let count = dice.between(1, 30);
+        let lines = all(&State::default(), &closed_run(&mut dice, &State::default(), count)).lines;
+        let (groups, farm) = (added_up(&lines, 16), added_up(&lines, 8));
+        assert_eq!(groups, [farm[0], farm[1], 0, farm[3], farm[4]]);
+    }
 }
 
 #[test]
@@ -334,6 +496,9 @@ fn the_longest_book_and_one_more() {
     let longer = all(&State::default(), &long_book(4_095));
     assert_eq!(longer.answer, Answer::Refused(Refusal { code: 5, record: 4_096, field: 0 }));
     assert_eq!(longer.lines.len(), 4_095 * 46);
+    // Each heading's line comes later than it does, so that headings alone need the same room.
+    let groups = all(&State::default(), &many_groups(4_094));
+    assert_eq!((groups.answer, groups.lines.len()), (Answer::Closed, 4_094 * 46 + 54));
 }
 
 #[test]
@@ -398,7 +563,34 @@ fn ranges_of_a_state() {
         fits(&|s| s.sums.co2 = 20_000_000_000_000) && !fits(&|s| s.sums.co2 = 20_000_000_000_001)
     );
     assert!(!fits(&|s| s.sums.excreted = 200_000_000_001) && !fits(&|s| s.sums.land = u64::MAX));
+    assert!(fits(&|s| s.subtotal.ch4 = 200_000_000_000));
+    assert!(!fits(&|s| s.subtotal.ch4 = 200_000_000_001));
+    assert!(fits(&|s| s.subtotal.n2o = 20_000_000_000));
+    assert!(!fits(&|s| s.subtotal.n2o = 20_000_000_001));
+    assert!(fits(&|s| s.subtotal.excreted = 200_000_000_000));
+    assert!(!fits(&|s| s.subtotal.excreted = 200_000_000_001));
+    assert!(fits(&|s| s.subtotal.land = 200_000_000_000));
+    assert!(!fits(&|s| s.subtotal.land = 200_000_000_001));
     assert!(!fits(&|s| s.refusal.code = 1) && !fits(&|s| s.refusal.field = 1));
+}
+
+#[test]
+fn no_heading_no_subtotal() {
+    let one = Subtotal { ch4: 1, n2o: 1, excreted: 1, land: 1 };
+    let zero = Subtotal::default();
+    for subtotal in [
+        Subtotal { ch4: 1, ..zero },
+        Subtotal { n2o: 1, ..zero },
+        Subtotal { excreted: 1, ..zero },
+        Subtotal { land: 1, ..zero },
+        one,
+    ] {
+        let state = State { subtotal, ..no_group() };
+        assert_eq!(refused_by(&state, &[0]), (13, 0));
+        assert_eq!(all(&state, &[0]).state, state);
+        assert!(!State { subtotal, ..State::default() }.in_range());
+        assert!(State { subtotal, ..with_group(1) }.in_range());
+    }
 }
 
 #[test]
@@ -425,9 +617,12 @@ fn a_sure_step() {
         let cut = dice.below(input.len() as u64 + 1) as usize;
         let reached = after(&state, &input[..cut]);
         if reached.stage == OPEN && cut < input.len() {
-            assert!(feed(&reached, &input[cut..], 54).taken > 0);
+            assert!(feed(&reached, &input[cut..], 100).taken > 0);
         }
     }
+    let last_byte_missing = after(&with_group(1), &right_close(&with_group(1))[..5]);
+    assert_eq!(feed(&last_byte_missing, &[4], 99).taken, 0);
+    assert_eq!(feed(&last_byte_missing, &[4], 100).taken, 1);
 }
 
 #[test]
@@ -474,6 +669,18 @@ fn cases_survive_their_text() {
     for index in 0..2_000 {
         let text = cases::case(5, index).text();
         assert_eq!(Case::parse(&text).unwrap().text(), text);
+    }
+    let no_state = format!("B{} {} - 0", " 0".repeat(22), "00".repeat(27));
+    assert_eq!(Case::parse(&no_state).unwrap().text(), no_state + "\n");
+    let ranks: Vec<String> = (0..22).map(|i| format!("{i:x}")).collect();
+    let ranked = format!("B {} {} - 0", ranks.join(" "), "00".repeat(27));
+    match Case::parse(&ranked) {
+        Ok(Case::Book { state, .. }) => {
+            assert_eq!(state.heading.days, [6, 7, 8]);
+            assert_eq!(state.subtotal, Subtotal { ch4: 9, n2o: 10, excreted: 11, land: 12 });
+            assert_eq!(state.sums.in_order(), [13, 14, 15, 16, 17]);
+        }
+        other => panic!("{other:?}"),
     }
     assert!(Case::parse("B 0").is_err() && Case::parse("S 1 2 3 4 4 5").is_err());
 }

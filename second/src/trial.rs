@@ -1,7 +1,7 @@
 //! The text of trial cases and of their answers; docs/notes-second.md gives the format.
 
 use crate::feed::{feed, Answer, Reply};
-use crate::figures::Figures;
+use crate::figures::{Figures, Subtotal};
 use crate::slip::{slip, Change, Ration};
 use crate::state::{Heading, Refusal, State};
 use crate::writer::write;
@@ -66,8 +66,11 @@ fn state_text(s: &State) -> String {
     let (h, f, r) = (&s.heading, &s.sums, &s.refusal);
     let [d3, d4, d5] = h.days;
     let Figures { ch4, n2o, co2, excreted, land } = f;
+    let Subtotal { ch4: sub_ch4, n2o: sub_n2o, excreted: sub_excreted, land: sub_land } =
+        s.subtotal;
     let mut text = format!("{:x} {:x} {:x}", s.stage, s.records, s.set);
     let _ = write!(text, " {:x} {:x} {:x} {d3:x} {d4:x} {d5:x}", h.group, h.class, h.head);
+    let _ = write!(text, " {sub_ch4:x} {sub_n2o:x} {sub_excreted:x} {sub_land:x}");
     let _ = write!(text, " {ch4:x} {n2o:x} {co2:x} {excreted:x} {land:x}");
     let _ = write!(text, " {:x} {:x} {:x}", r.code, r.record, r.field);
     let _ = write!(text, " {:x} {}", s.held_count, hex(&s.held));
@@ -148,6 +151,12 @@ impl<'a> Tokens<'a> {
                 class: self.number()?,
                 head: self.number()?,
                 days: [self.number()?, self.number()?, self.number()?],
+            },
+            subtotal: Subtotal {
+                ch4: self.number()?,
+                n2o: self.number()?,
+                excreted: self.number()?,
+                land: self.number()?,
             },
             sums: Figures {
                 ch4: self.number()?,

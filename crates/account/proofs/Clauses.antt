@@ -12,9 +12,10 @@ use Rattle.account.specs.declared.Account.{Account}
 use Rattle.account.specs.declared.Heading.{Heading}
 use Rattle.account.specs.declared.Days.{Days}
 use Rattle.account.specs.declared.Figures.{Figures}
+use Rattle.account.specs.declared.Subtotal.{Subtotal}
 use Rattle.account.specs.declared.Refusal.{Refusal}
-use Rattle.account.specs.Range.{Counted, Warmed, Headed, Unheaded, Bounded, Numbered, Unrefused, Fair, countedTest, warmedTest, headedTest, unheadedTest, boundedTest, numberedTest, unrefusedTest, fair}
-use Rattle.account.proofs.Tests.{all-each, each-all, implied, implies, or-cases, or-left, or-right, Each}
+use Rattle.account.specs.Range.{Counted, Warmed, Headed, Unheaded, Bounded, Grouped, Ungrouped, Numbered, Unrefused, Fair, countedTest, warmedTest, headedTest, unheadedTest, boundedTest, groupedTest, ungroupedTest, numberedTest, unrefusedTest, fair}
+use Rattle.account.proofs.Tests.{and-l, and-r, all-each, each-all, implied, implies, or-cases, or-left, or-right, Each}
 
 -- ---- clause by clause, from the test
 
@@ -169,6 +170,38 @@ module _ (f : Figures) (records : ℕ) where
       each-all (leb (f .ch4) (records * 10 ^ 11)) boundedRest (le-leb _ _ (b .ch4))
       (le-leb _ _ (b .n2o), (le-leb _ _ (b .co2), (le-leb _ _ (b .excreted), (le-leb _ _ (b .land), tt))))
 
+module _ (s : Subtotal) where
+  abbrev groupedRest : ℕ → List Bool
+  groupedRest records = leb (s .n2o .0) (records * 10 ^ 10) ∷ leb (s .excreted) (records * 10 ^ 11) ∷ leb (s .land) (records * 10 ^ 11) ∷ []
+
+  grouped-parts : (records : ℕ) → groupedTest s records ≡ true → Grouped s records
+  grouped-parts records e =
+      let t = all-each (leb (s .ch4) (records * 10 ^ 11)) (groupedRest records) e in
+      record { ch4 = leb-true _ _ (t .0); n2o = leb-true _ _ (t .1 .0); excreted = leb-true _ _ (t .1 .1 .0); land = leb-true _ _ (t .1 .1 .1 .0) }
+
+  grouped-test : (records : ℕ) → Grouped s records → groupedTest s records ≡ true
+  grouped-test records g =
+      each-all (leb (s .ch4) (records * 10 ^ 11)) (groupedRest records) (le-leb _ _ (g .ch4))
+      (le-leb _ _ (g .n2o), (le-leb _ _ (g .excreted), (le-leb _ _ (g .land), tt)))
+
+  abbrev ungroupedRest : List Bool
+  ungroupedRest = eqb (s .n2o .0) 0 ∷ eqb (s .excreted) 0 ∷ eqb (s .land) 0 ∷ []
+
+  ungrouped-parts : ungroupedTest s ≡ true → Ungrouped s
+  ungrouped-parts e =
+      let t = all-each (eqb (s .ch4) 0) ungroupedRest e in
+      record { ch4 = eqb-true _ _ (t .0); n2o = eqb-true _ _ (t .1 .0); excreted = eqb-true _ _ (t .1 .1 .0); land = eqb-true _ _ (t .1 .1 .1 .0) }
+
+  ungrouped-test : Ungrouped s → ungroupedTest s ≡ true
+  ungrouped-test u =
+      each-all (eqb (s .ch4) 0) ungroupedRest (eq-eqb _ _ (u .ch4)) (eq-eqb _ _ (u .n2o), (eq-eqb _ _ (u .excreted), (eq-eqb _ _ (u .land), tt)))
+
+  -- bounded, and zero where there is no group
+  subtotal-test : (group records : ℕ) → Grouped s records → (group ≡ 0 → Ungrouped s) → groupedTest s records && (not (eqb group 0) || ungroupedTest s) ≡ true
+  subtotal-test group records g u =
+      each-all (groupedTest s records) ((not (eqb group 0) || ungroupedTest s) ∷ []) (grouped-test records g)
+      (implies (eqb group 0) (ungroupedTest s) (λ h. ungrouped-test (u (eqb-true _ _ h))), tt)
+
 module _ (r : Refusal) where
   abbrev numberedRest : ℕ → List Bool
   numberedRest records =
@@ -224,6 +257,7 @@ module _ (a : Account) where
       warmedTest (a .set) (a .records)
       ∷ (headedTest (a .heading) (a .days) (a .records) || unheadedTest (a .heading) (a .days))
       ∷ boundedTest (a .sums) (a .records)
+      ∷ (groupedTest (a .subtotal) (a .records) && (not (eqb (a .heading .group) 0) || ungroupedTest (a .subtotal)))
       ∷ (not (eqb (a .stage) 3) || numberedTest (a .refusal) (a .records))
       ∷ (eqb (a .stage) 3 || unrefusedTest (a .refusal))
       ∷ []
@@ -237,8 +271,10 @@ module _ (a : Account) where
         warmed = warmed-parts _ _ (t .1 .0);
         heading = heading-parts (a .heading) (a .days) (a .records) (t .1 .1 .0);
         sums = bounded-parts (a .sums) (a .records) (t .1 .1 .1 .0);
-        refused = λ h. numbered-parts (a .refusal) (a .records) (implied _ _ (t .1 .1 .1 .1 .0) (eq-eqb _ _ h));
-        unrefused = λ h. unrefused-parts (a .refusal) (or-right _ _ (t .1 .1 .1 .1 .1 .0) (ne-eqb _ _ h));
+        grouped = grouped-parts (a .subtotal) (a .records) (and-l _ _ (t .1 .1 .1 .1 .0));
+        ungrouped = λ h. ungrouped-parts (a .subtotal) (implied _ _ (and-r (groupedTest (a .subtotal) (a .records)) _ (t .1 .1 .1 .1 .0)) (eq-eqb _ _ h));
+        refused = λ h. numbered-parts (a .refusal) (a .records) (implied _ _ (t .1 .1 .1 .1 .1 .0) (eq-eqb _ _ h));
+        unrefused = λ h. unrefused-parts (a .refusal) (or-right _ _ (t .1 .1 .1 .1 .1 .1 .0) (ne-eqb _ _ h));
       }
 
   pub fair-test : Fair a → fair a ≡ true
@@ -251,8 +287,11 @@ module _ (a : Account) where
           (
             bounded-test (a .sums) (a .records) (f .sums),
             (
-              implies (eqb (a .stage) 3) (numberedTest (a .refusal) (a .records)) (λ h. numbered-test (a .refusal) (a .records) (f .refused (eqb-true _ _ h))),
-              (or-left (eqb (a .stage) 3) (unrefusedTest (a .refusal)) (λ h. unrefused-test (a .refusal) (f .unrefused (eqb-false _ _ h))), tt),
+              subtotal-test (a .subtotal) (a .heading .group) (a .records) (f .grouped) (f .ungrouped),
+              (
+                implies (eqb (a .stage) 3) (numberedTest (a .refusal) (a .records)) (λ h. numbered-test (a .refusal) (a .records) (f .refused (eqb-true _ _ h))),
+                (or-left (eqb (a .stage) 3) (unrefusedTest (a .refusal)) (λ h. unrefused-test (a .refusal) (f .unrefused (eqb-false _ _ h))), tt),
+              ),
             ),
           ),
         ),

@@ -15,7 +15,7 @@ use Rattle.account.proofs.Keeps.{judge-short}
 
 -- the most bytes of lines that one record gives
 abbrev pub linesMost : ℕ
-linesMost = 54
+linesMost = 100
 
 -- a record gives no lines and is not counted, or is counted
 abbrev Counted : ℕ → Step → Type 0

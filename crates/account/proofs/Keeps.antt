@@ -18,15 +18,16 @@ use Rattle.grams.proofs.Small.{enteric-small, cattle-excreted-small, cattle-n2o
 use Rattle.account.specs.declared.Account.{Account}
 use Rattle.account.specs.declared.Days.{Days}
 use Rattle.account.specs.declared.Figures.{Figures}
-use Rattle.account.specs.Figures.{figuresOf, added}
-use Rattle.account.specs.Line.{joined, lineOf, totalOf}
-use Rattle.account.specs.Range.{Headed, Unheaded, Bounded, Numbered, Unrefused, Fair}
+use Rattle.account.specs.declared.Subtotal.{Subtotal}
+use Rattle.account.specs.Figures.{figuresOf, grouped, groupFigures, subtotalAfter}
+use Rattle.account.specs.Line.{joined, lineWith, lineOf, subtotals, totalOf}
+use Rattle.account.specs.Range.{Headed, Unheaded, Grouped, Ungrouped, Unrefused, Fair}
 use Rattle.account.specs.Judge.{kindOf, valuesOf, noRecord, refused, opened, underHeading, withDetail, closed, headingServes, inPlace, daysAfter, valueRefusals, refusals, first, Step, accepted, decided, weigh, judge}
 use Rattle.account.specs.Told.{Small}
 use Rattle.account.proofs.Tests.{by-test, true-or-false, not-true, not-false, and-l, and-r}
 use Rattle.account.proofs.First.{first-most, first-other, first-clear}
 use Rattle.account.proofs.Ranges.{FarmIn, farm-in, HeadingIn, heading-in, enteric-in, cattle-in, pig-in, energy-in, soil-in}
-use Rattle.account.proofs.Told.{head-most, Passes, past}
+use Rattle.account.proofs.Told.{head-most, both-long, Passes, past}
 
 -- ---- a fair account
 
@@ -40,6 +41,8 @@ fair-none =
       warmed = record { set-most = omega arith; none = λ e. refl; some = λ e. refl };
       heading = inr (record { group = refl; class = refl; head = refl; enteric = refl; nitrogen = refl; pig = refl });
       sums = record { ch4 = omega arith; n2o = omega arith; co2 = omega arith; excreted = omega arith; land = omega arith };
+      grouped = record { ch4 = omega arith; n2o = omega arith; excreted = omega arith; land = omega arith };
+      ungrouped = λ e. record { ch4 = refl; n2o = refl; excreted = refl; land = refl };
       refused = λ e. absurd (omega arith);
       unrefused = λ e. record { code = refl; number = refl; field = refl };
     }
@@ -51,6 +54,8 @@ fair-refused a code field f low high most some none =
       warmed = f .warmed;
       heading = f .heading;
       sums = f .sums;
+      grouped = f .grouped;
+      ungrouped = f .ungrouped;
       refused = λ e. record { code-least = low; code-most = high; number = refl; field-most = most; field-some = some; field-none = none };
       unrefused = λ n. absurd (n refl);
     }
@@ -145,11 +150,14 @@ module _ (a : Account) (f : Fair a) (early : a .stage < 2) where
   fair-opened : (set : ℕ) → 1 ≤ set → set ≤ 2 → a .records ≡ 0 → Fair (opened a set)
   fair-opened set low high none =
       let s = f .sums in
+      let g = f .grouped in
       record {
         counted = record { stage-most = omega arith; records-most = omega arith; in-zero = λ e. absurd (omega arith); in-one = λ e. omega arith; in-two = λ e. absurd (omega arith) };
         warmed = record { set-most = high; none = λ e. absurd (omega arith); some = λ e. absurd (omega arith) };
         heading = ⊎-elim (λ (h : Headed (a .heading) (a .days) (a .records)). absurd (omega arith)) (λ (u : Unheaded (a .heading) (a .days)). inr u) (f .heading);
         sums = record { ch4 = omega arith; n2o = omega arith; co2 = omega arith; excreted = omega arith; land = omega arith };
+        grouped = record { ch4 = omega arith; n2o = omega arith; excreted = omega arith; land = omega arith };
+        ungrouped = f .ungrouped;
         refused = λ e. absurd (omega arith);
         unrefused = λ e. zeros;
       }
@@ -177,6 +185,8 @@ module _ (a : Account) (f : Fair a) (early : a .stage < 2) where
             records-least = omega arith;
           });
           sums = record { ch4 = omega arith; n2o = omega arith; co2 = omega arith; excreted = omega arith; land = omega arith };
+          grouped = record { ch4 = omega arith; n2o = omega arith; excreted = omega arith; land = omega arith };
+          ungrouped = λ e. record { ch4 = refl; n2o = refl; excreted = refl; land = refl };
           refused = λ e. absurd (not-three e);
           unrefused = λ e. zeros;
         }
@@ -208,31 +218,50 @@ module _ (a : Account) (f : Fair a) (early : a .stage < 2) where
     fair-closed : Fair (closed a)
     fair-closed =
         let s = f .sums in
+        let g = f .grouped in
         record {
           counted = record { stage-most = omega arith; records-most = omega arith; in-zero = λ e. absurd (omega arith); in-one = λ e. absurd (omega arith); in-two = λ e. omega arith };
           warmed = record { set-most = f .warmed .set-most; none = λ e. absurd (warm-on e); some = λ e. absurd (omega arith) };
           heading = heading-on;
           sums = record { ch4 = omega arith; n2o = omega arith; co2 = omega arith; excreted = omega arith; land = omega arith };
+          grouped = record { ch4 = omega arith; n2o = omega arith; excreted = omega arith; land = omega arith };
+          ungrouped = f .ungrouped;
           refused = λ e. absurd (omega arith);
           unrefused = λ e. zeros;
         }
 
-    fair-detail : (d : Days) (g : Figures) → Small g → Headed (a .heading) d (a .records + 1) ⊎ Unheaded (a .heading) d → Fair (withDetail a d g)
-    fair-detail d g small h =
+    fair-detail : (d : Days) (t : Subtotal) (g : Figures) → Small g → Headed (a .heading) d (a .records + 1) ⊎ Unheaded (a .heading) d → Grouped t (a .records + 1)
+        → (a .heading .group ≡ 0 → Ungrouped t) → Fair (withDetail a d t g)
+    fair-detail d t g small h grouped ungrouped =
         let s = f .sums in
         record {
           counted = record { stage-most = omega arith; records-most = omega arith; in-zero = λ e. let z = f .counted .in-zero e in absurd (omega arith); in-one = λ e. omega arith; in-two = λ e. absurd (omega arith) };
           warmed = record { set-most = f .warmed .set-most; none = λ e. absurd (warm-on e); some = λ e. absurd (omega arith) };
           heading = h;
           sums = record { ch4 = omega arith; n2o = omega arith; co2 = omega arith; excreted = omega arith; land = omega arith };
+          grouped = grouped;
+          ungrouped = ungrouped;
           refused = λ e. absurd (not-three e);
           unrefused = λ e. zeros;
         }
 
+    -- under a heading the subtotal takes the figures too
+    fair-grouped : (d : Days) (g : Figures) → Small g → Headed (a .heading) d (a .records + 1) → Fair (withDetail a d (grouped (a .subtotal) g) g)
+    fair-grouped d g small h =
+        let s = f .grouped in
+        fair-detail d _ g small (inl h) (record { ch4 = omega arith; n2o = omega arith; excreted = omega arith; land = omega arith })
+        (λ e. let least = h .group-least in absurd (omega arith))
+
+    -- without one it stays
+    fair-farm : (g : Figures) → Small g → Fair (withDetail a (a .days) (a .subtotal) g)
+    fair-farm g small =
+        let s = f .grouped in
+        fair-detail (a .days) (a .subtotal) g small heading-on (record { ch4 = omega arith; n2o = omega arith; excreted = omega arith; land = omega arith }) (f .ungrouped)
+
     -- ---- the details, kind by kind
 
     abbrev Detail : ℕ → List ℕ → Type 0
-    Detail k v = Fair (withDetail a (daysAfter (a .days) k (getD v 0 0)) (figuresOf (a .heading) k v))
+    Detail k v = Fair (withDetail a (daysAfter (a .days) k (getD v 0 0)) (subtotalAfter (a .subtotal) k (figuresOf (a .heading) k v)) (figuresOf (a .heading) k v))
 
     module _ (v : List ℕ) where
       detail-enteric : Clear a 3 v → Detail 3 v
@@ -240,16 +269,16 @@ module _ (a : Account) (f : Fair a) (early : a .stage < 2) where
       detail-enteric c =
           let i = enteric-in v (a .heading .head) (head-most a f) (c .passes .ranges) in
           let h = headed-by (leb-true _ _ (and-l _ _ (and-l _ _ (c .passes .place)))) in
-          fair-detail _ _ (record { ch4 = enteric-small i; n2o = omega arith; co2 = omega arith; excreted = omega arith; land = omega arith })
-          (inl (headed-on h _ (ltb-false _ _ (c .days)) (h .nitrogen-most) (h .pig-most)))
+          fair-grouped _ _ (record { ch4 = enteric-small i; n2o = omega arith; co2 = omega arith; excreted = omega arith; land = omega arith })
+          (headed-on h _ (ltb-false _ _ (c .days)) (h .nitrogen-most) (h .pig-most))
 
       detail-cattle : Clear a 4 v → Detail 4 v
       unfolding inPlace figuresOf
       detail-cattle c =
           let i = cattle-in v (a .heading .head) (head-most a f) (c .passes .ranges) in
           let h = headed-by (leb-true _ _ (and-l _ _ (and-l _ _ (c .passes .place)))) in
-          fair-detail _ _ (record { ch4 = omega arith; n2o = cattle-n2o-small i; co2 = omega arith; excreted = cattle-excreted-small i; land = omega arith })
-          (inl (headed-on h _ (h .enteric-most) (ltb-false _ _ (c .days)) (h .pig-most)))
+          fair-grouped _ _ (record { ch4 = omega arith; n2o = cattle-n2o-small i; co2 = omega arith; excreted = cattle-excreted-small i; land = omega arith })
+          (headed-on h _ (h .enteric-most) (ltb-false _ _ (c .days)) (h .pig-most))
 
       detail-pig : Clear a 5 v → Detail 5 v
       unfolding inPlace figuresOf
@@ -257,18 +286,18 @@ module _ (a : Account) (f : Fair a) (early : a .stage < 2) where
           let i = pig-in v (a .heading .head) (head-most a f) (c .passes .ranges) (ltb-false _ _ (c .parts)) in
           let four : a .heading .class ≡ 4 = eqb-true _ _ (and-l _ _ (c .passes .place)) in
           let h = headed-by (omega arith) in
-          fair-detail _ _ (record { ch4 = pig-ch4-small i; n2o = pig-n2o-small i; co2 = omega arith; excreted = pig-excreted-small i; land = pig-land-small i })
-          (inl (headed-on h _ (h .enteric-most) (h .nitrogen-most) (ltb-false _ _ (c .days))))
+          fair-grouped _ _ (record { ch4 = pig-ch4-small i; n2o = pig-n2o-small i; co2 = omega arith; excreted = pig-excreted-small i; land = pig-land-small i })
+          (headed-on h _ (h .enteric-most) (h .nitrogen-most) (ltb-false _ _ (c .days)))
 
       detail-energy : Clear a 6 v → Detail 6 v
       unfolding figuresOf
       detail-energy c =
-          fair-detail _ _ (record { ch4 = omega arith; n2o = omega arith; co2 = energy-small (energy-in v (c .passes .ranges)); excreted = omega arith; land = omega arith }) heading-on
+          fair-farm _ (record { ch4 = omega arith; n2o = omega arith; co2 = energy-small (energy-in v (c .passes .ranges)); excreted = omega arith; land = omega arith })
 
       detail-soil : Clear a 7 v → Detail 7 v
       unfolding figuresOf
       detail-soil c =
-          fair-detail _ _ (record { ch4 = omega arith; n2o = omega arith; co2 = soil-small (soil-in v (c .passes .ranges)); excreted = omega arith; land = omega arith }) heading-on
+          fair-farm _ (record { ch4 = omega arith; n2o = omega arith; co2 = soil-small (soil-in v (c .passes .ranges)); excreted = omega arith; land = omega arith })
 
   -- ---- by its kind
 
@@ -304,7 +333,8 @@ module _ (a : Account) (f : Fair a) (early : a .stage < 2) where
         only : 7 ≤ k → k ≤ 8 → (k ≡ 8 → ⊥) → k ≡ 7
         only p q n = omega arith
 
-    kept-detail : leb 1 k && leb k 8 ≡ true → eqb k 1 ≡ false → eqb k 2 ≡ false → eqb k 8 ≡ false → Fair (withDetail a (daysAfter (a .days) k (getD v 0 0)) (figuresOf (a .heading) k v))
+    kept-detail : leb 1 k && leb k 8 ≡ true → eqb k 1 ≡ false → eqb k 2 ≡ false → eqb k 8 ≡ false
+        → Fair (withDetail a (daysAfter (a .days) k (getD v 0 0)) (subtotalAfter (a .subtotal) k (figuresOf (a .heading) k v)) (figuresOf (a .heading) k v))
     kept-detail both e1 e2 e8 =
         let b = after-first e1 in
         let m = c .passes .room in
@@ -353,17 +383,30 @@ fair-judge a r f early =
 -- ---- the length of its lines
 
 abbrev ShortLines : Step → Type 0
-ShortLines s = length (joined (s .lines)) ≤ 54
+ShortLines s = length (joined (s .lines)) ≤ 100
 
-one-line : (l : List ℕ) (n : ℕ) → length l ≡ n → n ≤ 54 → length (l ++ []) ≤ 54
+one-line : (l : List ℕ) (n : ℕ) → length l ≡ n → n ≤ 100 → length (l ++ []) ≤ 100
 one-line l n e h = rw (append-nil, e) h
 
-pub judge-short : (a : Account) (r : List ℕ) → length (joined (judge a r .lines)) ≤ 54
+-- a subtotal has 46 bytes, the total 54
+ends-short : (a : Account) → (length (joined (subtotals a)) ≤ 100) × (length (joined (subtotals a ++ (totalOf a ∷ []))) ≤ 100)
+ends-short a = go (eqb (a .heading .group) 0)
+  where
+    go : (b : Bool)
+        → (length (joined (pick b [] (lineWith 16 (a .heading .group) (groupFigures (a .subtotal)) ∷ []))) ≤ 100)
+        × (length (joined (pick b [] (lineWith 16 (a .heading .group) (groupFigures (a .subtotal)) ∷ []) ++ (totalOf a ∷ []))) ≤ 100)
+    go true = (omega arith, one-line (totalOf a) 54 (total-length _ _ _ _ _ _) (omega arith))
+    go false = (
+      one-line (lineWith 16 (a .heading .group) (groupFigures (a .subtotal))) 46 (line-length _ _ _ _ _ _ _) (omega arith),
+      rw (append-nil, both-long _ _ _ _ _ _ _ _ _ _ _ _ _) (omega arith),
+    )
+
+pub judge-short : (a : Account) (r : List ℕ) → length (joined (judge a r .lines)) ≤ 100
 unfolding judge accepted
 judge-short a r =
     by-test ShortLines (eqb (first (refusals a r)) 0)
     (λ e. by-test ShortLines (eqb (kindOf r) 1) (λ e. omega arith)
-    (λ e. by-test ShortLines (eqb (kindOf r) 2) (λ e. omega arith)
-    (λ e. by-test ShortLines (eqb (kindOf r) 8) (λ e. one-line (totalOf a) 54 (total-length _ _ _ _ _ _) (omega arith))
+    (λ e. by-test ShortLines (eqb (kindOf r) 2) (λ e. ends-short a .0)
+    (λ e. by-test ShortLines (eqb (kindOf r) 8) (λ e. ends-short a .1)
     (λ e. one-line (lineOf (a .heading) (kindOf r) (valuesOf r)) 46 (line-length _ _ _ _ _ _ _) (omega arith)))))
     (λ e. omega arith)

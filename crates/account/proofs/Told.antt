@@ -7,10 +7,10 @@ use mathlib.Core.Bool.{Bool, true, false, not, _&&_}
 use mathlib.Core.Logic.{⊎-elim}
 use native.Mathlib.Omega.{arith}
 use borrow.Author.Tests.{leb-true, leb-false, lt-leb, eqb-true, eq-eqb, ne-eqb}
-use lib.ListN.{length, getD}
+use lib.ListN.{length, getD, length-append}
 use lib.Dec.{ltb, leb, eqb}
 use Rattle.codec.specs.Table.{fields, lengthOf}
-use Rattle.codec.specs.Codec.{pick, valAt, valuesAt, firstBad}
+use Rattle.codec.specs.Codec.{pick, valAt, valuesAt, firstBad, lineBytes, totalBytes}
 use Rattle.codec.proofs.Round.{line-length, total-length}
 use Rattle.grams.specs.Cattle.{belowZero, manureOf, CattleSmall, Nitrogen}
 use Rattle.grams.specs.Pig.{Manure}
@@ -23,12 +23,13 @@ use Rattle.grams.specs.declared.pig.PigManure.{PigManure}
 use Rattle.account.specs.declared.Account.{Account}
 use Rattle.account.specs.declared.Days.{Days}
 use Rattle.account.specs.declared.Figures.{Figures}
+use Rattle.account.specs.declared.Subtotal.{Subtotal}
 use Rattle.account.specs.declared.Judged.{Judged}
-use Rattle.account.specs.Figures.{cattleRation, ch4Alone, co2Alone, cattleFigures, pigFigures}
-use Rattle.account.specs.Line.{joined, bytesOf, lineWith, totalOf}
-use Rattle.account.specs.Range.{Headed, Unheaded, Bounded, Fair}
-use Rattle.account.specs.Judge.{versionOf, kindOf, judge, first, inPlace, daysOver, partsWrong, valueRefusals, refused, withDetail, closed, Step, accepted, decided, weigh}
-use Rattle.account.specs.Told.{Tells, Kind, Small, quiet, refusing, detailing, closing}
+use Rattle.account.specs.Figures.{groupFigures, cattleRation, ch4Alone, co2Alone, cattleFigures, pigFigures}
+use Rattle.account.specs.Line.{bytesOf, lineWith, co2eIn, subtotals, totalOf}
+use Rattle.account.specs.Range.{Headed, Unheaded, Bounded, Grouped, Fair}
+use Rattle.account.specs.Judge.{versionOf, kindOf, judge, first, inPlace, daysOver, partsWrong, valueRefusals, refused, underHeading, withDetail, closed, Step, accepted, decided, weigh}
+use Rattle.account.specs.Told.{Tells, Kind, Small, noLine, quiet, refusing, detailing, heading, closing}
 use Rattle.account.proofs.Tests.{not-false, no-bool}
 use Rattle.account.proofs.First.{three-clear, three-first}
 
@@ -54,6 +55,12 @@ sums-most a f =
     let s = f .sums in
     let n = f .counted .records-most in
     record { ch4 = omega arith; n2o = omega arith; co2 = omega arith; excreted = omega arith; land = omega arith }
+
+pub subtotal-most : (a : Account) → Fair a → Grouped (a .subtotal) 4096
+subtotal-most a f =
+    let s = f .grouped in
+    let n = f .counted .records-most in
+    record { ch4 = omega arith; n2o = omega arith; excreted = omega arith; land = omega arith }
 
 -- ---- figures of one line
 
@@ -97,19 +104,54 @@ module _ (r : CattleRation) (head : ℕ) (n : CattleNitrogen) (w : Nitrogen r he
 abbrev pub step : Account → List (List ℕ) → Step
 step a ls = record { account = a; lines = ls }
 
+-- a subtotal and the total
+pub both-long : (kind group a b c d e a′ b′ c′ d′ e′ f′ : ℕ) → length (lineBytes kind group a b c d e ++ totalBytes a′ b′ c′ d′ e′ f′) ≡ 100
+both-long kind group a b c d e a′ b′ c′ d′ e′ f′ =
+    omega (arith, length-append (lineBytes kind group a b c d e) (totalBytes a′ b′ c′ d′ e′ f′), line-length kind group a b c d e, total-length a′ b′ c′ d′ e′ f′)
+
 pub tells-quiet : (a : Account) → Tells (step a []) (quiet a)
 unfolding bytesOf
 tells-quiet a = record { account = refl; bytes = refl; long = refl; short = omega arith }
 
-pub tells-detail : (a : Account) (kind group : ℕ) (days : Days) (f : Figures)
-    → Tells (step (withDetail a days f) (lineWith kind group f ∷ [])) (detailing a kind group days f)
+pub tells-detail : (a : Account) (kind group : ℕ) (days : Days) (s : Subtotal) (f : Figures)
+    → Tells (step (withDetail a days s f) (lineWith kind group f ∷ [])) (detailing a kind group days s f)
 unfolding bytesOf
-tells-detail a kind group days f =
+tells-detail a kind group days s f =
     record { account = refl; bytes = sym (append-nil _); long = line-length _ _ _ _ _ _ _; short = omega arith }
 
-pub tells-close : (a : Account) → Tells (step (closed a) (totalOf a ∷ [])) (closing a)
+-- a new heading: the subtotal of the last one, where there was one
+pub tells-heading : (a : Account) (group class head : ℕ) → Tells (step (underHeading a group class head) (subtotals a)) (heading a group class head)
 unfolding bytesOf
-tells-close a = record { account = refl; bytes = sym (append-nil _); long = total-length _ _ _ _ _ _; short = omega arith }
+tells-heading a group class head = go (eqb (a .heading .group) 0)
+  where
+    go : (b : Bool)
+        → Tells (step (underHeading a group class head) (pick b [] (lineWith 16 (a .heading .group) (groupFigures (a .subtotal)) ∷ [])))
+        (record {
+          account = underHeading a group class head;
+          line = pick b noLine (record { len = 46; kind = 16; group = a .heading .group; figures = groupFigures (a .subtotal); co2e = 0 });
+        })
+    go true = record { account = refl; bytes = refl; long = refl; short = omega arith }
+    go false = record { account = refl; bytes = sym (append-nil _); long = line-length _ _ _ _ _ _ _; short = omega arith }
+
+-- the close: the total alone, or the last group's subtotal before it
+pub tells-close : (a : Account) → Tells (step (closed a) (subtotals a ++ (totalOf a ∷ []))) (closing a)
+unfolding bytesOf
+tells-close a = go (eqb (a .heading .group) 0)
+  where
+    go : (b : Bool)
+        → Tells (step (closed a) (pick b [] (lineWith 16 (a .heading .group) (groupFigures (a .subtotal)) ∷ []) ++ (totalOf a ∷ [])))
+        (record {
+          account = closed a;
+          line = record { len = pick b 54 100; kind = 16; group = a .heading .group; figures = groupFigures (a .subtotal); co2e = co2eIn a };
+        })
+    go true = record { account = refl; bytes = sym (append-nil _); long = total-length _ _ _ _ _ _; short = omega arith }
+    go false =
+        record {
+          account = refl;
+          bytes = ap (λ (t : List ℕ). lineWith 16 (a .heading .group) (groupFigures (a .subtotal)) ++ t) (sym (append-nil (totalOf a)));
+          long = both-long _ _ _ _ _ _ _ _ _ _ _ _ _;
+          short = omega arith;
+        }
 
 -- ---- the refusals of values
 

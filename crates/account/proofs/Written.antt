@@ -7,31 +7,48 @@ use native.Mathlib.Omega.{arith}
 use borrow.Author.Tests.{ne-eqb}
 use lib.ListN.{length, take, drop}
 use lib.Seq.{sets, sets-eq, paste, paste-zero, take-all}
+use Rattle.codec.proofs.Stores.{sets-append}
 use Rattle.codec.proofs.Round.{line-length, total-length}
-use Rattle.account.specs.declared.line.Line.{Line}
+use Rattle.account.specs.declared.Judged.{Judged}
 use Rattle.account.specs.Line.{lineWith, totalWith, bytesOf}
+use Rattle.account.proofs.Told.{both-long}
 
 pasted : (bs out : List ℕ) (w n : ℕ) → length bs ≡ n → w + n ≤ length out → sets out w bs ≡ paste out w bs n
 pasted bs out w n e h =
     let t : take n bs ≡ bs = take-all n bs (omega arith) in
     sets-eq bs out w (omega arith) ∙ rw (e, t)
 
-module _ (out : List ℕ) (w : ℕ) (l : Line) where
-  pub none-written : l .len ≡ 0 → out ≡ paste out w (bytesOf l) (l .len)
-  none-written e = rw e (paste-zero out w (bytesOf l))
+-- the lines of a record: the first of them, and the total
+abbrev pub leading : Judged → List ℕ
+leading j = lineWith (j .line .kind) (j .line .group) (j .line .figures)
 
-  module _ (h : w + l .len ≤ length out) where
-    pub line-written : l .len ≡ 46 → sets out w (lineWith (l .kind) (l .group) (l .figures)) ≡ paste out w (bytesOf l) (l .len)
+abbrev pub total : Judged → List ℕ
+total j = totalWith (j .account .sums) (j .line .co2e)
+
+module _ (out : List ℕ) (w : ℕ) (j : Judged) where
+  pub none-written : j .line .len ≡ 0 → out ≡ paste out w (bytesOf j) (j .line .len)
+  none-written e = rw e (paste-zero out w (bytesOf j))
+
+  module _ (h : w + j .line .len ≤ length out) where
+    pub line-written : j .line .len ≡ 46 → sets out w (leading j) ≡ paste out w (bytesOf j) (j .line .len)
     unfolding bytesOf
-    line-written e = rw e (pasted (lineWith (l .kind) (l .group) (l .figures)) out w 46 (line-length _ _ _ _ _ _ _) (omega arith))
+    line-written e = rw e (pasted (leading j) out w 46 (line-length _ _ _ _ _ _ _) (omega arith))
 
-    module _ (zero : l .len ≡ 0 → ⊥) (other : l .len ≡ 46 → ⊥) (long : length (bytesOf l) ≡ l .len) where
-      is-total : bytesOf l ≡ totalWith (l .figures) (l .co2e)
+    pub total-written : j .line .len ≡ 54 → sets out w (total j) ≡ paste out w (bytesOf j) (j .line .len)
+    unfolding bytesOf
+    total-written e = rw e (pasted (total j) out w 54 (total-length _ _ _ _ _ _) (omega arith))
+
+    module _ (zero : j .line .len ≡ 0 → ⊥) (other : j .line .len ≡ 46 → ⊥) (third : j .line .len ≡ 54 → ⊥) (long : length (bytesOf j) ≡ j .line .len) where
+      are-both : bytesOf j ≡ leading j ++ total j
       unfolding bytesOf
-      is-total = rw (ne-eqb _ 0 zero, ne-eqb _ 46 other)
+      are-both = rw (ne-eqb _ 0 zero, ne-eqb _ 46 other, ne-eqb _ 54 third)
 
-      pub total-long : l .len ≡ 54
-      total-long = sym long ∙ ap length is-total ∙ total-length _ _ _ _ _ _
+      pub both-are : j .line .len ≡ 100
+      both-are = sym long ∙ ap length are-both ∙ both-long _ _ _ _ _ _ _ _ _ _ _ _ _
 
-      pub total-written : sets out w (totalWith (l .figures) (l .co2e)) ≡ paste out w (bytesOf l) (l .len)
-      total-written = rw (is-total, total-long) (pasted (totalWith (l .figures) (l .co2e)) out w 54 (total-length _ _ _ _ _ _) (omega (arith, total-long)))
+      -- one after the other
+      pub both-written : sets (sets out w (leading j)) (w + 46) (total j) ≡ paste out w (bytesOf j) (j .line .len)
+      both-written =
+          let l : length (leading j) ≡ 46 = line-length _ _ _ _ _ _ _ in
+          let s : sets (sets out w (leading j)) (w + length (leading j)) (total j) ≡ sets out w (leading j ++ total j) = sym (sets-append (leading j) (total j) out w) in
+          (rw l at s) ∙ rw (are-both, both-are) (pasted (leading j ++ total j) out w 100 (both-long _ _ _ _ _ _ _ _ _ _ _ _ _) (omega (arith, both-are)))

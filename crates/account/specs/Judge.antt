@@ -2,7 +2,7 @@
 -- Assumes nothing.
 use Prim.Native.Nat.{ℕ, _+_, _≤_}
 use mathlib.Core.Path.{_≡_}
-use mathlib.Core.List.{List, [], _∷_}
+use mathlib.Core.List.{List, [], _∷_, _++_}
 use mathlib.Core.Bool.{Bool, true, false, _&&_, _||_, not}
 use lib.ListN.{length, getD}
 use lib.Dec.{ltb, leb, eqb}
@@ -12,8 +12,9 @@ use Rattle.grams.specs.Cattle.{belowZero}
 use Rattle.account.specs.declared.Account.{Account}
 use Rattle.account.specs.declared.Days.{Days}
 use Rattle.account.specs.declared.Figures.{Figures}
-use Rattle.account.specs.Figures.{noFigures, added, cattleRation, figuresOf}
-use Rattle.account.specs.Line.{lineOf, totalOf}
+use Rattle.account.specs.declared.Subtotal.{Subtotal}
+use Rattle.account.specs.Figures.{noFigures, noSubtotal, added, subtotalAfter, cattleRation, figuresOf}
+use Rattle.account.specs.Line.{lineOf, subtotals, totalOf}
 
 -- ---- a record and its parts
 
@@ -43,6 +44,7 @@ noRecord =
       set = 0;
       heading = record { group = 0; class = 0; head = 0 };
       days = record { enteric = 0; nitrogen = 0; pig = 0 };
+      subtotal = noSubtotal;
       sums = noFigures;
       refusal = record { code = 0; number = 0; field = 0 };
     }
@@ -56,6 +58,7 @@ refused a code field =
       set = a .set;
       heading = a .heading;
       days = a .days;
+      subtotal = a .subtotal;
       sums = a .sums;
       refusal = record { code = code; number = a .records; field = field };
     }
@@ -69,11 +72,12 @@ opened a set =
       set = set;
       heading = a .heading;
       days = a .days;
+      subtotal = a .subtotal;
       sums = a .sums;
       refusal = a .refusal;
     }
 
--- a new heading sets the day sums to zero
+-- a new heading sets the day sums and the subtotal to zero
 abbrev pub underHeading : Account → ℕ → ℕ → ℕ → Account
 underHeading a group class head =
     record {
@@ -82,24 +86,26 @@ underHeading a group class head =
       set = a .set;
       heading = record { group = group; class = class; head = head };
       days = record { enteric = 0; nitrogen = 0; pig = 0 };
+      subtotal = noSubtotal;
       sums = a .sums;
       refusal = a .refusal;
     }
 
 -- a detail adds its days and its figures; the heading stays
-abbrev pub withDetail : Account → Days → Figures → Account
-withDetail a days f =
+abbrev pub withDetail : Account → Days → Subtotal → Figures → Account
+withDetail a days subtotal f =
     record {
       stage = a .stage;
       records = a .records + 1;
       set = a .set;
       heading = a .heading;
       days = days;
+      subtotal = subtotal;
       sums = added (a .sums) f;
       refusal = a .refusal;
     }
 
--- the close: heading, day sums and sums stay
+-- the close: heading, day sums, subtotal and sums stay
 abbrev pub closed : Account → Account
 closed a =
     record {
@@ -108,6 +114,7 @@ closed a =
       set = a .set;
       heading = a .heading;
       days = a .days;
+      subtotal = a .subtotal;
       sums = a .sums;
       refusal = a .refusal;
     }
@@ -195,9 +202,12 @@ pub record Step : Type 0 where
 unfoldable pub accepted : Account → ℕ → List ℕ → Step
 accepted a k v =
     pick (eqb k 1) (record { account = opened a (getD v 2 0); lines = [] })
-    (pick (eqb k 2) (record { account = underHeading a (getD v 0 0) (getD v 1 0) (getD v 2 0); lines = [] })
-    (pick (eqb k 8) (record { account = closed a; lines = totalOf a ∷ [] })
-    (record { account = withDetail a (daysAfter (a .days) k (getD v 0 0)) (figuresOf (a .heading) k v); lines = lineOf (a .heading) k v ∷ [] })))
+    (pick (eqb k 2) (record { account = underHeading a (getD v 0 0) (getD v 1 0) (getD v 2 0); lines = subtotals a })
+    (pick (eqb k 8) (record { account = closed a; lines = subtotals a ++ (totalOf a ∷ []) })
+    (record {
+      account = withDetail a (daysAfter (a .days) k (getD v 0 0)) (subtotalAfter (a .subtotal) k (figuresOf (a .heading) k v)) (figuresOf (a .heading) k v);
+      lines = lineOf (a .heading) k v ∷ [];
+    })))
 
 -- by the number of its first refusal; the field is given for 7 alone
 abbrev pub decided : ℕ → Account → ℕ → List ℕ → Step

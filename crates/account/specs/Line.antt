@@ -1,4 +1,4 @@
--- Document 01, "Lines, calls and state": the bytes of a detail's line and of the close's line.
+-- Document 01, "Lines, calls and state": the bytes of a detail's line, of a group's subtotal and of the close's line.
 -- Assumes nothing.
 use Prim.Native.Nat.{ℕ}
 use mathlib.Core.List.{List, [], _∷_, _++_}
@@ -8,8 +8,8 @@ use Rattle.grams.specs.Farm.{co2eOf, warmingOf}
 use Rattle.account.specs.declared.Account.{Account}
 use Rattle.account.specs.declared.Figures.{Figures}
 use Rattle.account.specs.declared.Heading.{Heading}
-use Rattle.account.specs.declared.line.Line.{Line}
-use Rattle.account.specs.Figures.{figuresOf, noFigures}
+use Rattle.account.specs.declared.Judged.{Judged}
+use Rattle.account.specs.Figures.{groupFigures, figuresOf}
 
 -- a line of kind k, with a group and five figures
 abbrev pub lineWith : ℕ → ℕ → Figures → List ℕ
@@ -34,14 +34,19 @@ totalWith f co2e = totalBytes (f .ch4) (f .n2o .0) (f .co2) (f .excreted) (f .la
 abbrev pub totalOf : Account → List ℕ
 totalOf a = totalWith (a .sums) (co2eIn a)
 
+-- the subtotal of the group that a new heading or the close ends: a line of kind 16 with the group's number; none where there is no heading
+abbrev pub subtotals : Account → List (List ℕ)
+subtotals a = pick (eqb (a .heading .group) 0) [] (lineWith 16 (a .heading .group) (groupFigures (a .subtotal)) ∷ [])
+
 -- lines one after the other
 abbrev pub joined : List (List ℕ) → List ℕ
 joined [] = []
 joined (l ∷ ls) = l ++ joined ls
 
--- the bytes of a line that is yet to be written, which has none, 46 or 54
-unfoldable pub bytesOf : Line → List ℕ
-bytesOf l =
-    pick (eqb (l .len) 0) []
-    (pick (eqb (l .len) 46) (lineWith (l .kind) (l .group) (l .figures))
-    (totalWith (l .figures) (l .co2e)))
+-- the bytes of lines that are yet to be written: none, 46 of a detail or a subtotal, 54 of the total, or 100 of a subtotal and the total
+unfoldable pub bytesOf : Judged → List ℕ
+bytesOf j =
+    pick (eqb (j .line .len) 0) []
+    (pick (eqb (j .line .len) 46) (lineWith (j .line .kind) (j .line .group) (j .line .figures))
+    (pick (eqb (j .line .len) 54) (totalWith (j .account .sums) (j .line .co2e))
+    (lineWith (j .line .kind) (j .line .group) (j .line .figures) ++ totalWith (j .account .sums) (j .line .co2e))))

@@ -11,6 +11,7 @@ use Rattle.account.specs.declared.Account.{Account}
 use Rattle.account.specs.declared.Heading.{Heading}
 use Rattle.account.specs.declared.Days.{Days}
 use Rattle.account.specs.declared.Figures.{Figures}
+use Rattle.account.specs.declared.Subtotal.{Subtotal}
 use Rattle.account.specs.declared.Refusal.{Refusal}
 
 -- ---- in parts
@@ -58,6 +59,20 @@ pub record Bounded (f : Figures) (records : ℕ) : Type 0 where
   pub excreted : f .excreted ≤ records * 10 ^ 11
   pub land : f .land ≤ records * 10 ^ 11
 
+-- the running subtotal, bounded as the sums
+pub record Grouped (s : Subtotal) (records : ℕ) : Type 0 where
+  pub ch4 : s .ch4 ≤ records * 10 ^ 11
+  pub n2o : s .n2o .0 ≤ records * 10 ^ 10
+  pub excreted : s .excreted ≤ records * 10 ^ 11
+  pub land : s .land ≤ records * 10 ^ 11
+
+-- zero without a heading
+pub record Ungrouped (s : Subtotal) : Type 0 where
+  pub ch4 : s .ch4 ≡ 0
+  pub n2o : s .n2o .0 ≡ 0
+  pub excreted : s .excreted ≡ 0
+  pub land : s .land ≡ 0
+
 -- the refusal of stage 3: code 1..12, record number equal to the records accepted, field 1..12 for code 7, else 0
 pub record Numbered (r : Refusal) (records : ℕ) : Type 0 where
   pub code-least : 1 ≤ r .code
@@ -79,6 +94,8 @@ pub record Fair (a : Account) : Type 0 where
   pub warmed : Warmed (a .set) (a .records)
   pub heading : Headed (a .heading) (a .days) (a .records) ⊎ Unheaded (a .heading) (a .days)
   pub sums : Bounded (a .sums) (a .records)
+  pub grouped : Grouped (a .subtotal) (a .records)
+  pub ungrouped : a .heading .group ≡ 0 → Ungrouped (a .subtotal)
   pub refused : a .stage ≡ 3 → Numbered (a .refusal) (a .records)
   pub unrefused : (a .stage ≡ 3 → ⊥) → Unrefused (a .refusal)
 
@@ -124,6 +141,16 @@ boundedTest f records =
     && leb (f .excreted) (records * 10 ^ 11)
     && leb (f .land) (records * 10 ^ 11)
 
+abbrev pub groupedTest : Subtotal → ℕ → Bool
+groupedTest s records =
+    leb (s .ch4) (records * 10 ^ 11)
+    && leb (s .n2o .0) (records * 10 ^ 10)
+    && leb (s .excreted) (records * 10 ^ 11)
+    && leb (s .land) (records * 10 ^ 11)
+
+abbrev pub ungroupedTest : Subtotal → Bool
+ungroupedTest s = eqb (s .ch4) 0 && eqb (s .n2o .0) 0 && eqb (s .excreted) 0 && eqb (s .land) 0
+
 abbrev pub numberedTest : Refusal → ℕ → Bool
 numberedTest r records =
     leb 1 (r .code)
@@ -142,5 +169,6 @@ fair a =
     && warmedTest (a .set) (a .records)
     && (headedTest (a .heading) (a .days) (a .records) || unheadedTest (a .heading) (a .days))
     && boundedTest (a .sums) (a .records)
+    && (groupedTest (a .subtotal) (a .records) && (not (eqb (a .heading .group) 0) || ungroupedTest (a .subtotal)))
     && (not (eqb (a .stage) 3) || numberedTest (a .refusal) (a .records))
     && (eqb (a .stage) 3 || unrefusedTest (a .refusal))

@@ -5,21 +5,24 @@ use mathlib.Core.Path.{_≡_}
 use mathlib.Core.List.{List}
 use mathlib.Core.Bool.{Bool}
 use lib.ListN.{length}
+use lib.Dec.{eqb}
+use Rattle.codec.specs.Codec.{pick}
 use Rattle.account.specs.declared.Account.{Account}
 use Rattle.account.specs.declared.Days.{Days}
 use Rattle.account.specs.declared.Figures.{Figures}
+use Rattle.account.specs.declared.Subtotal.{Subtotal}
 use Rattle.account.specs.declared.Judged.{Judged}
 use Rattle.account.specs.declared.line.Line.{Line}
-use Rattle.account.specs.Figures.{noFigures}
+use Rattle.account.specs.Figures.{noFigures, groupFigures}
 use Rattle.account.specs.Line.{joined, bytesOf, co2eIn}
-use Rattle.account.specs.Judge.{Step, Whole, versionOf, kindOf, refused, withDetail, closed}
+use Rattle.account.specs.Judge.{Step, Whole, versionOf, kindOf, refused, underHeading, withDetail, closed}
 
--- r tells what j says: the account, and a line that is j's lines one after the other
+-- r tells what j says: the account, and j's lines one after the other
 pub record Tells (j : Step) (r : Judged) : Type 0 where
   pub account : r .account ≡ j .account
-  pub bytes : bytesOf (r .line) ≡ joined (j .lines)
-  pub long : length (bytesOf (r .line)) ≡ r .line .len
-  pub short : r .line .len ≤ 54
+  pub bytes : bytesOf r ≡ joined (j .lines)
+  pub long : length (bytesOf r) ≡ r .line .len
+  pub short : r .line .len ≤ 100
 
 -- r is a whole record of version 1 and kind k
 pub record Kind (k : ℕ) (r : List ℕ) : Type 0 where
@@ -44,10 +47,20 @@ quiet a = record { account = a; line = noLine }
 abbrev pub refusing : Account → ℕ → ℕ → Judged
 refusing a code field = quiet (refused a code field)
 
-abbrev pub detailing : Account → ℕ → ℕ → Days → Figures → Judged
-detailing a kind group days f =
-    record { account = withDetail a days f; line = record { len = 46; kind = kind; group = group; figures = f; co2e = 0 } }
+abbrev pub detailing : Account → ℕ → ℕ → Days → Subtotal → Figures → Judged
+detailing a kind group days subtotal f =
+    record { account = withDetail a days subtotal f; line = record { len = 46; kind = kind; group = group; figures = f; co2e = 0 } }
+
+abbrev pub groupLine : Account → Line
+groupLine a =
+    pick (eqb (a .heading .group) 0) noLine (record { len = 46; kind = 16; group = a .heading .group; figures = groupFigures (a .subtotal); co2e = 0 })
+
+abbrev pub heading : Account → ℕ → ℕ → ℕ → Judged
+heading a group class head = record { account = underHeading a group class head; line = groupLine a }
 
 abbrev pub closing : Account → Judged
 closing a =
-    record { account = closed a; line = record { len = 54; kind = 8; group = 0; figures = a .sums; co2e = co2eIn a } }
+    record {
+      account = closed a;
+      line = record { len = pick (eqb (a .heading .group) 0) 54 100; kind = 16; group = a .heading .group; figures = groupFigures (a .subtotal); co2e = co2eIn a };
+    }

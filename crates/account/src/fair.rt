@@ -4,8 +4,11 @@ use crate::Days;
 use crate::Figures;
 use crate::Heading;
 use crate::Refusal;
+use crate::Subtotal;
 ghost use mathlib.Core.Path.{_≡_};
-ghost use Rattle.account.specs.Range.{countedTest, warmedTest, headedTest, unheadedTest, boundedTest, numberedTest, unrefusedTest, fair};
+ghost use mathlib.Core.Bool.{_&&_, _||_, not};
+ghost use lib.Dec.{eqb};
+ghost use Rattle.account.specs.Range.{countedTest, warmedTest, headedTest, unheadedTest, boundedTest, groupedTest, ungroupedTest, numberedTest, unrefusedTest, fair};
 
 fn counted(stage: u8, records: u16) -> bool
     ensures { λ r. ⌜ r ≡ countedTest stage records ⌝ }
@@ -59,6 +62,29 @@ fn bounded(f: Figures, records: u16) -> bool
         & (f.land <= n * 100000000000)
 }
 
+fn grouped(s: Subtotal, records: u16) -> bool
+    ensures { λ r. ⌜ r ≡ groupedTest s records ⌝ }
+{
+    let n = records as u64;
+    (s.ch4 <= n * 100000000000)
+        & (s.n2o.0 <= n * 10000000000)
+        & (s.excreted <= n * 100000000000)
+        & (s.land <= n * 100000000000)
+}
+
+fn ungrouped(s: Subtotal) -> bool
+    ensures { λ r. ⌜ r ≡ ungroupedTest s ⌝ }
+{
+    (s.ch4 == 0) & (s.n2o.0 == 0) & (s.excreted == 0) & (s.land == 0)
+}
+
+// The subtotal's clauses: bounded as the sums, and zero without a heading.
+fn subtotalled(s: Subtotal, group: u16, records: u16) -> bool
+    ensures { λ r. ⌜ r ≡ (groupedTest s records && (not (eqb group 0) || ungroupedTest s)) ⌝ }
+{
+    grouped(s, records) & (!(group == 0) | ungrouped(s))
+}
+
 fn numbered(r: Refusal, records: u16) -> bool
     ensures { λ b. ⌜ b ≡ numberedTest r records ⌝ }
 {
@@ -81,12 +107,14 @@ pub fn test(a: Account) -> bool
 {
     let h = a.heading;
     let d = a.days;
+    let s = a.subtotal;
     let f = a.sums;
     let r = a.refusal;
     counted(a.stage, a.records)
         & warmed(a.set, a.records)
         & (headed(h, d, a.records) | unheaded(h, d))
         & bounded(f, a.records)
+        & subtotalled(s, h.group, a.records)
         & (!(a.stage == 3) | numbered(r, a.records))
         & ((a.stage == 3) | unrefused(r))
 }

@@ -36,6 +36,14 @@ pub struct Figures {
     pub land: u64,
 }
 
+// Grams of one group: the running subtotal of kinds 3 to 5. A group has no CO2.
+pub struct Subtotal {
+    pub ch4: u64,
+    pub n2o: N2o,
+    pub excreted: u64,
+    pub land: u64,
+}
+
 // Why a book was refused: the number of the rule, the records accepted before, and the field for rule 7.
 pub struct Refusal {
     pub code: u8,
@@ -50,11 +58,12 @@ pub struct Account {
     pub set: u8,
     pub heading: Heading,
     pub days: Days,
+    pub subtotal: Subtotal,
     pub sums: Figures,
     pub refusal: Refusal,
 }
 
-// What a whole record does: the account after it, and its line.
+// What a whole record does: the account after it, and its lines.
 pub struct Judged {
     pub account: Account,
     pub line: Line,
@@ -78,6 +87,12 @@ impl Account {
                 enteric: 0,
                 nitrogen: 0,
                 pig: 0,
+            },
+            subtotal: Subtotal {
+                ch4: 0,
+                n2o: N2o(0),
+                excreted: 0,
+                land: 0,
             },
             sums: Figures {
                 ch4: 0,

@@ -1,5 +1,6 @@
-// A line before it is written: its values, not its bytes.
+// The lines of a record before they are written: their values, not their bytes.
 use crate::Figures;
+use crate::Judged;
 use grams::units::N2o;
 ghost use mathlib.Core.Path.{_≡_};
 ghost use Prim.Native.Nat.{_+_, _≤_};
@@ -8,7 +9,8 @@ ghost use lib.Seq.{paste};
 ghost use Rattle.account.specs.Line.{bytesOf};
 ghost use Rattle.account.specs.Told.{noLine};
 
-// len is 0 where there is no line, 46 for a detail's, 54 for the close's, which alone has CO2e.
+// len is 0 where there is no line; 46 for a detail's or a subtotal; 54 for the total, whose sums are the account's, with its CO2e; 100 for a
+// subtotal and the total.
 pub struct Line {
     pub len: usize,
     pub kind: u8,
@@ -35,11 +37,12 @@ pub fn none() -> Line
     }
 }
 
-// Writes a line at w.
-pub fn write(out: &mut [u8], w: usize, line: Line)
-    requires { ⌜ (w + line .len ≤ length (now out)) × (length (bytesOf line) ≡ line .len) ⌝ }
-    ensures { λ _. ⌜ now (out .exit) ≡ paste (now (out .entry)) w (bytesOf line) (line .len) ⌝ }
+// Writes a record's lines at w.
+pub fn write(out: &mut [u8], w: usize, j: Judged)
+    requires { ⌜ (w + j .line .len ≤ length (now out)) × (length (bytesOf j) ≡ j .line .len) ⌝ }
+    ensures { λ _. ⌜ now (out .exit) ≡ paste (now (out .entry)) w (bytesOf j) (j .line .len) ⌝ }
 {
+    let line = j.line;
     if line.len == 0 {
         return;
     }
@@ -58,5 +61,31 @@ pub fn write(out: &mut [u8], w: usize, line: Line)
         );
         return;
     }
-    codec::lines::put_total(out, w, f.ch4, f.n2o.0, f.co2, f.excreted, f.land, line.co2e);
+    let account = j.account;
+    let s = account.sums;
+    if line.len == 54 {
+        codec::lines::put_total(out, w, s.ch4, s.n2o.0, s.co2, s.excreted, s.land, line.co2e);
+        return;
+    }
+    codec::lines::put_line(
+        out,
+        w,
+        line.kind,
+        line.group,
+        f.ch4,
+        f.n2o.0,
+        f.co2,
+        f.excreted,
+        f.land,
+    );
+    codec::lines::put_total(
+        out,
+        w + 46,
+        s.ch4,
+        s.n2o.0,
+        s.co2,
+        s.excreted,
+        s.land,
+        line.co2e,
+    );
 }

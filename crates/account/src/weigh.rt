@@ -4,6 +4,7 @@ use crate::Days;
 use crate::Figures;
 use crate::Heading;
 use crate::Judged;
+use crate::Subtotal;
 use crate::line;
 use crate::line::Line;
 use grams::cattle::CattleManure;
@@ -19,11 +20,11 @@ ghost use mathlib.Core.Bool.{_&&_, not};
 ghost use Prim.Native.Nat.{_+_, _<_, _≤_};
 ghost use lib.Dec.{leb, eqb};
 ghost use Rattle.codec.specs.Codec.{pick};
-ghost use Rattle.account.specs.Figures.{added, ch4Alone, co2Alone, cattleRation, cattleFigures, pigRation, pigFigures};
+ghost use Rattle.account.specs.Figures.{added, grouped, groupFigures, ch4Alone, co2Alone, cattleRation, cattleFigures, pigRation, pigFigures};
 ghost use Rattle.grams.specs.Farm.{warmingOf};
-ghost use Rattle.account.specs.Range.{Fair, Bounded};
+ghost use Rattle.account.specs.Range.{Fair, Bounded, Grouped};
 ghost use Rattle.account.specs.Judge.{first, weigh};
-ghost use Rattle.account.specs.Told.{Tells, Small, quiet, refusing, detailing, closing};
+ghost use Rattle.account.specs.Told.{Tells, Small, quiet, refusing, detailing, groupLine, closing};
 
 // Refusals 5, 6 and 7, or 0.
 fn barred(records: u16, placed: bool, bad: u8) -> u8
@@ -101,16 +102,33 @@ fn summed(f: Figures, g: Figures) -> Figures
     }
 }
 
-// One record more, with its days, its figures and its line.
-fn detailed(a: Account, kind: u8, group: u16, days: Days, f: Figures) -> Judged
+// The subtotal with a line's figures.
+fn sub_summed(s: Subtotal, f: Figures) -> Subtotal
+    requires { ⌜ Grouped s 4096 × Small f ⌝ }
+    ensures { λ r. ⌜ r ≡ grouped s f ⌝ }
+{
+    let n = s.n2o;
+    let m = f.n2o;
+    let n2o = n.plus(m);
+    Subtotal {
+        ch4: s.ch4 + f.ch4,
+        n2o: n2o,
+        excreted: s.excreted + f.excreted,
+        land: s.land + f.land,
+    }
+}
+
+// One record more, with its days, its group's subtotal, its figures and its line.
+fn detailed(a: Account, kind: u8, group: u16, days: Days, subtotal: Subtotal, f: Figures) -> Judged
     requires { ⌜ (a .records < 4096) × Bounded (a .sums) 4096 × Small f ⌝ }
-    ensures { λ r. ⌜ r ≡ detailing a kind group days f ⌝ }
+    ensures { λ r. ⌜ r ≡ detailing a kind group days subtotal f ⌝ }
 {
     let sums = a.sums;
     let more = summed(sums, f);
     let mut next = a;
     next.records = a.records + 1;
     next.days = days;
+    next.subtotal = subtotal;
     next.sums = more;
     Judged {
         account: next,
@@ -121,6 +139,48 @@ fn detailed(a: Account, kind: u8, group: u16, days: Days, f: Figures) -> Judged
             figures: f,
             co2e: 0,
         },
+    }
+}
+
+// The same under a heading, whose subtotal takes the figures too.
+fn grouped_detail(a: Account, kind: u8, group: u16, days: Days, f: Figures) -> Judged
+    requires { ⌜ (a .records < 4096) × Bounded (a .sums) 4096 × Grouped (a .subtotal) 4096 × Small f ⌝ }
+    ensures { λ r. ⌜ r ≡ detailing a kind group days (grouped (a .subtotal) f) f ⌝ }
+{
+    let s = a.subtotal;
+    let subtotal = sub_summed(s, f);
+    detailed(a, kind, group, days, subtotal, f)
+}
+
+fn group_figures(s: Subtotal) -> Figures
+    ensures { λ r. ⌜ r ≡ groupFigures s ⌝ }
+{
+    let n2o = s.n2o;
+    Figures {
+        ch4: s.ch4,
+        n2o: n2o,
+        co2: 0,
+        excreted: s.excreted,
+        land: s.land,
+    }
+}
+
+// The subtotal of the group that a new heading ends; no line where there was no heading.
+fn group_line(a: Account) -> Line
+    ensures { λ r. ⌜ r ≡ groupLine a ⌝ }
+{
+    let h = a.heading;
+    if h.group == 0 {
+        return line::none();
+    }
+    let s = a.subtotal;
+    let f = group_figures(s);
+    Line {
+        len: 46,
+        kind: 16,
+        group: h.group,
+        figures: f,
+        co2e: 0,
     }
 }
 
@@ -190,9 +250,20 @@ pub fn heading(a: Account, v: [u64; 3]) -> Judged
         nitrogen: 0,
         pig: 0,
     };
+    let zero = Subtotal {
+        ch4: 0,
+        n2o: N2o(0),
+        excreted: 0,
+        land: 0,
+    };
     next.heading = h;
     next.days = none;
-    silent(next)
+    next.subtotal = zero;
+    let line = group_line(a);
+    Judged {
+        account: next,
+        line: line,
+    }
 }
 
 pub fn enteric(a: Account, v: [u64; 3]) -> Judged
@@ -213,7 +284,7 @@ pub fn enteric(a: Account, v: [u64; 3]) -> Judged
     days.enteric = sum as u16;
     let ch4 = grams::cattle::enteric(v[1], v[2], h.head as u64, v[0]);
     let f = ch4_alone(ch4);
-    detailed(a, 3, h.group, days, f)
+    grouped_detail(a, 3, h.group, days, f)
 }
 
 fn manure_figures(m: CattleManure) -> Figures
@@ -268,7 +339,7 @@ pub fn cattle(a: Account, v: [u64; 9]) -> Judged
         CattleNitrogen::BelowZero => a.wrong(11, 0),
         CattleNitrogen::Given(m) => {
             let f = manure_figures(m);
-            detailed(a, 4, h.group, days, f)
+            grouped_detail(a, 4, h.group, days, f)
         }
     }
 }
@@ -326,7 +397,7 @@ pub fn pig(a: Account, v: [u64; 12]) -> Judged
     days.pig = sum as u16;
     let m = grams::pig::manure(pig_ration(v), h.head as u64);
     let f = pig_figures(m);
-    detailed(a, 5, h.group, days, f)
+    grouped_detail(a, 5, h.group, days, f)
 }
 
 pub fn energy(a: Account, v: [u64; 3]) -> Judged
@@ -341,7 +412,8 @@ pub fn energy(a: Account, v: [u64; 3]) -> Judged
     let co2 = grams::farm::energy(v[1], v[2]);
     let f = co2_alone(co2);
     let days = a.days;
-    detailed(a, 6, 0, days, f)
+    let subtotal = a.subtotal;
+    detailed(a, 6, 0, days, subtotal, f)
 }
 
 pub fn soil(a: Account, v: [u64; 1]) -> Judged
@@ -356,7 +428,8 @@ pub fn soil(a: Account, v: [u64; 1]) -> Judged
     let co2 = grams::farm::soil(v[0]);
     let f = co2_alone(co2);
     let days = a.days;
-    detailed(a, 7, 0, days, f)
+    let subtotal = a.subtotal;
+    detailed(a, 7, 0, days, subtotal, f)
 }
 
 fn warming(set: u8) -> Warming
@@ -369,7 +442,14 @@ fn warming(set: u8) -> Warming
     }
 }
 
-// The close's line has the sums and their CO2e.
+// 54 bytes for the total alone, 100 with the last group's subtotal before it.
+fn closing_length(group: u16) -> usize
+    ensures { λ r. ⌜ r ≡ pick (eqb group 0) 54 100 ⌝ }
+{
+    if group == 0 { 54 } else { 100 }
+}
+
+// The close's lines: the last group's subtotal, where there is a heading, and the sums with their CO2e.
 fn totalled(a: Account) -> Judged
     requires { ⌜ (a .records < 4096) × Bounded (a .sums) 4096 ⌝ }
     ensures { λ r. ⌜ r ≡ closing a ⌝ }
@@ -378,16 +458,20 @@ fn totalled(a: Account) -> Judged
     let n2o = sums.n2o;
     let w = warming(a.set);
     let co2e = grams::farm::co2e(w, sums.co2, sums.ch4, n2o);
+    let h = a.heading;
+    let s = a.subtotal;
+    let f = group_figures(s);
+    let len = closing_length(h.group);
     let mut next = a;
     next.stage = 2;
     next.records = a.records + 1;
     Judged {
         account: next,
         line: Line {
-            len: 54,
-            kind: 8,
-            group: 0,
-            figures: sums,
+            len: len,
+            kind: 16,
+            group: h.group,
+            figures: f,
             co2e: co2e,
         },
     }

@@ -53,8 +53,8 @@ module _ (xs : List ℕ) (n : ℕ) (e : front xs ≡ whole) (k : n ≡ need xs) 
       ∙ rw (take-all (need zs) zs (omega (arith, record-length, record-long)), d, book-none (judge a zs .account) (fair-judge a zs v early))
 
   pub outcome-one : (a : Account) (j : Judged) → Fair a → a .stage < 2 → Tells (judge a (take n xs)) j
-      → outcome (book a (take n xs)) ≡ record { state = holding (j .account) []; bytes = bytesOf (j .line); left = [] }
-  outcome-one a j v early t = rw (book-one a v early, append-nil, t .account, t .bytes)
+      → outcome (book a (take n xs)) ≡ record { state = holding (j .account) []; bytes = bytesOf j; left = [] }
+  outcome-one a j v early t = rw (book-one a v early, append-nil, t .bytes, t .account)
 
 -- ---- the records of src, one after the other
 
@@ -132,14 +132,14 @@ module _ {a₀ : Account} {src out₀ out : List ℕ} {a : Account} {at w n : �
       }
 
   -- its line is written
-  pub running-on : {out′ : List ℕ} → j .line .len ≤ length out - w → out′ ≡ paste out w (bytesOf (j .line)) (j .line .len)
+  pub running-on : {out′ : List ℕ} → j .line .len ≤ length out - w → out′ ≡ paste out w (bytesOf j) (j .line .len)
       → Running a₀ src out₀ out′ (j .account) (at + n) (w + j .line .len)
   unfolding run
   running-on f p =
       let fair = reading .range .account in
       record {
         reading =
-            read-line reading (bytesOf (j .line)) (j .line .len) p (omega (arith, reading .fits, f)) (x .tells .long) (holding (j .account) []) n record-inside
+            read-line reading (bytesOf j) (j .line .len) p (omega (arith, reading .fits, f)) (x .tells .long) (holding (j .account) []) n record-inside
             (range-idle (j .account) (rw (x .tells .account) (fair-judge a (take n (drop at src)) fair (x .still))))
             (outcome-one (drop at src) n (is-record .0) (is-record .1) a j fair (x .still) (x .tells));
         least = λ h.

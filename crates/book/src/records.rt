@@ -40,7 +40,7 @@ pub(crate) fn judge_all(from: Account, src: &[u8], out: &mut [u8]) -> Records
         if out.len() - w < line.len {
             return Records { account, at, w };
         }
-        write(out, w, line);
+        write(out, w, j);
         account = j.account;
         w += line.len;
         at += n;

@@ -14,7 +14,8 @@ use Rattle.codec.specs.Table.{table, fields, lineFields, totalFields}
 use Rattle.codec.specs.Codec.{pick, valAt, be, valuesAt, bytesOf, lineBytes, totalBytes}
 use Rattle.account.specs.declared.Account.{Account}
 use Rattle.account.specs.declared.Heading.{Heading}
-use Rattle.account.specs.Line.{joined, groupOf, lineOf, totalOf}
+use Rattle.account.specs.Line.{lineWith, subtotals, totalOf}
+use Rattle.account.specs.Figures.{groupFigures}
 use Rattle.account.specs.Range.{Headed, Unheaded, Fair}
 use Rattle.account.specs.Judge.{kindOf, valuesOf, underHeading, first, refusals, Step, accepted, judge}
 use Rattle.account.proofs.Tests.{by-test, not-false, and-r, lt-or-ge}
@@ -26,7 +27,7 @@ use Rattle.book.specs.State.{heldOf, holding, InRange}
 use Rattle.book.specs.Run.{Run, book, run}
 use Rattle.book.proofs.FrontLaws.{meaning}
 use Rattle.book.proofs.RunLaws.{book-ended, book-unfinished, book-bad, book-whole}
-use Rattle.promises.specs.Headings.{beginsWith, recordsBy, recordsOf, lastGroup, Mark, markOf, ownMark, marksOf}
+use Rattle.promises.specs.Headings.{beginsWith, recordsBy, recordsOf, lastGroup, Mark, markOf, subtotalMark, ownMark, marksOf}
 
 -- ---- the records of some bytes
 
@@ -46,7 +47,7 @@ enough (suc n) (suc m) xs p q =
     same-begin (front xs) xs (recordsBy n (drop (need xs) xs)) (recordsBy m (drop (need xs) xs))
     (λ e. enough n m (drop (need xs) xs) (rest-short xs n e p) (rest-short xs m e q))
 
-records-whole : (xs : List ℕ) → front xs ≡ whole → recordsOf xs ≡ take (need xs) xs ∷ recordsOf (drop (need xs) xs)
+pub records-whole : (xs : List ℕ) → front xs ≡ whole → recordsOf xs ≡ take (need xs) xs ∷ recordsOf (drop (need xs) xs)
 unfolding recordsOf recordsBy
 records-whole xs e =
     rw e
@@ -58,16 +59,20 @@ records-whole xs e =
 both-same : (k k′ g g′ : ℕ) → k ≡ k′ → g ≡ g′ → _≡_ {A = Mark} (record { kind = k; group = g }) (record { kind = k′; group = g′ })
 both-same k k′ g g′ p q = rw (p, q)
 
-line-mark : (k g ch4 n2o co2 excreted land : ℕ) → k < 256 → g < 65536 → markOf (lineBytes k g ch4 n2o co2 excreted land) ≡ record { kind = k; group = g }
+pub line-mark : (k g ch4 n2o co2 excreted land : ℕ) → k < 256 → g < 65536 → markOf (lineBytes k g ch4 n2o co2 excreted land) ≡ record { kind = k; group = g }
 unfolding lineBytes lineFields bytesOf be valAt
 line-mark k g ch4 n2o co2 excreted land p q =
     both-same (0 + k % 256) k ((0 + g / 256 % 256) * 256 + g % 256) g (omega arith) (omega arith)
 
-total-mark : (ch4 n2o co2 excreted land co2e : ℕ) → markOf (totalBytes ch4 n2o co2 excreted land co2e) ≡ record { kind = 8; group = 0 }
+pub total-mark : (ch4 n2o co2 excreted land co2e : ℕ) → markOf (totalBytes ch4 n2o co2 excreted land co2e) ≡ record { kind = 8; group = 0 }
 unfolding totalBytes totalFields bytesOf be valAt
 total-mark ch4 n2o co2 excreted land co2e = refl
 
-group-most : (a : Account) → Fair a → a .heading .group ≤ 65535
+map-append : (xs ys : List (List ℕ)) → map markOf (xs ++ ys) ≡ map markOf xs ++ map markOf ys
+map-append [] ys = refl
+map-append (x ∷ xs) ys = ap (λ (l : List Mark). markOf x ∷ l) (map-append xs ys)
+
+pub group-most : (a : Account) → Fair a → a .heading .group ≤ 65535
 group-most a f = ⊎-elim (λ (h : Headed (a .heading) (a .days) (a .records)). h .group-most) (λ (u : Unheaded (a .heading) (a .days)). omega arith) (f .heading)
 
 -- ---- what one record does
@@ -91,10 +96,23 @@ module _ (a : Account) (r : List ℕ) (f : Fair a) (kinds : leb 1 (kindOf r) && 
   small-kind : kindOf r < 256
   small-kind = omega (arith, leb-true (kindOf r) 8 (and-r (leb 1 (kindOf r)) (leb (kindOf r) 8) kinds))
 
+  -- the subtotal of the group that ends
+  group-marks : map markOf (subtotals a) ≡ subtotalMark (a .heading .group)
+  group-marks = go (eqb (a .heading .group) 0)
+    where
+      go : (b : Bool)
+          → map markOf (pick b [] (lineWith 16 (a .heading .group) (groupFigures (a .subtotal)) ∷ [])) ≡ pick b [] (record { kind = 16; group = a .heading .group } ∷ [])
+      go true = refl
+      go false = ap (λ (m : Mark). m ∷ []) (line-mark _ _ _ _ _ _ _ (omega arith) (omega (arith, group-most a f)))
+
   new-heading : eqb (kindOf r) 2 ≡ true
-      → Grown a r (record { account = underHeading a (getD (valuesOf r) 0 0) (getD (valuesOf r) 1 0) (getD (valuesOf r) 2 0); lines = [] })
+      → Grown a r (record { account = underHeading a (getD (valuesOf r) 0 0) (getD (valuesOf r) 1 0) (getD (valuesOf r) 2 0); lines = subtotals a })
   unfolding table valuesAt lastGroup
-  new-heading e = let k = eqb-true (kindOf r) 2 e in record { counted = refl; marks = rw k refl; group = rw k refl }
+  new-heading e = let k = eqb-true (kindOf r) 2 e in record { counted = refl; marks = group-marks ∙ rw k refl; group = rw k refl }
+
+  close-marks : map markOf (subtotals a ++ (totalOf a ∷ [])) ≡ subtotalMark (a .heading .group) ++ (record { kind = 8; group = 0 } ∷ [])
+  close-marks =
+      map-append (subtotals a) (totalOf a ∷ []) ∙ rw group-marks (ap (λ (m : Mark). subtotalMark (a .heading .group) ++ (m ∷ [])) (total-mark _ _ _ _ _ _))
 
   grown : Grown a r (accepted a (kindOf r) (valuesOf r))
   unfolding accepted lastGroup
@@ -103,10 +121,10 @@ module _ (a : Account) (r : List ℕ) (f : Fair a) (kinds : leb 1 (kindOf r) && 
       (λ e1. let k = eqb-true (kindOf r) 1 e1 in record { counted = refl; marks = rw k refl; group = rw k refl })
       (λ e1. by-test (Grown a r) (eqb (kindOf r) 2) new-heading
       (λ e2. by-test (Grown a r) (eqb (kindOf r) 8)
-      (λ e8. let k = eqb-true (kindOf r) 8 e8 in record { counted = refl; marks = rw k (ap (λ (m : Mark). m ∷ []) (total-mark _ _ _ _ _ _)); group = rw k refl })
-      (λ e8. record { counted = refl; marks = rw (e1, e2) (ap (λ (m : Mark). m ∷ []) (line-mark _ _ _ _ _ _ _ small-kind bound)); group = rw e2 refl })))
+      (λ e8. let k = eqb-true (kindOf r) 8 e8 in record { counted = refl; marks = close-marks ∙ rw k refl; group = rw k refl })
+      (λ e8. record { counted = refl; marks = rw (e1, e2, e8) (ap (λ (m : Mark). m ∷ []) (line-mark _ _ _ _ _ _ _ small-kind bound)); group = rw e2 refl })))
 
-kind-in : (a : Account) (r : List ℕ) → first (refusals a r) ≡ 0 → leb 1 (kindOf r) && leb (kindOf r) 8 ≡ true
+pub kind-in : (a : Account) (r : List ℕ) → first (refusals a r) ≡ 0 → leb 1 (kindOf r) && leb (kindOf r) 8 ≡ true
 kind-in a r e =
     let t = first-clear (refusals a r) (omega arith, (omega arith, (omega arith, (omega arith, (omega arith, (omega arith, (omega arith, (omega arith, (omega arith, (omega arith, (omega arith, tt))))))))))) e in
     not-false _ (t .1 .0 (omega arith))
@@ -119,10 +137,6 @@ judged a r f =
     (λ e. inl (record { stage = refl; counted = refl; none = refl }))
 
 -- ---- a run of records
-
-map-append : (xs ys : List (List ℕ)) → map markOf (xs ++ ys) ≡ map markOf xs ++ map markOf ys
-map-append [] ys = refl
-map-append (x ∷ xs) ys = ap (λ (l : List Mark). markOf x ∷ l) (map-append xs ys)
 
 -- the lines of a run bear what those of the records accepted should
 record Marked (a : Account) (xs : List ℕ) (r : Run) : Type 0 where
@@ -194,7 +208,8 @@ unfolding marksOf lastGroup
 under-heading g r rs p q =
     let one : eqb (kindOf r) 1 ≡ false = ne-eqb (kindOf r) 1 (λ e. omega (arith, e)) in
     let two : eqb (kindOf r) 2 ≡ false = ne-eqb (kindOf r) 2 (λ e. omega (arith, e)) in
-    rw (one, two, le-leb _ _ q) refl
+    let eight : eqb (kindOf r) 8 ≡ false = ne-eqb (kindOf r) 8 (λ e. omega (arith, e)) in
+    rw (one, two, eight, le-leb _ _ q) refl
 
 -- Every ration and manure line bears the last group heading before it: where the records accepted are some, then r of kind 3, 4 or 5, then
 -- others, the lines are those of the first ones, then one of r's kind with the group of the last heading among the first ones (the

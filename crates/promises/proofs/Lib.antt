@@ -8,3 +8,4 @@ pub mod OneAnswer
 pub mod Headings
 pub mod Paper
 pub mod Taken
+pub mod Subtotals

@@ -73,7 +73,7 @@ parts =
     ∷ record { offered = 7; room = 45 }
     ∷ record { offered = 30; room = 50 }
     ∷ record { offered = 100; room = 92 }
-    ∷ record { offered = 100; room = 54 }
+    ∷ record { offered = 100; room = 100 }
     ∷ []
 
 pub ended-way : Ended (way noRecordYet sample parts)

@@ -3,7 +3,6 @@
 -- Assumes nothing.
 use Prim.Native.Nat.{ℕ, zero, suc}
 use mathlib.Core.List.{List, [], _∷_, _++_}
-use mathlib.Core.Bool.{_||_}
 use lib.ListN.{length, take, drop}
 use lib.Dec.{leb, eqb}
 use Rattle.codec.specs.Codec.{pick, valAt}
@@ -38,9 +37,18 @@ pub record Mark : Type 0 where
 abbrev pub markOf : List ℕ → Mark
 markOf l = record { kind = valAt l 3 1; group = valAt l 4 2 }
 
--- what the line of a record of kind k bears, g being the last group before it: kinds 3 to 5 bear g, 6 to 8 bear 0, and 1 and 2 have no line
+-- a subtotal line bears its own group; there is none before the first heading
+abbrev pub subtotalMark : ℕ → List Mark
+subtotalMark g = pick (eqb g 0) [] (record { kind = 16; group = g } ∷ [])
+
+-- what the lines of a record of kind k bear, g being the last group before it: kinds 3 to 5 bear g, 6 and 7 bear 0; a new heading has the
+-- subtotal of g, the close that and the total, and a farm record has no line
 abbrev pub ownMark : ℕ → ℕ → List Mark
-ownMark g k = pick (eqb k 1 || eqb k 2) [] (record { kind = k; group = pick (leb k 5) g 0 } ∷ [])
+ownMark g k =
+    pick (eqb k 1) []
+    (pick (eqb k 2) (subtotalMark g)
+    (pick (eqb k 8) (subtotalMark g ++ (record { kind = 8; group = 0 } ∷ []))
+    (record { kind = k; group = pick (leb k 5) g 0 } ∷ [])))
 
 -- what the lines of the records rs bear, g being the last group before them
 unfoldable pub marksOf : ℕ → List (List ℕ) → List Mark

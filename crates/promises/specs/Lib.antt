@@ -1,3 +1,4 @@
 pub mod Headings
 pub mod Taken
+pub mod Subtotals
 pub mod Paper

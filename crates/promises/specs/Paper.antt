@@ -49,11 +49,12 @@ sample =
     ++ (0 ∷ 10 ∷ 1 ∷ 3 ∷ 0 ∷ 28 ∷ 0 ∷ 0 ∷ 117 ∷ 48 ∷ 2 ∷ 138 ∷ [])
     ++ (0 ∷ 4 ∷ 1 ∷ 8 ∷ 0 ∷ 5 ∷ [])
 
--- its lines
+-- its lines, the subtotal of group 12 before the total
 abbrev pub sampleLines : List (List ℕ)
 sampleLines =
     lineBytes 3 12 434501 0 0 0 0
     ∷ lineBytes 6 0 0 0 875000 0 0
     ∷ lineBytes 3 12 392453 0 0 0 0
+    ∷ lineBytes 16 12 826954 0 0 0 0
     ∷ totalBytes 826954 0 875000 0 0 18241034
     ∷ []

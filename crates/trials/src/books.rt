@@ -12,6 +12,7 @@ use account::Days;
 use account::Figures;
 use account::Heading;
 use account::Refusal;
+use account::Subtotal;
 use book::Answer;
 use book::State;
 use grams::units::N2o;
@@ -40,7 +41,7 @@ struct Stepped {
     w: usize,
 }
 
-fn heading_of(v: [u64; 18]) -> Heading {
+fn heading_of(v: [u64; 22]) -> Heading {
     Heading {
         group: (v[3] % 65536) as u16,
         class: (v[4] % 256) as u8,
@@ -48,7 +49,7 @@ fn heading_of(v: [u64; 18]) -> Heading {
     }
 }
 
-fn days_of(v: [u64; 18]) -> Days {
+fn days_of(v: [u64; 22]) -> Days {
     Days {
         enteric: (v[6] % 65536) as u16,
         nitrogen: (v[7] % 65536) as u16,
@@ -56,27 +57,37 @@ fn days_of(v: [u64; 18]) -> Days {
     }
 }
 
-fn sums_of(v: [u64; 18]) -> Figures {
-    Figures {
+fn subtotal_of(v: [u64; 22]) -> Subtotal {
+    Subtotal {
         ch4: v[9],
         n2o: N2o(v[10]),
-        co2: v[11],
-        excreted: v[12],
-        land: v[13],
+        excreted: v[11],
+        land: v[12],
     }
 }
 
-fn refusal_of(v: [u64; 18]) -> Refusal {
+fn sums_of(v: [u64; 22]) -> Figures {
+    Figures {
+        ch4: v[13],
+        n2o: N2o(v[14]),
+        co2: v[15],
+        excreted: v[16],
+        land: v[17],
+    }
+}
+
+fn refusal_of(v: [u64; 22]) -> Refusal {
     Refusal {
-        code: (v[14] % 256) as u8,
-        number: (v[15] % 65536) as u16,
-        field: (v[16] % 256) as u8,
+        code: (v[18] % 256) as u8,
+        number: (v[19] % 65536) as u16,
+        field: (v[20] % 256) as u8,
     }
 }
 
-fn account_of(v: [u64; 18]) -> Account {
+fn account_of(v: [u64; 22]) -> Account {
     let heading = heading_of(v);
     let days = days_of(v);
+    let subtotal = subtotal_of(v);
     let sums = sums_of(v);
     let refusal = refusal_of(v);
     Account {
@@ -85,13 +96,14 @@ fn account_of(v: [u64; 18]) -> Account {
         set: (v[2] % 256) as u8,
         heading: heading,
         days: days,
+        subtotal: subtotal,
         sums: sums,
         refusal: refusal,
     }
 }
 
 pub(crate) fn read_state(line: &[u8], at: usize) -> Resumed {
-    let mut values = [0u64; 18];
+    let mut values = [0u64; 22];
     let mut held = [0u8; 27];
     let after = read_numbers(line, at, &mut values);
     let h = read_bytes(line, after, &mut held);
@@ -99,7 +111,7 @@ pub(crate) fn read_state(line: &[u8], at: usize) -> Resumed {
     let state = State {
         account: account,
         held: held,
-        count: values[17] as usize,
+        count: values[21] as usize,
     };
     Resumed {
         state: state,
@@ -124,6 +136,12 @@ fn put_head(out: &mut [u8], at: usize, a: Account) -> usize {
     put_words(out, at, &values)
 }
 
+fn put_subtotal(out: &mut [u8], at: usize, s: Subtotal) -> usize {
+    let n2o = s.n2o;
+    let values = [s.ch4, n2o.0, s.excreted, s.land];
+    put_words(out, at, &values)
+}
+
 fn put_sums(out: &mut [u8], at: usize, f: Figures) -> usize {
     let n2o = f.n2o;
     let values = [f.ch4, n2o.0, f.co2, f.excreted, f.land];
@@ -135,16 +153,23 @@ pub(crate) fn put_refusal(out: &mut [u8], at: usize, r: Refusal) -> usize {
     put_words(out, at, &values)
 }
 
+// A state but for its held bytes.
+fn put_account(out: &mut [u8], at: usize, a: Account) -> usize {
+    let subtotal = a.subtotal;
+    let sums = a.sums;
+    let refusal = a.refusal;
+    let head = put_head(out, at, a);
+    let group = put_subtotal(out, head, subtotal);
+    let body = put_sums(out, group, sums);
+    put_refusal(out, body, refusal)
+}
+
 // A state on a line of its own.
 pub(crate) fn put_state(out: &mut [u8], at: usize, s: State) -> usize {
     let a = s.account;
-    let sums = a.sums;
-    let refusal = a.refusal;
     let held = s.held;
-    let head = put_head(out, at, a);
-    let body = put_sums(out, head, sums);
-    let tail = put_refusal(out, body, refusal);
-    let count = put_word(out, tail, s.count as u64);
+    let body = put_account(out, at, a);
+    let count = put_word(out, body, s.count as u64);
     let end = put_bytes(out, count, &held);
     put(out, end, b'\n')
 }

@@ -44,8 +44,8 @@ module _ (s : State) (k : ℕ) (v : List ℕ) (room : ℕ) (e : write s k v room
       let j = judge-is k v (w .of) (s .account) (fit-kind v k (w .ranges)) in
       rw (w .is) (run-one s (w .ready) (recordBytes k v) (is-kind k v (w .of) .whole) ∙ rw j)
 
-  -- A call of the reader with 54 bytes of room takes all of them and reaches it.
-  pub call-reaches : (lines : ℕ) → 54 ≤ lines
+  -- A call of the reader with 100 bytes of room takes all of them and reaches it.
+  pub call-reaches : (lines : ℕ) → 100 ≤ lines
       → (reader.call s (write s k v room .bytes) lines .state ≡ write s k v room .state) × (reader.call s (write s k v room .bytes) lines .taken ≡ length (write s k v room .bytes))
   call-reaches lines h =
       let w = written-so s k v room e in

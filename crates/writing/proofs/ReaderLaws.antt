@@ -48,8 +48,8 @@ module _ (s : State) (y : Ready s) (r : List ℕ) (w : Whole r) where
       let h : heldOf s ≡ [] = rw (y .none) in
       rw h (rw (t, append-nil) at (book-one r (need r) is-front refl (s .account) (y .range .account) (y .early)))
 
-  -- 54 bytes have room for its line
-  pub call-one : (room : ℕ) → 54 ≤ room
+  -- 100 bytes have room for its line
+  pub call-one : (room : ℕ) → 100 ≤ room
       → reader.call s r room ≡ record {
         state = holding (judge (s .account) r .account) [];
         taken = length r;

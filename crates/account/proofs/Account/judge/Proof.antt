@@ -27,7 +27,7 @@ judge-spec =
     tie.close
     (tie.spec
     (λ c. omega (arith, c .before .before .pre .2))
-    (λ c κs. search needs)
+    (λ c κs. tt)
     returns
     (λ c. omega (arith, c .before .before .before .before .pre .2))
     (λ c κs. (c .before .before .before .before .before .pre .0, c .before .before .before .before .before .pre .1, kind 1 (c .before .before) (c .match .keys1)))
@@ -38,7 +38,7 @@ judge-spec =
     (λ c κs. (c .before .before .before .before .before .pre .0, c .before .before .before .before .before .pre .1, kind 6 (c .before .before) (c .match .keys6)))
     (λ c κs. (c .before .before .before .before .before .pre .0, c .before .before .before .before .before .pre .1, kind 7 (c .before .before) (c .match .keys7)))
     (λ c κs. (c .before .before .before .before .before .pre .0, c .before .before .before .before .before .pre .1, kind 8 (c .before .before) (c .match .keys8)))
-    (λ c κs. search needs)
+    (λ c κs. tt)
     (λ c. c .farm .ensures)
     (λ c. c .heading .ensures)
     (λ c. c .enteric .ensures)

@@ -6,7 +6,7 @@ use Rattle.account.proofs.weigh.barred.Tie as tie
 
 returns : tie.Need-returns
 unfolding first
-returns c = rw (le-leb _ _ (c .if1 .taken))
+returns c = rw (le-leb 4096 _ (c .if1 .taken))
 
 returns-2 : tie.Need-returns-2
 unfolding first

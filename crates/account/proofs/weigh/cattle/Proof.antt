@@ -6,7 +6,7 @@ use borrow.Author.Tests.{lt-ltb, le-ltb, eq-eqb, ne-eqb}
 use Rattle.account.specs.Figures.{figuresOf}
 use Rattle.account.specs.Judge.{inPlace, first, accepted}
 use Rattle.account.proofs.Ranges.{cattle-in, cattle-shares}
-use Rattle.account.proofs.Told.{head-most, days-most, sums-most, small-cattle, below-zero, not-below, manure-is, tells-detail, Passes, passes, stops, refuses, accepts}
+use Rattle.account.proofs.Told.{head-most, days-most, sums-most, subtotal-most, small-cattle, below-zero, not-below, manure-is, tells-detail, Passes, passes, stops, refuses, accepts}
 use Rattle.account.proofs.weigh.cattle.Statement.{statement}
 use Rattle.account.proofs.weigh.cattle.Tie as tie
 
@@ -41,9 +41,9 @@ returns-3 c = refuses _ 4 _ (passed (c .before .before .before .before .before))
 nitrogen-requires : tie.Need-nitrogen-requires
 nitrogen-requires c κs = rw (c .before .cattle-ration .ensures) (cattle-in _ _ (head-most _ (c .before .before .before .before .before .before .before .before .before .before .before .pre .0)) (passed (c .before .before .before .before .before .before) .ranges))
 
-detailed-requires : tie.Need-detailed-requires
-detailed-requires c κs =
-    (passed (c .before .before .before .before .before .before .before .before .before .before .before) .room, sums-most _ (c .before .before .before .before .before .before .before .before .before .before .before .before .before .before .before .before .pre .0), small-cattle _ _ _ (c .before .before .before .before .nitrogen .ensures) _ (c .before .before .n .given .1) _ (c .manure-figures .ensures))
+grouped-detail-requires : tie.Need-grouped-detail-requires
+grouped-detail-requires c κs =
+    (passed (c .before .before .before .before .before .before .before .before .before .before .before) .room, sums-most _ (c .before .before .before .before .before .before .before .before .before .before .before .before .before .before .before .before .pre .0), subtotal-most _ (c .before .before .before .before .before .before .before .before .before .before .before .before .before .before .before .before .pre .0), small-cattle _ _ _ (c .before .before .before .before .nitrogen .ensures) _ (c .before .before .n .given .1) _ (c .manure-figures .ensures))
 
 returns-4 : tie.Need-returns-4
 unfolding first
@@ -61,41 +61,41 @@ returns-5 c =
     let manure = manure-is _ _ _ (c .before .before .before .before .before .nitrogen .ensures) _ given in
     rw (
       accepts _ 4 _ (passed (c .before .before .before .before .before .before .before .before .before .before .before .before)) (rw (le-ltb _ _ (c .before .before .before .before .before .before .before .before .before .if2 .left), eq-eqb _ 10000 (c .before .before .before .before .before .before .before .before .if3 .left), rw (c .before .before .before .before .before .before .before .cattle-ration .ensures) at above)),
-      c .detailed .ensures,
+      c .grouped-detail .ensures,
       c .before .manure-figures .ensures,
       rw (c .before .before .before .before .before .before .before .cattle-ration .ensures) at manure,
     )
-    (tells-detail (c .before .before .before .before .before .before .before .before .before .before .before .before .before .before .before .before .before .args .a) _ _ _ _)
+    (tells-detail (c .before .before .before .before .before .before .before .before .before .before .before .before .before .before .before .before .before .args .a) _ _ _ _ _)
 
 pub cattle-spec : {M : Type 1} → statement M
 cattle-spec =
     tie.close
     (tie.spec
-    (λ c κs. search needs)
-    (λ c κs. search needs)
-    (λ c κs. search needs)
-    (λ c κs. search needs)
+    (λ c κs. tt)
+    (λ c κs. tt)
+    (λ c κs. tt)
+    (λ c κs. tt)
     returns
     (λ c. search needs)
     (λ c. search needs)
     add-sum
-    (λ c κs. search needs)
+    (λ c κs. tt)
     returns-2
     (λ c. search needs)
     (λ c. search needs)
     add-if3
     (λ c. search needs)
     add-if3-2
-    (λ c κs. search needs)
+    (λ c κs. tt)
     returns-3
     (λ c. search needs)
-    (λ c κs. search needs)
+    (λ c κs. tt)
     (λ c. search needs)
     nitrogen-requires
     (λ c. search needs)
-    (λ c κs. search needs)
+    (λ c κs. tt)
     (λ c. search needs)
-    (λ c κs. search needs)
-    detailed-requires
+    (λ c κs. tt)
+    grouped-detail-requires
     returns-4
     returns-5)

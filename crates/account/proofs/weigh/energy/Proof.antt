@@ -19,26 +19,26 @@ unfolding inPlace
 passed c = passes _ 6 _ _ _ _ (c .before .before .begun .ensures) (c .before .before .before .energy .ensures) (c .before .barred .ensures) (c .if1 .left)
 
 detailed-requires : tie.Need-detailed-requires
-detailed-requires c κs = (passed (c .before .before .before) .room, sums-most _ (c .before .before .before .before .before .before .before .pre .0), small-co2 _ _ (c .before .co2-alone .ensures) (c .before .before .energy2 .ensures .small))
+detailed-requires c κs = (passed (c .before .before .before .before) .room, sums-most _ (c .before .before .before .before .before .before .before .before .pre .0), small-co2 _ _ (c .before .before .co2-alone .ensures) (c .before .before .before .energy2 .ensures .small))
 
 returns-2 : tie.Need-returns-2
 unfolding first accepted figuresOf
 returns-2 c =
-    rw (accepts _ 6 _ (passed (c .before .before .before .before)) refl, c .detailed .ensures, c .before .before .co2-alone .ensures, c .before .before .before .energy2 .ensures .exact)
-    (tells-detail (c .before .before .before .before .before .before .before .before .args .a) _ _ _ _)
+    rw (accepts _ 6 _ (passed (c .before .before .before .before .before)) refl, c .detailed .ensures, c .before .before .before .co2-alone .ensures, c .before .before .before .before .energy2 .ensures .exact)
+    (tells-detail (c .before .before .before .before .before .before .before .before .before .args .a) _ _ _ _ _)
 
 pub energy-spec : {M : Type 1} → statement M
 energy-spec =
     tie.close
     (tie.spec
-    (λ c κs. search needs)
-    (λ c κs. search needs)
-    (λ c κs. search needs)
-    (λ c κs. search needs)
+    (λ c κs. tt)
+    (λ c κs. tt)
+    (λ c κs. tt)
+    (λ c κs. tt)
     returns
     (λ c. search needs)
     (λ c. search needs)
     (λ c κs. energy-in _ (passed c .ranges))
-    (λ c κs. search needs)
+    (λ c κs. tt)
     detailed-requires
     returns-2)

@@ -6,7 +6,7 @@ use borrow.Author.Tests.{lt-ltb, le-ltb}
 use Rattle.account.specs.Figures.{figuresOf}
 use Rattle.account.specs.Judge.{inPlace, first, accepted}
 use Rattle.account.proofs.Ranges.{enteric-in}
-use Rattle.account.proofs.Told.{head-most, days-most, sums-most, small-ch4, tells-detail, Passes, passes, stops, refuses, accepts}
+use Rattle.account.proofs.Told.{head-most, days-most, sums-most, subtotal-most, small-ch4, tells-detail, Passes, passes, stops, refuses, accepts}
 use Rattle.account.proofs.weigh.enteric.Statement.{statement}
 use Rattle.account.proofs.weigh.enteric.Tie as tie
 
@@ -31,28 +31,28 @@ returns-2 c = refuses _ 3 _ (passed (c .before .before .before .before)) 9 _ (rw
 enteric-requires-2 : tie.Need-enteric-requires-2
 enteric-requires-2 c κs = enteric-in _ _ (head-most _ (c .before .before .before .before .before .before .before .before .before .pre .0)) (passed (c .before .before .before .before) .ranges)
 
-detailed-requires : tie.Need-detailed-requires
-detailed-requires c κs = (passed (c .before .before .before .before .before .before) .room, sums-most _ (c .before .before .before .before .before .before .before .before .before .before .before .pre .0), small-ch4 _ _ (c .ch4-alone .ensures) (c .before .enteric2 .ensures .small))
+grouped-detail-requires : tie.Need-grouped-detail-requires
+grouped-detail-requires c κs = (passed (c .before .before .before .before .before .before) .room, sums-most _ (c .before .before .before .before .before .before .before .before .before .before .before .pre .0), subtotal-most _ (c .before .before .before .before .before .before .before .before .before .before .before .pre .0), small-ch4 _ _ (c .ch4-alone .ensures) (c .before .enteric2 .ensures .small))
 
 returns-3 : tie.Need-returns-3
 unfolding first accepted figuresOf
 returns-3 c =
-    rw (accepts _ 3 _ (passed (c .before .before .before .before .before .before .before)) (rw (le-ltb _ _ (c .before .before .before .before .if2 .left))), c .detailed .ensures, c .before .ch4-alone .ensures, c .before .before .enteric2 .ensures .exact)
-    (tells-detail (c .before .before .before .before .before .before .before .before .before .before .before .before .args .a) _ _ _ _)
+    rw (accepts _ 3 _ (passed (c .before .before .before .before .before .before .before)) (rw (le-ltb _ _ (c .before .before .before .before .if2 .left))), c .grouped-detail .ensures, c .before .ch4-alone .ensures, c .before .before .enteric2 .ensures .exact)
+    (tells-detail (c .before .before .before .before .before .before .before .before .before .before .before .before .args .a) _ _ _ _ _)
 
 pub enteric-spec : {M : Type 1} → statement M
 enteric-spec =
     tie.close
     (tie.spec
-    (λ c κs. search needs)
-    (λ c κs. search needs)
-    (λ c κs. search needs)
-    (λ c κs. search needs)
+    (λ c κs. tt)
+    (λ c κs. tt)
+    (λ c κs. tt)
+    (λ c κs. tt)
     returns
     (λ c. search needs)
     (λ c. search needs)
     add-sum
-    (λ c κs. search needs)
+    (λ c κs. tt)
     returns-2
     (λ c. search needs)
     (λ c. search needs)
@@ -60,6 +60,6 @@ enteric-spec =
     (λ c. search needs)
     (λ c. search needs)
     enteric-requires-2
-    (λ c κs. search needs)
-    detailed-requires
+    (λ c κs. tt)
+    grouped-detail-requires
     returns-3)

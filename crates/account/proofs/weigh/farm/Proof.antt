@@ -24,12 +24,12 @@ pub farm-spec : {M : Type 1} → statement M
 farm-spec =
     tie.close
     (tie.spec
-    (λ c κs. search needs)
-    (λ c κs. search needs)
-    (λ c κs. search needs)
+    (λ c κs. tt)
+    (λ c κs. tt)
+    (λ c κs. tt)
     returns
     (λ c. omega (arith, passed (c .before) .room))
     (λ c. search needs)
     (λ c. omega (arith, farm-in _ (passed (c .before) .ranges) .set-most))
-    (λ c κs. search needs)
+    (λ c κs. tt)
     returns-2)

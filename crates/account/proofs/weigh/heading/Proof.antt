@@ -5,7 +5,7 @@ use borrow.Author.Needs.{needs}
 use borrow.Author.Tests.{le-leb, lt-leb}
 use Rattle.account.specs.Judge.{inPlace, first, accepted}
 use Rattle.account.proofs.Ranges.{heading-in}
-use Rattle.account.proofs.Told.{tells-quiet, Passes, passes, stops, refuses, accepts}
+use Rattle.account.proofs.Told.{tells-heading, Passes, passes, stops, refuses, accepts}
 use Rattle.account.proofs.weigh.heading.Statement.{statement}
 use Rattle.account.proofs.weigh.heading.Tie as tie
 
@@ -23,25 +23,25 @@ returns-2 c = refuses _ 2 _ (passed (c .before .before .before .before)) 8 _ (rw
 
 returns-3 : tie.Need-returns-3
 unfolding first accepted
-returns-3 c = rw (accepts _ 2 _ (passed (c .before .before .before .before .before)) (rw (lt-leb _ _ (c .before .before .if2 .left))), c .silent .ensures) (tells-quiet _)
+returns-3 c = rw (accepts _ 2 _ (passed (c .before .before .before .before .before)) (rw (lt-leb _ _ (c .before .before .if2 .left))), c .group-line .ensures) (tells-heading (c .before .before .before .before .before .before .before .before .before .args .a) _ _ _)
 
 pub heading-spec : {M : Type 1} → statement M
 heading-spec =
     tie.close
     (tie.spec
-    (λ c κs. search needs)
-    (λ c κs. search needs)
-    (λ c κs. search needs)
-    (λ c κs. search needs)
+    (λ c κs. tt)
+    (λ c κs. tt)
+    (λ c κs. tt)
+    (λ c κs. tt)
     returns
     (λ c. search needs)
     (λ c. omega (arith, heading-in _ (passed c .ranges) .group-most))
-    (λ c κs. search needs)
+    (λ c κs. tt)
     returns-2
     (λ c. omega (arith, passed (c .before .before .before .before) .room))
     (λ c. search needs)
     (λ c. omega (arith, heading-in _ (passed (c .before .before .before .before) .ranges) .class-most))
     (λ c. search needs)
     (λ c. omega (arith, heading-in _ (passed (c .before .before .before .before) .ranges) .head-most))
-    (λ c κs. search needs)
+    (λ c κs. tt)
     returns-3)

@@ -6,7 +6,7 @@ use borrow.Author.Tests.{lt-ltb, le-ltb}
 use Rattle.account.specs.Figures.{figuresOf}
 use Rattle.account.specs.Judge.{inPlace, first, accepted}
 use Rattle.account.proofs.Ranges.{pig-days, pig-in, pig-parts}
-use Rattle.account.proofs.Told.{head-most, days-most, sums-most, small-pig, tells-detail, Passes, passes, stops, refuses, accepts}
+use Rattle.account.proofs.Told.{head-most, days-most, sums-most, subtotal-most, small-pig, tells-detail, Passes, passes, stops, refuses, accepts}
 use Rattle.account.proofs.weigh.pig.Statement.{statement}
 use Rattle.account.proofs.weigh.pig.Tie as tie
 
@@ -36,44 +36,44 @@ returns-3 c = refuses _ 5 _ (passed (c .before .before .before .before .before))
 manure-requires : tie.Need-manure-requires
 manure-requires c κs = rw (c .before .pig-ration .ensures) (pig-in _ _ (head-most _ (c .before .before .before .before .before .before .before .before .before .before .before .pre .0)) (passed (c .before .before .before .before .before .before) .ranges) (c .before .before .if3 .left))
 
-detailed-requires : tie.Need-detailed-requires
-detailed-requires c κs = (passed (c .before .before .before .before .before .before .before .before) .room, sums-most _ (c .before .before .before .before .before .before .before .before .before .before .before .before .before .pre .0), small-pig _ _ _ _ (c .pig-figures .ensures) (c .before .manure .ensures))
+grouped-detail-requires : tie.Need-grouped-detail-requires
+grouped-detail-requires c κs = (passed (c .before .before .before .before .before .before .before .before) .room, sums-most _ (c .before .before .before .before .before .before .before .before .before .before .before .before .before .pre .0), subtotal-most _ (c .before .before .before .before .before .before .before .before .before .before .before .before .before .pre .0), small-pig _ _ _ _ (c .pig-figures .ensures) (c .before .manure .ensures))
 
 returns-4 : tie.Need-returns-4
 unfolding first accepted figuresOf
 returns-4 c =
     rw (
       accepts _ 5 _ (passed (c .before .before .before .before .before .before .before .before .before)) (rw (le-ltb _ _ (c .before .before .before .before .before .before .if2 .left), le-ltb _ _ (c .before .before .before .before .before .if3 .left))),
-      c .detailed .ensures,
+      c .grouped-detail .ensures,
       c .before .pig-figures .ensures,
       c .before .before .manure .ensures .exact,
       c .before .before .before .before .pig-ration .ensures,
     )
-    (tells-detail (c .before .before .before .before .before .before .before .before .before .before .before .before .before .before .args .a) _ _ _ _)
+    (tells-detail (c .before .before .before .before .before .before .before .before .before .before .before .before .before .before .args .a) _ _ _ _ _)
 
 pub pig-spec : {M : Type 1} → statement M
 pig-spec =
     tie.close
     (tie.spec
-    (λ c κs. search needs)
-    (λ c κs. search needs)
-    (λ c κs. search needs)
-    (λ c κs. search needs)
+    (λ c κs. tt)
+    (λ c κs. tt)
+    (λ c κs. tt)
+    (λ c κs. tt)
     returns
     (λ c. search needs)
     (λ c. search needs)
     add-sum
-    (λ c κs. search needs)
+    (λ c κs. tt)
     returns-2
     (λ c. search needs)
     (λ c. search needs)
     add-if3
-    (λ c κs. search needs)
+    (λ c κs. tt)
     returns-3
     (λ c. search needs)
-    (λ c κs. search needs)
+    (λ c κs. tt)
     (λ c. search needs)
     manure-requires
-    (λ c κs. search needs)
-    detailed-requires
+    (λ c κs. tt)
+    grouped-detail-requires
     returns-4)

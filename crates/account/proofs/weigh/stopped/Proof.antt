@@ -8,7 +8,7 @@ pub stopped-spec : {M : Type 1} → statement M
 stopped-spec =
     tie.close
     (tie.spec
-    (λ c κs. search needs)
-    (λ c κs. search needs)
+    (λ c κs. tt)
+    (λ c κs. tt)
     (λ c. rw (c .before .if1 .taken) (c .wrong .ensures))
     (λ c. rw (ne-eqb _ 7 (c .before .if1 .left)) (c .wrong2 .ensures)))

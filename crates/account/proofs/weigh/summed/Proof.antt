@@ -1,4 +1,5 @@
 -- Assumes nothing.
+use mathlib.Core.Path.{refl}
 use borrow.Author.Needs.{needs}
 use Rattle.account.proofs.weigh.summed.Statement.{statement}
 use Rattle.account.proofs.weigh.summed.Tie as tie
@@ -12,4 +13,4 @@ summed-spec =
     (λ c. search needs)
     (λ c. search needs)
     (λ c. search needs)
-    (λ c. rw (c .before .before .before .before .before .before .before .before .plus .ensures)))
+    (λ c. rw (c .before .before .before .before .before .before .before .before .plus .ensures) refl))

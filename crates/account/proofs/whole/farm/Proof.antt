@@ -19,8 +19,8 @@ pub farm-spec : {M : Type 1} → statement M
 farm-spec =
     tie.close
     (tie.spec
-    (λ c κs. search needs)
+    (λ c κs. tt)
     returns
-    (λ c κs. search needs)
-    (λ c κs. search needs)
+    (λ c κs. omega arith)
+    (λ c κs. (c .before .before .before .pre .0, c .before .before .before .pre .1))
     returns-2)

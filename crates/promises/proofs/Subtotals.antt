@@ -1,0 +1,419 @@
+-- Subtotals: the lines of kind 16 are those of the groups that the records make; the sums are the farm's figures; and in a closed book the
+-- farm's CH4, N2O, excreted and land nitrogen are the groups' subtotals added up.
+-- Assumes nothing.
+use Prim.Native.Nat.{ℕ, zero, suc, _+_, _-_, _≤_, _<_}
+use mathlib.Core.Path.{_≡_, refl, sym, ap, _∙_}
+use mathlib.Core.List.{List, [], _∷_, _++_, map, append-assoc, append-nil}
+use mathlib.Core.Bool.{Bool, true, false, _&&_, _||_, not}
+use mathlib.Core.Logic.{_⊎_, inl, inr, ⊎-elim}
+use native.Mathlib.Omega.{arith}
+use borrow.Author.Tests.{leb-true, eqb-true, eqb-false, le-leb, lt-leb, ne-eqb, eq-eqb}
+use lib.ListN.{length, getD, take, drop, length-drop}
+use lib.Dec.{leb, eqb}
+use Rattle.codec.specs.Table.{fields}
+use Rattle.codec.specs.Codec.{pick, valAt, valuesAt, lineBytes}
+use Rattle.account.specs.declared.Account.{Account}
+use Rattle.account.specs.declared.Heading.{Heading}
+use Rattle.account.specs.declared.Figures.{Figures}
+use Rattle.account.specs.declared.Subtotal.{Subtotal}
+use Rattle.account.specs.Figures.{noFigures, noSubtotal, added, grouped, groupFigures, subtotalAfter, co2Alone, figuresOf}
+use Rattle.account.specs.Line.{lineWith, lineOf, subtotals, totalOf}
+use Rattle.account.specs.Range.{Ungrouped, Fair}
+use Rattle.account.specs.Judge.{kindOf, valuesOf, noRecord, opened, underHeading, withDetail, closed, daysAfter, first, refusals, Step, accepted, judge}
+use Rattle.account.proofs.Tests.{by-test, no-bool, and-l, and-r, lt-or-ge, true-or-false}
+use Rattle.account.proofs.Keeps.{fair-judge}
+use Rattle.account.proofs.Told.{past}
+use Rattle.book.specs.declared.State.{State}
+use Rattle.book.specs.Front.{Front, unfinished, badLength, whole, need, front}
+use Rattle.book.specs.State.{heldOf, noRecordYet, InRange}
+use Rattle.book.specs.Run.{Run, book, run}
+use Rattle.book.proofs.FrontLaws.{meaning}
+use Rattle.promises.proofs.StaysInRange.{new-in-range}
+use Rattle.book.proofs.RunLaws.{book-ended, book-unfinished, book-bad, book-whole}
+use Rattle.promises.specs.Headings.{Mark, markOf, recordsOf}
+use Rattle.promises.specs.Subtotals.{detailOf, headingAfter, groupAfter, farmAfter, Group, ends, groupsOf, farmOf, addedUp, lineOfGroup, subtotalLines}
+use Rattle.promises.proofs.Headings.{line-mark, total-mark, group-most, records-whole, kind-in, acceptedRecords}
+
+-- ---- lines of kind 16
+
+lines-append : (ls ms : List (List ℕ)) → subtotalLines (ls ++ ms) ≡ subtotalLines ls ++ subtotalLines ms
+unfolding subtotalLines
+lines-append [] ms = refl
+lines-append (l ∷ ls) ms = go (eqb (valAt l 3 1) 16) (lines-append ls ms)
+  where
+    go : (b : Bool) → subtotalLines (ls ++ ms) ≡ subtotalLines ls ++ subtotalLines ms
+        → pick b (l ∷ subtotalLines (ls ++ ms)) (subtotalLines (ls ++ ms)) ≡ pick b (l ∷ subtotalLines ls) (subtotalLines ls) ++ subtotalLines ms
+    go true e = ap (λ (k : List (List ℕ)). l ∷ k) e
+    go false e = e
+
+-- a line of another kind is none
+other-line : (l : List ℕ) (k : ℕ) → valAt l 3 1 ≡ k → (k ≡ 16 → ⊥) → subtotalLines (l ∷ []) ≡ []
+unfolding subtotalLines
+other-line l k e n = rw (e, ne-eqb k 16 n) refl
+
+own-line : (l : List ℕ) → valAt l 3 1 ≡ 16 → subtotalLines (l ∷ []) ≡ l ∷ []
+unfolding subtotalLines
+own-line l e = rw e refl
+
+line-kind : (k g a b c d e : ℕ) → k < 256 → g < 65536 → valAt (lineBytes k g a b c d e) 3 1 ≡ k
+line-kind k g a b c d e p q = ap (λ (m : Mark). m .kind) (line-mark k g a b c d e p q)
+
+-- ---- what one record does
+
+-- one of the four figures that a group has too
+record Gas : Type 0 where
+  farm : Figures → ℕ
+  group : Subtotal → ℕ
+  adds : (f g : Figures) → farm (added f g) ≡ farm f + farm g
+  groups : (s : Subtotal) (f : Figures) → group (grouped s f) ≡ group s + farm f
+  none : group noSubtotal ≡ 0
+  air : (g : ℕ) → farm (co2Alone g) ≡ 0
+  ungrouped : (s : Subtotal) → Ungrouped s → group s ≡ 0
+
+-- two numbers are not one
+differ : {A : Type 0} {k : ℕ} (m n : ℕ) → k ≡ m → k ≡ n → m < n → A
+differ m n p q h = absurd (omega arith)
+
+-- it is accepted, with the kind k: heading, subtotal, sums and subtotal lines are those that the records make
+record Made (a : Account) (r : List ℕ) (j : Step) : Type 0 where
+  counted : j .account .records ≡ a .records + 1
+  heading : j .account .heading ≡ headingAfter (a .heading) r
+  subtotal : j .account .subtotal ≡ groupAfter (a .heading) (a .subtotal) r
+  sums : j .account .sums ≡ farmAfter (a .heading) (a .sums) r
+  lines : subtotalLines (j .lines) ≡ map lineOfGroup (ends (a .heading) (a .subtotal) r)
+  still : a .stage < 2 → eqb (kindOf r) 8 ≡ false → j .account .stage < 2
+  shut : eqb (kindOf r) 8 ≡ true → j .account .stage ≡ 2
+
+module _ (a : Account) (r : List ℕ) (f : Fair a) (kinds : leb 1 (kindOf r) && leb (kindOf r) 8 ≡ true) where
+  -- the subtotal of the group that ends
+  ending : subtotalLines (subtotals a) ≡ map lineOfGroup (pick (eqb (a .heading .group) 0) [] (record { number = a .heading .group; subtotal = a .subtotal } ∷ []))
+  unfolding subtotalLines
+  ending = go (eqb (a .heading .group) 0)
+    where
+      go : (b : Bool)
+          → subtotalLines (pick b [] (lineWith 16 (a .heading .group) (groupFigures (a .subtotal)) ∷ []))
+          ≡ map lineOfGroup (pick b [] (record { number = a .heading .group; subtotal = a .subtotal } ∷ []))
+      go true = refl
+      go false = own-line (lineWith 16 (a .heading .group) (groupFigures (a .subtotal))) (line-kind 16 (a .heading .group) _ _ _ _ _ (omega arith) (omega (arith, group-most a f)))
+
+  made-heading : eqb (kindOf r) 2 ≡ true → Made a r (record { account = underHeading a (getD (valuesOf r) 0 0) (getD (valuesOf r) 1 0) (getD (valuesOf r) 2 0); lines = subtotals a })
+  made-heading e = let k = eqb-true (kindOf r) 2 e in record { counted = refl; heading = rw e refl; subtotal = rw e refl; sums = rw k refl; lines = ending ∙ rw e refl; still = λ h n. h; shut = λ q. differ 2 8 k (eqb-true _ _ q) (omega arith) }
+
+  made-close : eqb (kindOf r) 8 ≡ true → Made a r (record { account = closed a; lines = subtotals a ++ (totalOf a ∷ []) })
+  made-close e =
+      let k = eqb-true (kindOf r) 8 e in
+      let t : subtotalLines (totalOf a ∷ []) ≡ [] = other-line (totalOf a) 8 (ap (λ (m : Mark). m .kind) (total-mark _ _ _ _ _ _)) (λ q. omega (arith, q)) in
+      record {
+        counted = refl;
+        heading = rw k refl;
+        subtotal = rw k refl;
+        sums = rw k refl;
+        lines = lines-append (subtotals a) (totalOf a ∷ []) ∙ rw (t, append-nil) (ending ∙ rw k refl);
+        still = λ h n. no-bool (sym n ∙ e);
+        shut = λ q. refl;
+      }
+
+  -- a detail, of kinds 3 to 7
+  made-detail : eqb (kindOf r) 1 ≡ false → eqb (kindOf r) 2 ≡ false → eqb (kindOf r) 8 ≡ false
+      → Made a r (record {
+        account = withDetail a (daysAfter (a .days) (kindOf r) (getD (valuesOf r) 0 0)) (subtotalAfter (a .subtotal) (kindOf r) (detailOf (a .heading) r)) (detailOf (a .heading) r);
+        lines = lineOf (a .heading) (kindOf r) (valuesOf r) ∷ [];
+      })
+  made-detail e1 e2 e8 =
+      let low : 1 ≤ kindOf r = leb-true 1 (kindOf r) (and-l (leb 1 (kindOf r)) (leb (kindOf r) 8) kinds) in
+      let high : kindOf r ≤ 8 = leb-true (kindOf r) 8 (and-r (leb 1 (kindOf r)) (leb (kindOf r) 8) kinds) in
+      let three : 3 ≤ kindOf r = past 2 (kindOf r) (past 1 (kindOf r) low (eqb-false _ _ e1)) (eqb-false _ _ e2) in
+      let seven : kindOf r ≤ 7 = below (kindOf r) high (eqb-false _ _ e8) in
+      record {
+        counted = refl;
+        heading = rw e2 refl;
+        subtotal = rw (e2, le-leb _ _ three) refl;
+        sums = rw (le-leb _ _ three, le-leb _ _ seven) refl;
+        lines = other-line (lineOf (a .heading) (kindOf r) (valuesOf r)) (kindOf r) (line-kind (kindOf r) _ _ _ _ _ _ (less seven) bounded) (λ q. not-both (kindOf r) seven q) ∙ rw (e2, e8) refl;
+        still = λ h n. h;
+        shut = λ q. no-bool (sym e8 ∙ q);
+      }
+    where
+      below : (k : ℕ) → k ≤ 8 → (k ≡ 8 → ⊥) → k ≤ 7
+      below k p n = omega arith
+
+      less : kindOf r ≤ 7 → kindOf r < 256
+      less p = omega arith
+
+      not-both : (k : ℕ) → k ≤ 7 → k ≡ 16 → ⊥
+      not-both k p q = omega arith
+
+      bounded : pick (leb (kindOf r) 5) (a .heading .group) 0 < 65536
+      bounded = by-test (λ (n : ℕ). n < 65536) (leb (kindOf r) 5) (λ e. omega (arith, group-most a f)) (λ e. omega arith)
+
+  made : Made a r (accepted a (kindOf r) (valuesOf r))
+  unfolding accepted subtotalLines
+  made =
+      by-test (Made a r) (eqb (kindOf r) 1)
+      (λ e1. let k = eqb-true (kindOf r) 1 e1 in record { counted = refl; heading = rw k refl; subtotal = rw k refl; sums = rw k refl; lines = rw k refl; still = λ h n. omega arith; shut = λ q. differ 1 8 k (eqb-true _ _ q) (omega arith) })
+      (λ e1. by-test (Made a r) (eqb (kindOf r) 2) made-heading
+      (λ e2. by-test (Made a r) (eqb (kindOf r) 8) made-close (made-detail e1 e2)))
+
+-- ---- a run of records
+
+-- what the records accepted make, beginning with the account a
+record Summed (a : Account) (rs : List (List ℕ)) (r : Run) : Type 0 where
+  sums : r .state .account .sums ≡ farmOf (a .heading) (a .sums) rs
+  lines : subtotalLines (r .lines) ≡ map lineOfGroup (groupsOf (a .heading) (a .subtotal) rs)
+  closed : (x : Gas) → a .stage < 2 → r .state .account .stage ≡ 2
+      → x .farm (r .state .account .sums) + x .group (a .subtotal) ≡ x .farm (a .sums) + addedUp (x .group) (groupsOf (a .heading) (a .subtotal) rs)
+
+record Grows (a : Account) (xs : List ℕ) (r : Run) : Type 0 where
+  grows : a .records ≤ r .state .account .records
+  summed : Summed a (take (r .state .account .records - a .records) (recordsOf xs)) r
+
+map-append : (gs hs : List Group) → map lineOfGroup (gs ++ hs) ≡ map lineOfGroup gs ++ map lineOfGroup hs
+map-append [] hs = refl
+map-append (g ∷ gs) hs = ap (λ (l : List (List ℕ)). lineOfGroup g ∷ l) (map-append gs hs)
+
+added-append : (one : Subtotal → ℕ) (gs hs : List Group) → addedUp one (gs ++ hs) ≡ addedUp one gs + addedUp one hs
+unfolding addedUp
+added-append one [] hs = omega arith
+added-append one (g ∷ gs) hs = omega (arith, added-append one gs hs)
+
+-- nothing accepted, and the book not closed
+none-summed : (a : Account) (xs : List ℕ) (r : Run) → r .state .account .records ≡ a .records → r .state .account .sums ≡ a .sums → r .lines ≡ []
+    → (a .stage < 2 → r .state .account .stage ≡ 2 → ⊥) → Grows a xs r
+unfolding farmOf groupsOf subtotalLines
+none-summed a xs r e s n c =
+    let z : r .state .account .records - a .records ≡ 0 = omega arith in
+    record { grows = omega arith; summed = rw z (record { sums = s; lines = rw n refl; closed = λ x early q. absurd (c early q) }) }
+
+-- what the group that r ends has, where there is one; none has nothing
+ended-group : (a : Account) → Fair a → (x : Gas) → addedUp (x .group) (pick (eqb (a .heading .group) 0) [] (record { number = a .heading .group; subtotal = a .subtotal } ∷ [])) ≡ x .group (a .subtotal)
+unfolding addedUp
+ended-group a f x = go (eqb (a .heading .group) 0) refl
+  where
+    go : (b : Bool) → eqb (a .heading .group) 0 ≡ b → addedUp (x .group) (pick b [] (record { number = a .heading .group; subtotal = a .subtotal } ∷ [])) ≡ x .group (a .subtotal)
+    go true e = sym (x .ungrouped (a .subtotal) (f .ungrouped (eqb-true _ _ e)))
+    go false e = omega arith
+
+-- the balance of one record that does not close the book: what the farm gains is what its groups gain
+module _ (a : Account) (r : List ℕ) (f : Fair a) (x : Gas) where
+  -- kinds 6 and 7 give CO2 alone
+  air-alone : 6 ≤ kindOf r → x .farm (detailOf (a .heading) r) ≡ 0
+  unfolding figuresOf
+  air-alone h =
+      let n3 : eqb (kindOf r) 3 ≡ false = ne-eqb (kindOf r) 3 (λ q. omega (arith, q)) in
+      let n4 : eqb (kindOf r) 4 ≡ false = ne-eqb (kindOf r) 4 (λ q. omega (arith, q)) in
+      let n5 : eqb (kindOf r) 5 ≡ false = ne-eqb (kindOf r) 5 (λ q. omega (arith, q)) in
+      rw (n3, n4, n5) (by-test (λ (g : Figures). x .farm g ≡ 0) (eqb (kindOf r) 6) (λ e. x .air _) (λ e. x .air _))
+
+  balance : eqb (kindOf r) 8 ≡ false
+      → x .farm (farmAfter (a .heading) (a .sums) r) + x .group (a .subtotal)
+      ≡ x .farm (a .sums) + addedUp (x .group) (ends (a .heading) (a .subtotal) r) + x .group (groupAfter (a .heading) (a .subtotal) r)
+  unfolding addedUp
+  balance e8 = ⊎-elim at-heading elsewhere (true-or-false (eqb (kindOf r) 2))
+    where
+      at-heading : eqb (kindOf r) 2 ≡ true
+          → x .farm (farmAfter (a .heading) (a .sums) r) + x .group (a .subtotal)
+          ≡ x .farm (a .sums) + addedUp (x .group) (ends (a .heading) (a .subtotal) r) + x .group (groupAfter (a .heading) (a .subtotal) r)
+      at-heading e = let k = eqb-true (kindOf r) 2 e in rw k (omega (arith, ended-group a f x, x .none))
+
+      elsewhere : eqb (kindOf r) 2 ≡ false
+          → x .farm (farmAfter (a .heading) (a .sums) r) + x .group (a .subtotal)
+          ≡ x .farm (a .sums) + addedUp (x .group) (ends (a .heading) (a .subtotal) r) + x .group (groupAfter (a .heading) (a .subtotal) r)
+      elsewhere e2 =
+          ⊎-elim
+          (λ (h : kindOf r < 3). rw (e2, e8, lt-leb _ _ h) (omega arith))
+          (λ (h : 3 ≤ kindOf r).
+          ⊎-elim
+          (λ (i : kindOf r < 6).
+          let five : kindOf r ≤ 5 = omega arith in
+          let seven : kindOf r ≤ 7 = omega arith in
+          rw (e2, e8, le-leb _ _ h, le-leb _ _ five, le-leb _ _ seven)
+          (omega (arith, x .adds (a .sums) (detailOf (a .heading) r), x .groups (a .subtotal) (detailOf (a .heading) r))))
+          (λ (i : 6 ≤ kindOf r).
+          let five : leb (kindOf r) 5 ≡ false = lt-leb (kindOf r) 5 (omega arith) in
+          ⊎-elim
+          (λ (l : kindOf r < 8).
+          let seven : kindOf r ≤ 7 = omega arith in
+          rw (e2, e8, le-leb _ _ h, five, le-leb _ _ seven) (omega (arith, x .adds (a .sums) (detailOf (a .heading) r), air-alone i)))
+          (λ (l : 8 ≤ kindOf r).
+          let seven : leb (kindOf r) 7 ≡ false = lt-leb (kindOf r) 7 (omega arith) in
+          rw (e2, e8, le-leb _ _ h, five, seven) (omega arith))
+          (lt-or-ge (kindOf r) 8))
+          (lt-or-ge (kindOf r) 6))
+          (lt-or-ge (kindOf r) 3)
+
+-- one record accepted, and then those behind it
+module _ (a : Account) (xs : List ℕ) (j : Step) (b : Run) (f : Fair a) (early : a .stage < 2) (e : front xs ≡ whole) (m : Made a (take (need xs) xs) j)
+    (g : Grows (j .account) (drop (need xs) xs) b) (shut : j .account .stage ≡ 2 → b .state .account ≡ j .account) where
+  abbrev r : List ℕ
+  r = take (need xs) xs
+
+  abbrev rs : List (List ℕ)
+  rs = take (b .state .account .records - j .account .records) (recordsOf (drop (need xs) xs))
+
+  one-more : b .state .account .records - a .records ≡ suc (b .state .account .records - j .account .records)
+  one-more = omega (arith, m .counted, g .grows)
+
+  -- what is behind it, from what it makes
+  behind : groupsOf (j .account .heading) (j .account .subtotal) rs ≡ groupsOf (headingAfter (a .heading) r) (groupAfter (a .heading) (a .subtotal) r) rs
+  behind = rw (m .heading, m .subtotal) refl
+
+  open-balance : (x : Gas) → eqb (kindOf r) 8 ≡ false → b .state .account .stage ≡ 2
+      → x .farm (b .state .account .sums) + x .group (a .subtotal) ≡ x .farm (a .sums) + addedUp (x .group) (ends (a .heading) (a .subtotal) r ++ groupsOf (headingAfter (a .heading) r) (groupAfter (a .heading) (a .subtotal) r) rs)
+  open-balance x e8 q =
+      let i = g .summed .closed x (m .still early e8) q in
+      let c : x .farm (j .account .sums) + x .group (a .subtotal) ≡ x .farm (a .sums) + addedUp (x .group) (ends (a .heading) (a .subtotal) r) + x .group (j .account .subtotal) =
+      rw (m .sums, m .subtotal) (balance a r f x e8) in
+      rw (added-append (x .group) (ends (a .heading) (a .subtotal) r) (groupsOf (headingAfter (a .heading) r) (groupAfter (a .heading) (a .subtotal) r) rs), ← behind) (omega arith)
+
+  closing-balance : (x : Gas) → eqb (kindOf r) 8 ≡ true
+      → x .farm (b .state .account .sums) + x .group (a .subtotal) ≡ x .farm (a .sums) + addedUp (x .group) (ends (a .heading) (a .subtotal) r ++ groupsOf (headingAfter (a .heading) r) (groupAfter (a .heading) (a .subtotal) r) rs)
+  unfolding groupsOf
+  closing-balance x e8 =
+      let k = eqb-true (kindOf r) 8 e8 in
+      let same = shut (m .shut e8) in
+      let z : b .state .account .records - j .account .records ≡ 0 = omega (arith, ap (λ (c : Account). c .records) same) in
+      let sums : b .state .account .sums ≡ a .sums = ap (λ (c : Account). c .sums) same ∙ m .sums ∙ rw k refl in
+      rw (sums, z, append-nil, k) (omega (arith, ended-group a f x))
+
+  one-summed : Grows a xs (record { state = b .state; lines = j .lines ++ b .lines; left = b .left })
+  unfolding farmOf groupsOf
+  one-summed =
+      record {
+        grows = omega (arith, m .counted, g .grows);
+        summed =
+            rw (one-more, records-whole xs e)
+            (record {
+              sums = rw (m .heading, m .sums) at (g .summed .sums);
+              lines = lines-append (j .lines) (b .lines) ∙ rw (m .lines, g .summed .lines, behind, map-append (ends (a .heading) (a .subtotal) r)) refl;
+              closed = λ x h q. ⊎-elim (λ (e8 : eqb (kindOf r) 8 ≡ true). closing-balance x e8) (λ (e8 : eqb (kindOf r) 8 ≡ false). open-balance x e8 q) (true-or-false (eqb (kindOf r) 8));
+            });
+      }
+
+-- refused: nothing more, and no line
+record Stopped (a : Account) (j : Step) : Type 0 where
+  stage : j .account .stage ≡ 3
+  counted : j .account .records ≡ a .records
+  sums : j .account .sums ≡ a .sums
+  none : j .lines ≡ []
+
+judged : (a : Account) (r : List ℕ) → Fair a → Stopped a (judge a r) ⊎ Made a r (judge a r)
+unfolding judge
+judged a r f =
+    by-test (λ (j : Step). Stopped a j ⊎ Made a r j) (eqb (first (refusals a r)) 0)
+    (λ e. inr (made a r f (kind-in a r (eqb-true _ _ e))))
+    (λ e. inl (record { stage = refl; counted = refl; sums = refl; none = refl }))
+
+summed-at : (a : Account) (xs : List ℕ) → Fair a → a .stage < 2 → ((t : Account) (zs : List ℕ) → length zs < length xs → Fair t → Grows t zs (book t zs))
+    → (f : Front) → front xs ≡ f → Grows a xs (book a xs)
+summed-at a xs v k ih unfinished e = rw (book-unfinished a xs k e) (none-summed a xs _ refl refl refl (λ h q. omega arith))
+summed-at a xs v k ih badLength e = rw (book-bad a xs k e) (none-summed a xs _ refl refl refl (λ h q. omega arith))
+summed-at a xs v k ih whole e =
+    let n = meaning xs whole e in
+    let j = judge a (take (need xs) xs) in
+    let rest = drop (need xs) xs in
+    let short : length rest < length xs = rw length-drop (omega arith) in
+    rw (book-whole a xs k e)
+    (⊎-elim
+    (λ (s : Stopped a j).
+    let c = s .counted in
+    let d = s .sums in
+    let t = s .stage in
+    rw (book-ended (j .account) rest (omega (arith, t)), s .none) (none-summed a xs _ c d refl (λ h q. omega (arith, t, q))))
+    (λ (m : Made a (take (need xs) xs) j).
+    one-summed a xs j (book (j .account) rest) v k e m (ih (j .account) rest short (fair-judge a (take (need xs) xs) v k))
+    (λ q. rw (book-ended (j .account) rest (omega (arith, q))) refl))
+    (judged a (take (need xs) xs) v))
+
+summed : (n : ℕ) (a : Account) (xs : List ℕ) → length xs < n → Fair a → Grows a xs (book a xs)
+summed zero a xs h v = absurd (omega arith)
+summed (suc n) a xs h v =
+    ⊎-elim
+    (λ (k : a .stage < 2). summed-at a xs v k (λ t zs p w. summed n t zs (omega arith) w) (front xs) refl)
+    (λ (k : 2 ≤ a .stage). rw (book-ended a xs k) (none-summed a xs _ refl refl refl (λ h q. omega arith)))
+    (lt-or-ge (a .stage) 2)
+
+from-state : (s : State) (xs : List ℕ) → InRange s → Summed (s .account) (acceptedRecords s xs) (run s xs)
+unfolding run
+from-state s xs v = summed (suc (length (heldOf s ++ xs))) (s .account) (heldOf s ++ xs) (omega arith) (v .account) .summed
+
+-- ---- the theorems
+
+-- The subtotal lines of a run, in order, are those of the groups that end in the records accepted.
+pub subtotal-lines : (s : State) (xs : List ℕ) → InRange s → subtotalLines (run s xs .lines) ≡ map lineOfGroup (groupsOf (s .account .heading) (s .account .subtotal) (acceptedRecords s xs))
+subtotal-lines s xs v = from-state s xs v .lines
+
+-- The sums of the state reached, which the total line bears, are the farm's figures.
+pub sums-of-farm : (s : State) (xs : List ℕ) → InRange s → run s xs .state .account .sums ≡ farmOf (s .account .heading) (s .account .sums) (acceptedRecords s xs)
+sums-of-farm s xs v = from-state s xs v .sums
+
+-- the four figures that groups have
+abbrev ch4 : Gas
+ch4 =
+    record {
+      farm = λ (f : Figures). f .ch4;
+      group = λ (s : Subtotal). s .ch4;
+      adds = λ f g. refl;
+      groups = λ s f. refl;
+      none = refl;
+      air = λ g. refl;
+      ungrouped = λ s u. u .ch4;
+    }
+
+abbrev n2o : Gas
+n2o =
+    record {
+      farm = λ (f : Figures). f .n2o .0;
+      group = λ (s : Subtotal). s .n2o .0;
+      adds = λ f g. refl;
+      groups = λ s f. refl;
+      none = refl;
+      air = λ g. refl;
+      ungrouped = λ s u. u .n2o;
+    }
+
+abbrev excreted : Gas
+excreted =
+    record {
+      farm = λ (f : Figures). f .excreted;
+      group = λ (s : Subtotal). s .excreted;
+      adds = λ f g. refl;
+      groups = λ s f. refl;
+      none = refl;
+      air = λ g. refl;
+      ungrouped = λ s u. u .excreted;
+    }
+
+abbrev land : Gas
+land =
+    record {
+      farm = λ (f : Figures). f .land;
+      group = λ (s : Subtotal). s .land;
+      adds = λ f g. refl;
+      groups = λ s f. refl;
+      none = refl;
+      air = λ g. refl;
+      ungrouped = λ s u. u .land;
+    }
+
+-- the figures of a whole book, and the groups of its records
+abbrev farm : List ℕ → Figures
+farm xs = farmOf (noRecord .heading) (noRecord .sums) (acceptedRecords noRecordYet xs)
+
+abbrev groups : List ℕ → List Group
+groups xs = groupsOf (noRecord .heading) (noRecord .subtotal) (acceptedRecords noRecordYet xs)
+
+whole-book : (x : Gas) (xs : List ℕ) → run noRecordYet xs .state .account .stage ≡ 2 → x .farm (farm xs) + x .group noSubtotal ≡ x .farm noFigures + addedUp (x .group) (groups xs)
+whole-book x xs e = rw (sums-of-farm noRecordYet xs new-in-range) at (from-state noRecordYet xs new-in-range .closed x (omega arith) e)
+
+-- In a closed book the farm's CH4, N2O, excreted and land nitrogen, and those of its groups' subtotals added up, are equal: each made from
+-- the records.
+pub farm-is-groups : (xs : List ℕ) → run noRecordYet xs .state .account .stage ≡ 2
+    → (farm xs .ch4 ≡ addedUp (λ (s : Subtotal). s .ch4) (groups xs))
+    × ((farm xs .n2o .0 ≡ addedUp (λ (s : Subtotal). s .n2o .0) (groups xs))
+    × ((farm xs .excreted ≡ addedUp (λ (s : Subtotal). s .excreted) (groups xs)) × (farm xs .land ≡ addedUp (λ (s : Subtotal). s .land) (groups xs))))
+farm-is-groups xs e =
+    let a = whole-book ch4 xs e in
+    let b = whole-book n2o xs e in
+    let c = whole-book excreted xs e in
+    let d = whole-book land xs e in
+    (omega (arith, a), (omega (arith, b), (omega (arith, c), omega (arith, d))))

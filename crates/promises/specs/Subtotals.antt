@@ -1,0 +1,64 @@
+-- Document 02, W2: "The farm's CH4, N2O and both nitrogens are proved equal to the subtotals added up, each defined from the records." The
+-- groups' subtotals and the farm's figures, record by record from the records alone: no state's running sum is in it.
+-- Assumes nothing.
+use Prim.Native.Nat.{ℕ, _+_}
+use mathlib.Core.List.{List, [], _∷_, _++_}
+use mathlib.Core.Bool.{_&&_, _||_}
+use lib.ListN.{getD}
+use lib.Dec.{leb, eqb}
+use Rattle.codec.specs.Codec.{pick, valAt}
+use Rattle.account.specs.declared.Heading.{Heading}
+use Rattle.account.specs.declared.Figures.{Figures}
+use Rattle.account.specs.declared.Subtotal.{Subtotal}
+use Rattle.account.specs.Figures.{added, noSubtotal, grouped, groupFigures, figuresOf}
+use Rattle.account.specs.Line.{lineWith}
+use Rattle.account.specs.Judge.{kindOf, valuesOf}
+
+-- the figures of a detail record r under the heading h
+abbrev pub detailOf : Heading → List ℕ → Figures
+detailOf h r = figuresOf h (kindOf r) (valuesOf r)
+
+-- a record of kind 2 is the new heading
+abbrev pub headingAfter : Heading → List ℕ → Heading
+headingAfter h r = pick (eqb (kindOf r) 2) (record { group = getD (valuesOf r) 0 0; class = getD (valuesOf r) 1 0; head = getD (valuesOf r) 2 0 }) h
+
+-- a group's subtotal is that of its records of kinds 3 to 5; a new heading begins with nothing
+abbrev pub groupAfter : Heading → Subtotal → List ℕ → Subtotal
+groupAfter h s r = pick (eqb (kindOf r) 2) noSubtotal (pick (leb 3 (kindOf r) && leb (kindOf r) 5) (grouped s (detailOf h r)) s)
+
+-- the farm's figures are those of all its records of kinds 3 to 7
+abbrev pub farmAfter : Heading → Figures → List ℕ → Figures
+farmAfter h f r = pick (leb 3 (kindOf r) && leb (kindOf r) 7) (added f (detailOf h r)) f
+
+-- a group that has ended: its number and its subtotal
+pub record Group : Type 0 where
+  pub number : ℕ
+  pub subtotal : Subtotal
+
+-- a new heading and the close end the group before them, where there is one
+abbrev pub ends : Heading → Subtotal → List ℕ → List Group
+ends h s r = pick (eqb (kindOf r) 2 || eqb (kindOf r) 8) (pick (eqb (h .group) 0) [] (record { number = h .group; subtotal = s } ∷ [])) []
+
+-- the groups that end in the records rs, in order, the heading h and its subtotal s so far being before them
+unfoldable pub groupsOf : Heading → Subtotal → List (List ℕ) → List Group
+groupsOf h s [] = []
+groupsOf h s (r ∷ rs) = ends h s r ++ groupsOf (headingAfter h r) (groupAfter h s r) rs
+
+-- the farm's figures after the records rs
+unfoldable pub farmOf : Heading → Figures → List (List ℕ) → Figures
+farmOf h f [] = f
+farmOf h f (r ∷ rs) = farmOf (headingAfter h r) (farmAfter h f r) rs
+
+-- one figure of the groups, added up
+unfoldable pub addedUp : (Subtotal → ℕ) → List Group → ℕ
+addedUp one [] = 0
+addedUp one (g ∷ gs) = one (g .subtotal) + addedUp one gs
+
+-- the line of a group that has ended
+abbrev pub lineOfGroup : Group → List ℕ
+lineOfGroup g = lineWith 16 (g .number) (groupFigures (g .subtotal))
+
+-- the subtotal lines among lines: those of kind 16
+unfoldable pub subtotalLines : List (List ℕ) → List (List ℕ)
+subtotalLines [] = []
+subtotalLines (l ∷ ls) = pick (eqb (valAt l 3 1) 16) (l ∷ subtotalLines ls) (subtotalLines ls)
