@@ -118,8 +118,8 @@ static int cattle(const struct reader *r, const uint8_t *p, struct figures *f, u
         return FAULT(11);
     }
     f->excreted = rounded((eaten - kept) * r->heading.head * *days, 1000000);
-    f->n2o = rounded(f->excreted * 79 * (solid + liquid), 100000000) +
-             rounded(f->excreted * (47 * solid + 63 * liquid), 100000000);
+    f->n2o = rounded(f->excreted * 79 * (solid + liquid) * 11, 700000000) +
+             rounded(f->excreted * (47 * solid + 63 * liquid) * 11, 700000000);
     return 0;
 }
 

@@ -76,8 +76,8 @@ pub fn cattle(head: u128, v: &[u128]) -> Figures {
     let x = u128::try_from(x_of(v)).expect("refusal 11 keeps X from falling below zero");
     let excreted = round(x * head * days, 1_000_000);
     let n = u128::from(excreted);
-    let direct = round(n * 79 * (solid + liquid), 100_000_000);
-    let indirect = round(n * (47 * solid + 63 * liquid), 100_000_000);
+    let direct = round(n * 79 * (solid + liquid) * 11, 700_000_000);
+    let indirect = round(n * (47 * solid + 63 * liquid) * 11, 700_000_000);
     Figures { n2o: direct + indirect, excreted, ..Figures::default() }
 }
 

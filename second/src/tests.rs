@@ -75,9 +75,9 @@ fn p5_enteric() {
 #[test]
 fn p6_cattle_nitrogen() {
     let made = adds(&under(1, 10), 4, &COW);
-    assert_eq!(made, Figures { n2o: 18_304, excreted: 1_318_672, ..Figures::default() });
-    assert_eq!(round(1_318_672 * 79 * 10_000, 100_000_000), 10_418);
-    assert_eq!(round(1_318_672 * (47 * 2_000 + 63 * 8_000), 100_000_000), 7_886);
+    assert_eq!(made, Figures { n2o: 28_762, excreted: 1_318_672, ..Figures::default() });
+    assert_eq!(round(1_318_672 * 79 * 10_000 * 11, 700_000_000), 16_370);
+    assert_eq!(round(1_318_672 * (47 * 2_000 + 63 * 8_000) * 11, 700_000_000), 12_392);
 }
 
 #[test]
@@ -152,9 +152,9 @@ fn other_halves() {
 
 #[test]
 fn cattle_halves_of_both_n2o() {
-    // 5,000 g on solid: direct 39.5 and indirect 23.5.
-    let made = adds(&under(1, 10), 4, &[1, 1_250, 2_500, 0, 0, 0, 10_000, 0, 0]);
-    assert_eq!((made.excreted, made.n2o), (5_000, 40 + 24));
+    // 35,000 g on solid: direct 434.5 and indirect 258.5.
+    let made = adds(&under(1, 70), 4, &[1, 1_250, 2_500, 0, 0, 0, 10_000, 0, 0]);
+    assert_eq!((made.excreted, made.n2o), (35_000, 435 + 259));
 }
 
 #[test]
@@ -360,7 +360,7 @@ fn kinds_3_to_5_are_in_the_subtotal_and_6_and_7_are_not() {
     let enteric = then(&cattle, 3, &[365, 30_000, 65]);
     assert_eq!(enteric, Subtotal { ch4: ch4 + 127_898, ..before });
     let nitrogen = then(&cattle, 4, &COW);
-    assert_eq!(nitrogen, Subtotal { n2o: n2o + 18_304, excreted: excreted + 1_318_672, ..before });
+    assert_eq!(nitrogen, Subtotal { n2o: n2o + 28_762, excreted: excreted + 1_318_672, ..before });
     let mut pigs = with_group(4);
     pigs.heading.head = 100;
     let wanted = Subtotal {
@@ -393,20 +393,20 @@ fn several_groups_in_one_book() {
     let text = "6 0 0 0 875000 0 0
 3 12 434501 0 0 0 0
 6 0 0 0 875000 0 0
-4 12 0 6018 0 433536 0
+4 12 0 9456 0 433536 0
 7 0 0 0 18333333 0 0
 3 12 434501 0 0 0 0
-16 12 869002 6018 0 433536 0
+16 12 869002 9456 0 433536 0
 16 13 0 0 0 0 0
 7 0 0 0 18333333 0 0
 5 500 51456 1141 0 161280 120960
 6 0 0 0 875000 0 0
 5 500 51456 1141 0 161280 120960
 16 500 102912 2282 0 322560 241920
-4 65535 0 6018 0 433536 0
+4 65535 0 9456 0 433536 0
 6 0 0 0 875000 0 0
-16 65535 0 6018 0 433536 0
-8 0 971914 14318 40166666 1189632 241920 65015440
+16 65535 0 9456 0 433536 0
+8 0 971914 21194 40166666 1189632 241920 67147000
 closed
 ";
     assert_eq!(list(&several_groups()), text);

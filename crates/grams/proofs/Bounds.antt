@@ -1,7 +1,7 @@
 -- Bounds on sums and products of bounded numbers, put together as the expression is: `p ⊗ q ⊕ num 27000 ⊗ r` bounds `a * b + 27000 * c`.
 -- The bound is a numeral, which antt computes. Assumes nothing.
 use mathlib.Core.Path.{_≡_}
-use Prim.Native.Nat.{ℕ, _+_, _-_, _*_, _^_, _≤_}
+use Prim.Native.Nat.{ℕ, _+_, _-_, _*_, _^_, _<_, _≤_}
 use native.Mathlib.Nat.{le-refl, le-trans, sub-le, add-le-add, mul-le-mul, lt-of-le-of-lt}
 use mir.Val.{Fits}
 use mir.Syntax.{w64}
@@ -25,9 +25,13 @@ num k = le-refl k
 pub less : {a A : ℕ} (b : ℕ) → a ≤ A → a - b ≤ A
 less b p = le-trans (sub-le _ b) p
 
+-- a number within N is below 2 ^ 64, N being a numeral that is
+pub below : {n N : ℕ} → n ≤ N → T (ltb N (2 ^ 64)) → n < 2 ^ 64
+below p t = lt-of-le-of-lt p (lit< t)
+
 -- a number within N fits 64 bits, N being a numeral below 2 ^ 64
 pub fits : {n N : ℕ} → n ≤ N → T (ltb N (2 ^ 64)) → Fits w64 n
-fits p t = record { fits = lt-of-le-of-lt p (lit< t) }
+fits p t = record { fits = below p t }
 
 -- n within N rounds to at most b where N is within b * d, all three numerals
 pub rounds : {n N : ℕ} (d b : ℕ) → n ≤ N → T (ltb 0 d) → T (leb N (b * d)) → roundDiv n d ≤ b

@@ -10,10 +10,10 @@ module _ {x head days : ℕ} (p : x ≤ 3200000000) (h : head ≤ 20000) (d : da
 
 module _ {n solid liquid : ℕ} (p : n ≤ 10 ^ 11) (s : solid ≤ 10000) (l : liquid ≤ 10000) where
   pub cattle-direct-most : cattle.directOf n solid liquid .0 ≤ 5 * 10 ^ 9
-  cattle-direct-most = rounds _ _ (p ⊗ num _ ⊗ (s ⊕ l)) tt tt
+  cattle-direct-most = rounds _ _ (p ⊗ num _ ⊗ (s ⊕ l) ⊗ num _) tt tt
 
   pub cattle-indirect-most : cattle.indirectOf n solid liquid .0 ≤ 5 * 10 ^ 9
-  cattle-indirect-most = rounds _ _ (p ⊗ (num _ ⊗ s ⊕ num _ ⊗ l)) tt tt
+  cattle-indirect-most = rounds _ _ (p ⊗ (num _ ⊗ s ⊕ num _ ⊗ l) ⊗ num _) tt tt
 
 module _ {feed vs vsfactor : ℕ} (f : feed ≤ 1000) (v : vs ≤ 5000) (k : vsfactor ≤ 2000) where
   pub pig-solids-most : pig.solidsOf feed vs vsfactor ≤ 10 ^ 7

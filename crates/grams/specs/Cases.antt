@@ -59,7 +59,7 @@ cases =
     ∷ row (entericOf 27826 1 1 1 ∷ []) (1 ∷ [])
     ∷ row (entericOf 83475 1 1 1 ∷ []) (2 ∷ [])
     ∷ row (entericOf 30000 650 1 365 ∷ []) (127898 ∷ [])
-    ∷ row (cattleFigures (nitrogenOf p6 10)) (0 ∷ 1318672 ∷ (10418 + 7886) ∷ [])
+    ∷ row (cattleFigures (nitrogenOf p6 10)) (0 ∷ 1318672 ∷ (16370 + 12392) ∷ [])
     ∷ row (pigFigures (manureOf p7 100)) (128640 ∷ 403200 ∷ (1267 + 1584) ∷ 302400 ∷ [])
     ∷ row (soilOf 100 ∷ []) (18333333 ∷ [])
     ∷ row (entericOf 30000 650 0 365 ∷ cattleFigures (nitrogenOf p6 0)) (0 ∷ 0 ∷ 0 ∷ 0 ∷ [])

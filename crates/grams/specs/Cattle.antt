@@ -56,13 +56,13 @@ belowZero r = ltb (fedOf r) (keptOf r)
 abbrev pub excretedOf : ℕ → ℕ → ℕ → ℕ
 excretedOf x head days = roundDiv (x * head * days) 1000000
 
--- Direct N2O = round(excreted × 79 × (solid + liquid) / 100000000)
+-- Table 2.4.2 is in grams of nitrogen, so that 44/28 leads to N2O: direct = round(excreted × 79 × (solid + liquid) × 11 / 700000000)
 abbrev pub directOf : ℕ → ℕ → ℕ → N2o
-directOf n solid liquid = gramsN2o (roundDiv (n * 79 * (solid + liquid)) 100000000)
+directOf n solid liquid = gramsN2o (roundDiv (n * 79 * (solid + liquid) * 11) 700000000)
 
--- Indirect = round(excreted × (47 × solid + 63 × liquid) / 100000000)
+-- and indirect = round(excreted × (47 × solid + 63 × liquid) × 11 / 700000000)
 abbrev pub indirectOf : ℕ → ℕ → ℕ → N2o
-indirectOf n solid liquid = gramsN2o (roundDiv (n * (47 * solid + 63 * liquid)) 100000000)
+indirectOf n solid liquid = gramsN2o (roundDiv (n * (47 * solid + 63 * liquid) * 11) 700000000)
 
 -- the line's N2O is their sum
 abbrev pub storageOf : ℕ → ℕ → ℕ → N2o

@@ -1,6 +1,7 @@
 // Cattle: enteric CH4, excreted nitrogen and storage N2O.
 use crate::rounding::round_div;
 use crate::units::N2o;
+use crate::units::N2oN;
 ghost use Prim.Native.Nat.{_*_, _^_, _≤_};
 ghost use Rattle.grams.specs.Figure.{Figure, Gas};
 ghost use Rattle.grams.specs.Cattle.{EntericIn, Enteric, CattleIn, Nitrogen, excretedOf, directOf, indirectOf, storageOf};
@@ -45,12 +46,12 @@ fn excreted(x: u64, head: u64, days: u64) -> u64
     round_div(x * head * days, 1000000)
 }
 
-// N2O straight from the store, of n grams of nitrogen.
+// N2O straight from the store, of n grams of nitrogen: the shares and the table's factor are hundred-millionths, the units of N2oN.
 fn direct(n: u64, solid: u64, liquid: u64) -> N2o
     requires { ⌜ (n ≤ 10 ^ 11) × (solid ≤ 10000) × (liquid ≤ 10000) ⌝ }
     ensures { λ r. ⌜ Gas (directOf n solid liquid) (5 * 10 ^ 9) r ⌝ }
 {
-    N2o(round_div(n * 79 * (solid + liquid), 100000000))
+    N2oN::of(n * 79 * (solid + liquid)).to_n2o()
 }
 
 // N2O by way of air and water, of n grams of nitrogen.
@@ -58,7 +59,7 @@ fn indirect(n: u64, solid: u64, liquid: u64) -> N2o
     requires { ⌜ (n ≤ 10 ^ 11) × (solid ≤ 10000) × (liquid ≤ 10000) ⌝ }
     ensures { λ r. ⌜ Gas (indirectOf n solid liquid) (5 * 10 ^ 9) r ⌝ }
 {
-    N2o(round_div(n * (47 * solid + 63 * liquid), 100000000))
+    N2oN::of(n * (47 * solid + 63 * liquid)).to_n2o()
 }
 
 // Direct and indirect, each rounded for itself.

@@ -1,8 +1,8 @@
 -- `grams::cattle::indirect` meets its contract. Assumes nothing.
 use borrow.Author.Needs.{needs}
-use mathlib.Core.Path.{ap}
-use Rattle.grams.specs.Units.{gramsN2o}
-use Rattle.grams.proofs.Bounds.{_⊗_, _⊕_, num, fits, gas}
+use mathlib.Core.Path.{ap, _∙_}
+use Rattle.grams.specs.Units.{asN2o}
+use Rattle.grams.proofs.Bounds.{_⊗_, _⊕_, num, below, fits, gas}
 use Rattle.grams.proofs.Parts.{cattle-indirect-most}
 use Rattle.grams.proofs.cattle.indirect.Statement.{statement}
 use Rattle.grams.proofs.cattle.indirect.Tie as tie
@@ -16,4 +16,7 @@ indirect-spec =
     (λ c. search needs)
     (λ c. let p = c .pre in fits (p .0 ⊗ (num _ ⊗ p .1 ⊕ num _ ⊗ p .2)) tt)
     (λ c κs. search needs)
-    (λ c. let p = c .before .pre in gas (cattle-indirect-most (p .0) (p .1) (p .2)) (ap gramsN2o (c .round-div .ensures))))
+    (λ c κs. let p = c .before .pre in rw (c .of .ensures) (below (p .0 ⊗ (num _ ⊗ p .1 ⊕ num _ ⊗ p .2) ⊗ num _) tt))
+    (λ c.
+    let p = c .before .before .pre in
+    gas (cattle-indirect-most (p .0) (p .1) (p .2)) (c .to-n2o .ensures ∙ ap asN2o (c .before .of .ensures))))
