@@ -1,6 +1,11 @@
 -- One answer: each public function answers every input, and two answers that meet its contract are equal. The contracts are those of the
 -- source itself: Learnt is what a caller learns from a function's `ensures`, Asked what its `requires` ask.
-use mathlib.Core.Path.{_≡_, sym, _∙_}
+use mathlib.Core.Path.{_≡_, sym, _∙_, ap}
+use lib.ListN.{length}
+use Rattle.account.specs.declared.Judged.{Judged}
+use Rattle.account.specs.Line.{bytesOf}
+use Rattle.account.specs.Judge.{Step}
+use Rattle.account.specs.Told.{Tells}
 use mathlib.Core.Bool.{Bool}
 use contract.Lifetimes.{Lfts}
 use borrow.Fn.Kinds.{Dens, endedOf}
@@ -40,3 +45,17 @@ one-in-range κs args b c e e′ p q = p ∙ sym q
 pub one-feed : (κs : Lfts 2) (args : Dens κs feed.ps) (f g : Fed) (e e′ : AtExit (endedOf 2 feed.ps feed.r) κs)
     → feed-contract.Learnt κs args f e → feed-contract.Learnt κs args g e′ → (f ≡ g) × (now (e .1 .1 .0) ≡ now (e′ .1 .1 .0))
 one-feed κs args f g e e′ p q = (p .0 ∙ sym (q .0), p .1 .0 ∙ sym (q .1 .0))
+
+-- ---- the functions below the book
+
+-- Two answers that each equal what a definition gives are equal: every contract of codec, text, reading, listing and desk, and of account but for
+-- judge, says that the result, or the buffer at the end, equals such a value.
+pub one-equation : {A : Type 0} (value one other : A) → one ≡ value → other ≡ value → one ≡ other
+one-equation value one other p q = p ∙ sym q
+
+-- Two answers that meet judge's contract have the same account, the same bytes of lines, and as many of them.
+pub one-judge : (j : Step) (one other : Judged) → Tells j one → Tells j other
+    → (one .account ≡ other .account) × ((bytesOf one ≡ bytesOf other) × (one .line .len ≡ other .line .len))
+one-judge j one other p q =
+    let b : bytesOf one ≡ bytesOf other = p .bytes ∙ sym (q .bytes) in
+    (p .account ∙ sym (q .account), (b, sym (p .long) ∙ ap length b ∙ q .long))
