@@ -1,10 +1,10 @@
 /* The proved reader against the plain one, on the same books, in one process.
 
-   bench time ROUNDS DETAILS        checks that both agree, then takes their times in turns and prints the best of each
-   bench count DETAILS BOOK MODE    runs each once on one book (m or 3..7), MODE w whole or p parts, for an instruction count
-   bench stack DETAILS              prints the stack that each uses
+   bench time ROUNDS DETAILS PART..    checks that both agree, then takes their times in turns and prints the best of each
+   bench count DETAILS BOOK PART       runs each once on one book (m or 3..7), for an instruction count
+   bench stack DETAILS                 prints the stack that each uses
 
-   Built with WITH_PARTS where the library has bench_parts. */
+   A book is read in parts of PART bytes; 0 stands for the whole book at once, by herd_desk itself. */
 #include "../host/herd_desk.h"
 #include "reader.h"
 
@@ -13,11 +13,9 @@
 #include <string.h>
 #include <time.h>
 
-enum { PART = 64, LARGE = 1 << 18, STACK = 1 << 16, PAINT = 0x5A };
+enum { WHOLE = 0, PART = 64, LARGE = 1 << 18, STACK = 1 << 16, PAINT = 0x5A };
 
-#ifdef WITH_PARTS
 uint64_t bench_parts(const uint8_t *book, size_t book_len, uint8_t *lines, size_t lines_len, size_t part);
-#endif
 
 /* A book with what it is called. */
 struct book {
@@ -26,26 +24,18 @@ struct book {
     size_t len, records;
 };
 
-typedef uint64_t reading(const struct book *book, uint8_t *lines);
+typedef uint64_t reading(const struct book *book, uint8_t *lines, size_t part);
 
 /* Noinline and by these names: an instruction counter finds them so. */
-__attribute__((noinline)) uint64_t proved_whole(const struct book *book, uint8_t *lines) {
-    return herd_desk(book->bytes, book->len, lines, LARGE);
+__attribute__((noinline)) uint64_t proved_reading(const struct book *book, uint8_t *lines, size_t part) {
+    return part == WHOLE ? herd_desk(book->bytes, book->len, lines, LARGE)
+                         : bench_parts(book->bytes, book->len, lines, LARGE, part);
 }
 
-__attribute__((noinline)) uint64_t plain_whole(const struct book *book, uint8_t *lines) {
-    return plain_desk(book->bytes, book->len, lines, LARGE);
+__attribute__((noinline)) uint64_t plain_reading(const struct book *book, uint8_t *lines, size_t part) {
+    return part == WHOLE ? plain_desk(book->bytes, book->len, lines, LARGE)
+                         : plain_parts(book->bytes, book->len, lines, LARGE, part);
 }
-
-#ifdef WITH_PARTS
-__attribute__((noinline)) uint64_t proved_in_parts(const struct book *book, uint8_t *lines) {
-    return bench_parts(book->bytes, book->len, lines, LARGE, PART);
-}
-
-__attribute__((noinline)) uint64_t plain_in_parts(const struct book *book, uint8_t *lines) {
-    return plain_parts(book->bytes, book->len, lines, LARGE, PART);
-}
-#endif
 
 static uint64_t seed = 88172645463325252u;
 
@@ -144,12 +134,22 @@ static struct book make_book(const char *name, unsigned kind, unsigned details) 
 
 static uint8_t proved_lines[LARGE], plain_lines[LARGE];
 
-static void check_agreement(const struct book *book, const char *mode, reading *proved, reading *plain) {
+/* What a reading in such parts is called: parts of 64 bytes are `parts` alone. */
+static const char *mode_of(size_t part) {
+    static char name[32];
+    if (part == WHOLE || part == PART) {
+        return part == WHOLE ? "whole" : "parts";
+    }
+    snprintf(name, sizeof name, "parts-%zu", part);
+    return name;
+}
+
+static void check_agreement(const struct book *book, size_t part) {
     memset(proved_lines, PAINT, LARGE);
     memset(plain_lines, PAINT, LARGE);
-    uint64_t by_proved = proved(book, proved_lines), by_plain = plain(book, plain_lines);
+    uint64_t by_proved = proved_reading(book, proved_lines, part), by_plain = plain_reading(book, plain_lines, part);
     if (by_proved != by_plain || memcmp(proved_lines, plain_lines, LARGE) != 0 || herd_desk_code(by_plain) != 0) {
-        fprintf(stderr, "bench: %s, %s: different answers, %llx and %llx\n", book->name, mode,
+        fprintf(stderr, "bench: %s, %s: different answers, %llx and %llx\n", book->name, mode_of(part),
                 (unsigned long long)by_proved, (unsigned long long)by_plain);
         exit(1);
     }
@@ -161,23 +161,23 @@ static double now_ns(void) {
     return (double)t.tv_sec * 1e9 + (double)t.tv_nsec;
 }
 
-static double time_of(reading *read, const struct book *book, uint8_t *lines) {
+static double time_of(reading *read, const struct book *book, uint8_t *lines, size_t part) {
     double before = now_ns();
-    read(book, lines);
+    read(book, lines, part);
     return now_ns() - before;
 }
 
 /* In turns, the best of all rounds: other work on the machine then hits both alike. */
-static void compare_times(const struct book *book, const char *mode, reading *proved, reading *plain, int rounds) {
-    double best_proved = 1e30, best_plain = 1e30;
-    check_agreement(book, mode, proved, plain);
+static void compare_times(const struct book *book, size_t part, int rounds) {
+    double best_proved = 1e30, best_plain = 1e30, records = (double)book->records;
+    check_agreement(book, part);
     for (int i = 0; i < rounds; i++) {
-        double by_proved = time_of(proved, book, proved_lines), by_plain = time_of(plain, book, plain_lines);
+        double by_proved = time_of(proved_reading, book, proved_lines, part);
+        double by_plain = time_of(plain_reading, book, plain_lines, part);
         best_proved = by_proved < best_proved ? by_proved : best_proved;
         best_plain = by_plain < best_plain ? by_plain : best_plain;
     }
-    double records = (double)book->records;
-    printf("%-7s %-7s %7.1f ns a record, plain C %7.1f, ratio %.2f\n", book->name, mode, best_proved / records,
+    printf("%-7s %-10s %7.1f ns a record, plain C %7.1f, ratio %.2f\n", book->name, mode_of(part), best_proved / records,
            best_plain / records, best_proved / best_plain);
 }
 
@@ -188,14 +188,15 @@ static void mark(void) {
 }
 
 /* Each has run once before, so that no loading of functions is counted. */
-static void run_once(const struct book *book, const char *mode, reading *proved, reading *plain) {
-    check_agreement(book, mode, proved, plain);
+static void run_once(const struct book *book, size_t part) {
+    size_t calls = part == WHOLE ? 1 : (book->len + part - 1) / part;
+    check_agreement(book, part);
     mark();
-    proved(book, proved_lines);
+    proved_reading(book, proved_lines, part);
     mark();
-    plain(book, plain_lines);
+    plain_reading(book, plain_lines, part);
     mark();
-    printf("%s %s %zu records\n", book->name, mode, book->records);
+    printf("%s %s: %zu records %zu calls\n", book->name, mode_of(part), book->records, calls);
 }
 
 static __attribute__((noinline)) void paint_stack(void) {
@@ -215,19 +216,20 @@ static __attribute__((noinline)) size_t stack_touched(void) {
     return STACK - untouched;
 }
 
-static size_t stack_of(reading *read, const struct book *book) {
-    read(book, proved_lines);
+static size_t stack_of(reading *read, const struct book *book, size_t part) {
+    read(book, proved_lines, part);
     paint_stack();
-    read(book, proved_lines);
+    read(book, proved_lines, part);
     return stack_touched();
 }
 
 static void print_stacks(const struct book *book) {
+    static const size_t parts[2] = {WHOLE, PART};
     printf("state   plain C %zu bytes\n", sizeof(struct reader));
-    printf("stack   whole   %zu bytes, plain C %zu\n", stack_of(proved_whole, book), stack_of(plain_whole, book));
-#ifdef WITH_PARTS
-    printf("stack   parts   %zu bytes, plain C %zu\n", stack_of(proved_in_parts, book), stack_of(plain_in_parts, book));
-#endif
+    for (int i = 0; i < 2; i++) {
+        printf("stack   %s   %zu bytes, plain C %zu\n", mode_of(parts[i]), stack_of(proved_reading, book, parts[i]),
+               stack_of(plain_reading, book, parts[i]));
+    }
 }
 
 static struct book book_named(const char *name, unsigned details) {
@@ -236,41 +238,30 @@ static struct book book_named(const char *name, unsigned details) {
     return make_book(names[kind], kind, details);
 }
 
-static void time_all(int rounds, unsigned details) {
+/* Every book in each of the parts, whose words end with NULL. */
+static void time_all(int rounds, unsigned details, char **parts) {
     for (const char *name = "m34567"; *name; name++) {
         struct book book = book_named(name, details);
-        compare_times(&book, "whole", proved_whole, plain_whole, rounds);
-#ifdef WITH_PARTS
-        compare_times(&book, "parts", proved_in_parts, plain_in_parts, rounds);
-#endif
+        for (char **part = parts; *part; part++) {
+            compare_times(&book, (size_t)atoi(*part), rounds);
+        }
         free(book.bytes);
     }
 }
 
-static void count_one(const char *name, char mode, unsigned details) {
-    struct book book = book_named(name, details);
-    if (mode == 'w') {
-        run_once(&book, "whole", proved_whole, plain_whole);
-    }
-#ifdef WITH_PARTS
-    if (mode == 'p') {
-        run_once(&book, "parts", proved_in_parts, plain_in_parts);
-    }
-#endif
-    free(book.bytes);
-}
-
 int main(int argc, char **argv) {
-    if (argc == 4 && strcmp(argv[1], "time") == 0) {
-        time_all(atoi(argv[2]), (unsigned)atoi(argv[3]));
+    if (argc > 4 && strcmp(argv[1], "time") == 0) {
+        time_all(atoi(argv[2]), (unsigned)atoi(argv[3]), argv + 4);
     } else if (argc == 5 && strcmp(argv[1], "count") == 0) {
-        count_one(argv[3], argv[4][0], (unsigned)atoi(argv[2]));
+        struct book book = book_named(argv[3], (unsigned)atoi(argv[2]));
+        run_once(&book, (size_t)atoi(argv[4]));
+        free(book.bytes);
     } else if (argc == 3 && strcmp(argv[1], "stack") == 0) {
         struct book book = book_named("m", (unsigned)atoi(argv[2]));
         print_stacks(&book);
         free(book.bytes);
     } else {
-        fputs("usage: bench time ROUNDS DETAILS | count DETAILS BOOK MODE | stack DETAILS\n", stderr);
+        fputs("usage: bench time ROUNDS DETAILS PART.. | count DETAILS BOOK PART | stack DETAILS\n", stderr);
         return 2;
     }
     return 0;

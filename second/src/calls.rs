@@ -42,22 +42,33 @@ fn room(dice: &mut Dice, style: Style) -> usize {
     }
 }
 
-/// Calls until all is taken or the book ends, and a few beyond; short of that where there would be too many.
 pub fn some_calls(dice: &mut Dice, state: &State, input: &[u8]) -> Vec<Call> {
     use Style::*;
     let styles = [OneCall, OneCall, SmallParts, ByteByByte, ShortRooms, ShortRooms, AnyParts];
     let style = dice.of(&styles);
-    let mut beyond = dice.below(3);
+    let beyond = dice.below(3);
+    let next = |_, left| Call { offer: offer(dice, style, left), room: room(dice, style) };
+    calls_to_the_end(state, input, beyond, MOST_CALLS, next)
+}
+
+/// Calls until all is taken or the book ends, and so many beyond, but `most` in all; `next` is told the calls made and the bytes left.
+pub fn calls_to_the_end(
+    state: &State,
+    input: &[u8],
+    mut beyond: u64,
+    most: usize,
+    mut next: impl FnMut(usize, usize) -> Call,
+) -> Vec<Call> {
     let mut calls = Vec::new();
     let (mut state, mut left) = (*state, input);
     loop {
-        let call = Call { offer: offer(dice, style, left.len()), room: room(dice, style) };
+        let call = next(calls.len(), left.len());
         calls.push(call);
         let reply = feed(&state, &left[..call.offer.min(left.len())], call.room);
         left = &left[reply.taken..];
         state = reply.state;
         let ended = left.is_empty() || matches!(reply.answer, Answer::Closed | Answer::Refused(_));
-        if (ended && beyond == 0) || calls.len() >= MOST_CALLS {
+        if (ended && beyond == 0) || calls.len() >= most {
             return calls;
         }
         beyond -= u64::from(ended);

@@ -6,6 +6,7 @@ use crate::books::{
 use crate::calls::{some_calls, MOST_ROOM, ROOMS};
 use crate::dice::Dice;
 use crate::figures::Subtotal;
+use crate::parts;
 use crate::record::{fields_of, record_of};
 use crate::slips;
 use crate::state::{Heading, Refusal, State, CLOSED, MOST_RECORDS, NO_RECORD, OPEN, REFUSED};
@@ -32,7 +33,7 @@ pub fn sample() -> Vec<u8> {
 
 /// The case of this seed and index.
 pub fn case(seed: u64, index: u64) -> Case {
-    if let Some(case) = writes::in_a_row(seed, index) {
+    if let Some(case) = writes::in_a_row(seed, index).or_else(|| parts::of_each_size(seed, index)) {
         return case;
     }
     let mut dice = Dice::of_case(seed, index);
@@ -186,6 +187,7 @@ pub fn stored() -> Vec<Case> {
     cases.extend(heaviest());
     cases.extend(each_number());
     cases.extend(each_clause());
+    cases.extend(parts::every_part_size());
     cases.extend(slips::at_the_ends());
     cases.extend(writes::stored());
     let mut dice = Dice::of_case(1, 0);
@@ -219,7 +221,7 @@ fn byte_by_byte(input: Vec<u8>) -> Case {
 }
 
 /// Records of these kinds with plain values, a heading with its group and class, and a right close where 8 stands.
-fn book_of(records: &[(u8, u64, u64)]) -> Vec<u8> {
+pub fn book_of(records: &[(u8, u64, u64)]) -> Vec<u8> {
     let record = |(before, &(kind, group, class)): (usize, &(u8, u64, u64))| match kind {
         2 => record_of(2, &[group, class, 40]),
         8 => record_of(8, &[before as u64]),

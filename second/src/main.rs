@@ -9,6 +9,7 @@ mod feed;
 mod figures;
 mod judge;
 mod lister;
+mod parts;
 mod record;
 mod slip;
 mod slips;

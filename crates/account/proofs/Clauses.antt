@@ -28,7 +28,7 @@ module _ (stage records : ℕ) where
       ∷ (not (eqb stage 2) || leb 2 records)
       ∷ []
 
-  counted-parts : countedTest stage records ≡ true → Counted stage records
+  pub counted-parts : countedTest stage records ≡ true → Counted stage records
   counted-parts e =
       let t = all-each (leb stage 3) countedRest e in
       record {
@@ -39,7 +39,7 @@ module _ (stage records : ℕ) where
         in-two = λ h. leb-true _ _ (implied _ _ (t .1 .1 .1 .1 .0) (eq-eqb _ _ h));
       }
 
-  counted-test : Counted stage records → countedTest stage records ≡ true
+  pub counted-test : Counted stage records → countedTest stage records ≡ true
   counted-test c =
       each-all (leb stage 3) countedRest (le-leb _ _ (c .stage-most)) (
         le-leb _ _ (c .records-most),
@@ -56,7 +56,7 @@ module _ (set records : ℕ) where
   abbrev warmedRest : List Bool
   warmedRest = (not (eqb set 0) || eqb records 0) ∷ (not (eqb records 0) || eqb set 0) ∷ []
 
-  warmed-parts : warmedTest set records ≡ true → Warmed set records
+  pub warmed-parts : warmedTest set records ≡ true → Warmed set records
   warmed-parts e =
       let t = all-each (leb set 2) warmedRest e in
       record {
@@ -65,7 +65,7 @@ module _ (set records : ℕ) where
         some = λ h. eqb-true _ _ (implied _ _ (t .1 .1 .0) (eq-eqb _ _ h));
       }
 
-  warmed-test : Warmed set records → warmedTest set records ≡ true
+  pub warmed-test : Warmed set records → warmedTest set records ≡ true
   warmed-test w =
       each-all (leb set 2) warmedRest (le-leb _ _ (w .set-most)) (
         implies (eqb set 0) (eqb records 0) (λ h. eq-eqb _ _ (w .none (eqb-true _ _ h))),
@@ -85,7 +85,7 @@ module _ (h : Heading) (d : Days) where
       ∷ leb 2 records
       ∷ []
 
-  headed-parts : (records : ℕ) → headedTest h d records ≡ true → Headed h d records
+  pub headed-parts : (records : ℕ) → headedTest h d records ≡ true → Headed h d records
   headed-parts records e =
       let t = all-each (leb 1 (h .group)) (headedRest records) e in
       let u = t .1 .1 .1 .1 in
@@ -111,7 +111,7 @@ module _ (h : Heading) (d : Days) where
   abbrev unheadedRest : List Bool
   unheadedRest = eqb (h .class) 0 ∷ eqb (h .head) 0 ∷ eqb (d .enteric) 0 ∷ eqb (d .nitrogen) 0 ∷ eqb (d .pig) 0 ∷ []
 
-  unheaded-parts : unheadedTest h d ≡ true → Unheaded h d
+  pub unheaded-parts : unheadedTest h d ≡ true → Unheaded h d
   unheaded-parts e =
       let t = all-each (eqb (h .group) 0) unheadedRest e in
       record {
@@ -179,7 +179,7 @@ module _ (s : Subtotal) where
       let t = all-each (leb (s .ch4) (records * 10 ^ 11)) (groupedRest records) e in
       record { ch4 = leb-true _ _ (t .0); n2o = leb-true _ _ (t .1 .0); excreted = leb-true _ _ (t .1 .1 .0); land = leb-true _ _ (t .1 .1 .1 .0) }
 
-  grouped-test : (records : ℕ) → Grouped s records → groupedTest s records ≡ true
+  pub grouped-test : (records : ℕ) → Grouped s records → groupedTest s records ≡ true
   grouped-test records g =
       each-all (leb (s .ch4) (records * 10 ^ 11)) (groupedRest records) (le-leb _ _ (g .ch4))
       (le-leb _ _ (g .n2o), (le-leb _ _ (g .excreted), (le-leb _ _ (g .land), tt)))
@@ -187,7 +187,7 @@ module _ (s : Subtotal) where
   abbrev ungroupedRest : List Bool
   ungroupedRest = eqb (s .n2o .0) 0 ∷ eqb (s .excreted) 0 ∷ eqb (s .land) 0 ∷ []
 
-  ungrouped-parts : ungroupedTest s ≡ true → Ungrouped s
+  pub ungrouped-parts : ungroupedTest s ≡ true → Ungrouped s
   ungrouped-parts e =
       let t = all-each (eqb (s .ch4) 0) ungroupedRest e in
       record { ch4 = eqb-true _ _ (t .0); n2o = eqb-true _ _ (t .1 .0); excreted = eqb-true _ _ (t .1 .1 .0); land = eqb-true _ _ (t .1 .1 .1 .0) }

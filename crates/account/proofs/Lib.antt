@@ -4,5 +4,6 @@ pub mod Ranges
 pub mod Told
 pub mod Written
 pub mod Clauses
+mod Shortcuts
 pub mod Keeps
 pub mod Counts

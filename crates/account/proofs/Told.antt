@@ -6,7 +6,7 @@ use mathlib.Core.List.{List, [], _∷_, _++_, append-nil}
 use mathlib.Core.Bool.{Bool, true, false, not, _&&_}
 use mathlib.Core.Logic.{⊎-elim}
 use native.Mathlib.Omega.{arith}
-use borrow.Author.Tests.{leb-true, leb-false, lt-leb, eqb-true, eq-eqb, ne-eqb}
+use borrow.Author.Tests.{leb-true, leb-false, le-leb, lt-leb, eqb-true, eq-eqb, ne-eqb}
 use lib.ListN.{length, getD, length-append}
 use lib.Dec.{ltb, leb, eqb}
 use Rattle.codec.specs.Table.{fields, lengthOf}
@@ -26,10 +26,10 @@ use Rattle.account.specs.declared.Figures.{Figures}
 use Rattle.account.specs.declared.Subtotal.{Subtotal}
 use Rattle.account.specs.declared.Judged.{Judged}
 use Rattle.account.specs.Figures.{groupFigures, cattleRation, ch4Alone, co2Alone, cattleFigures, pigFigures}
-use Rattle.account.specs.Line.{bytesOf, lineWith, co2eIn, subtotals, totalOf}
+use Rattle.account.specs.Line.{joined, bytesOf, lineWith, co2eIn, subtotals, totalOf}
 use Rattle.account.specs.Range.{Headed, Unheaded, Bounded, Grouped, Fair}
 use Rattle.account.specs.Judge.{versionOf, kindOf, judge, first, inPlace, daysOver, partsWrong, valueRefusals, refused, underHeading, withDetail, closed, Step, accepted, decided, weigh}
-use Rattle.account.specs.Told.{Tells, Kind, Small, noLine, quiet, refusing, detailing, heading, closing}
+use Rattle.account.specs.Told.{Tells, TellsIn, inRoom, Kind, Small, noLine, quiet, refusing, detailing, heading, closing}
 use Rattle.account.proofs.Tests.{not-false, no-bool}
 use Rattle.account.proofs.First.{three-clear, three-first}
 
@@ -153,6 +153,46 @@ tells-close a = go (eqb (a .heading .group) 0)
           short = omega arith;
         }
 
+-- ---- in a room
+
+-- no line fits any room
+pub quiet-in : (room : ℕ) (a b : Account) (s : Step) (r : Judged) → r ≡ quiet b → Tells s r → TellsIn room a s r
+quiet-in room a b s r e t = record { whole = r; tells = t; is = rw (e, le-leb 0 room (omega arith)) refl }
+
+-- what fits is told whole; of what does not fit the account is the one before
+pub in-fit : (room : ℕ) (a : Account) (j : Judged) → j .line .len ≤ room → inRoom room a j ≡ j
+in-fit room a j h = rw (le-leb (j .line .len) room h) refl
+
+pub in-full : (room : ℕ) (a : Account) (j : Judged) → room < j .line .len → inRoom room a j ≡ record { account = a; line = j .line }
+in-full room a j h = rw (lt-leb (j .line .len) room h) refl
+
+pub told-in : (room : ℕ) (a : Account) (s : Step) (r w : Judged) → r ≡ inRoom room a w → Tells s w → TellsIn room a s r
+told-in room a s r w e t = record { whole = w; tells = t; is = e }
+
+module _ {room : ℕ} {a : Account} {s : Step} {r : Judged} (t : TellsIn room a s r) where
+  same-line : r .line ≡ t .whole .line
+  same-line = rw (t .is) refl
+
+  -- the lines fit
+  pub tells-fit : r .line .len ≤ room → Tells s r
+  tells-fit h =
+      let h2 : t .whole .line .len ≤ room = rw same-line at h in
+      let same : r ≡ t .whole = t .is ∙ in-fit room a (t .whole) h2 in
+      rw same (t .tells)
+
+  -- they do not: the account is the one before
+  pub account-kept : room < r .line .len → r .account ≡ a
+  account-kept h =
+      let h2 : room < t .whole .line .len = rw same-line at h in
+      ap (λ (j : Judged). j .account) (t .is ∙ in-full room a (t .whole) h2)
+
+  -- their length is that of what the rules say, whether they fit or not
+  pub lines-long : length (joined (s .lines)) ≡ r .line .len
+  lines-long = rw same-line (rw (t .tells .bytes) at (t .tells .long))
+
+  pub lines-short : r .line .len ≤ 100
+  lines-short = rw same-line (t .tells .short)
+
 -- ---- the refusals of values
 
 -- the refusals from 8 on
@@ -183,12 +223,12 @@ module _ (a : Account) (k : ℕ) (v : List ℕ) (placed : Bool) (bad code : ℕ)
       }
 
   -- refused by 5, 6 or 7
-  pub stops : (r : Judged) → (code ≡ 0 → ⊥) → r ≡ refusing a code (pick (eqb code 7) bad 0) → Tells (weigh a k v) r
+  pub stops : (room : ℕ) (r : Judged) → (code ≡ 0 → ⊥) → r ≡ refusing a code (pick (eqb code 7) bad 0) → TellsIn room a (weigh a k v) r
   unfolding weigh
-  stops r n e =
+  stops room r n e =
       let same : first (valueRefusals a k v) ≡ code =
       rw (← p, ← b) (three-first (leb 4096 (a .records)) (not placed) (not (eqb bad 0)) (laterRefusals a k v) (λ z. n (c ∙ z)) ∙ sym c) in
-      rw (same, ne-eqb code 0 n, ← b, e) (tells-quiet (refused a code (pick (eqb code 7) bad 0)))
+      quiet-in room a _ (weigh a k v) r e (rw (same, ne-eqb code 0 n, ← b, e) (tells-quiet (refused a code (pick (eqb code 7) bad 0))))
 
 -- what is left are the refusals from 8 on
 module _ (a : Account) (k : ℕ) (v : List ℕ) (p : Passes a k v) where
@@ -196,9 +236,9 @@ module _ (a : Account) (k : ℕ) (v : List ℕ) (p : Passes a k v) where
   unfolding first
   later = rw (lt-leb _ _ (p .room), p .place, p .ranges)
 
-  pub refuses : (c : ℕ) (r : Judged) → first (laterRefusals a k v) ≡ c → (eqb c 0 ≡ false) → (eqb c 7 ≡ false) → r ≡ refusing a c 0 → Tells (weigh a k v) r
+  pub refuses : (room c : ℕ) (r : Judged) → first (laterRefusals a k v) ≡ c → (eqb c 0 ≡ false) → (eqb c 7 ≡ false) → r ≡ refusing a c 0 → TellsIn room a (weigh a k v) r
   unfolding weigh
-  refuses c r e n m q = rw (later, e, n, m, q) (tells-quiet (refused a c 0))
+  refuses room c r e n m q = quiet-in room a _ (weigh a k v) r q (rw (later, e, n, m, q) (tells-quiet (refused a c 0)))
 
   pub accepts : first (laterRefusals a k v) ≡ 0 → weigh a k v ≡ accepted a k v
   unfolding weigh
@@ -209,11 +249,11 @@ module _ (a : Account) (k : ℕ) (v : List ℕ) (p : Passes a k v) where
 -- r is of version 1 and kind k, one of the eight
 module _ (a : Account) (k : ℕ) (r : List ℕ) (n : ℕ) (w : Kind k r) (kinds : leb 1 k && leb k 8 ≡ true) (size : lengthOf k + 2 ≡ n) where
   -- its length is not the kind's
-  pub wrong-length : (j : Judged) → (length r ≡ n → ⊥) → j ≡ refusing a 4 0 → Tells (judge a r) j
+  pub wrong-length : (room : ℕ) (j : Judged) → (length r ≡ n → ⊥) → j ≡ refusing a 4 0 → TellsIn room a (judge a r) j
   unfolding judge first
-  wrong-length j h e =
+  wrong-length room j h e =
       let other : valAt r 0 2 ≡ lengthOf k → ⊥ = λ q. h (omega (arith, w .whole .long, size)) in
-      rw (w .version, w .kind, kinds, ne-eqb _ _ other, e) (tells-quiet (refused a 4 0))
+      quiet-in room a _ (judge a r) j e (rw (w .version, w .kind, kinds, ne-eqb _ _ other, e) (tells-quiet (refused a 4 0)))
 
   -- its length is the kind's: its values decide
   pub right-length : length r ≡ n → judge a r ≡ weigh a k (valuesAt (fields k) r 4)
@@ -222,13 +262,13 @@ module _ (a : Account) (k : ℕ) (r : List ℕ) (n : ℕ) (w : Kind k r) (kinds 
       let same : valAt r 0 2 ≡ lengthOf k = omega (arith, w .whole .long, size) in
       rw (w .version, w .kind, kinds, eq-eqb _ _ same)
 
-pub wrong-version : (a : Account) (r : List ℕ) (j : Judged) → (versionOf r ≡ 1 → ⊥) → j ≡ refusing a 2 0 → Tells (judge a r) j
+pub wrong-version : (room : ℕ) (a : Account) (r : List ℕ) (j : Judged) → (versionOf r ≡ 1 → ⊥) → j ≡ refusing a 2 0 → TellsIn room a (judge a r) j
 unfolding judge first
-wrong-version a r j h e = rw (ne-eqb _ 1 h, e) (tells-quiet (refused a 2 0))
+wrong-version room a r j h e = quiet-in room a _ (judge a r) j e (rw (ne-eqb _ 1 h, e) (tells-quiet (refused a 2 0)))
 
-pub wrong-kind : (a : Account) (r : List ℕ) (j : Judged) → versionOf r ≡ 1 → leb 1 (kindOf r) && leb (kindOf r) 8 ≡ false → j ≡ refusing a 3 0 → Tells (judge a r) j
+pub wrong-kind : (room : ℕ) (a : Account) (r : List ℕ) (j : Judged) → versionOf r ≡ 1 → leb 1 (kindOf r) && leb (kindOf r) 8 ≡ false → j ≡ refusing a 3 0 → TellsIn room a (judge a r) j
 unfolding judge first
-wrong-kind a r j v h e = rw (v, h, e) (tells-quiet (refused a 3 0))
+wrong-kind room a r j v h e = quiet-in room a _ (judge a r) j e (rw (v, h, e) (tells-quiet (refused a 3 0)))
 
 pub past : (n k : ℕ) → n ≤ k → (k ≡ n → ⊥) → n + 1 ≤ k
 past n k l h = omega arith

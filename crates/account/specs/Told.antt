@@ -5,7 +5,7 @@ use mathlib.Core.Path.{_≡_}
 use mathlib.Core.List.{List}
 use mathlib.Core.Bool.{Bool}
 use lib.ListN.{length}
-use lib.Dec.{eqb}
+use lib.Dec.{leb, eqb}
 use Rattle.codec.specs.Codec.{pick}
 use Rattle.account.specs.declared.Account.{Account}
 use Rattle.account.specs.declared.Days.{Days}
@@ -23,6 +23,16 @@ pub record Tells (j : Step) (r : Judged) : Type 0 where
   pub bytes : bytesOf r ≡ joined (j .lines)
   pub long : length (bytesOf r) ≡ r .line .len
   pub short : r .line .len ≤ 100
+
+-- j where its lines fit the room; else its lines, and the account a as it was
+abbrev pub inRoom : ℕ → Account → Judged → Judged
+inRoom room a j = record { account = pick (leb (j .line .len) room) (j .account) a; line = j .line }
+
+-- r tells what j says after the account a, as far as the room allows
+pub record TellsIn (room : ℕ) (a : Account) (j : Step) (r : Judged) : Type 0 where
+  pub whole : Judged
+  pub tells : Tells j whole
+  pub is : r ≡ inRoom room a whole
 
 -- r is a whole record of version 1 and kind k
 pub record Kind (k : ℕ) (r : List ℕ) : Type 0 where

@@ -78,13 +78,6 @@ fn ungrouped(s: Subtotal) -> bool
     (s.ch4 == 0) & (s.n2o.0 == 0) & (s.excreted == 0) & (s.land == 0)
 }
 
-// The subtotal's clauses: bounded as the sums, and zero without a heading.
-fn subtotalled(s: Subtotal, group: u16, records: u16) -> bool
-    ensures { λ r. ⌜ r ≡ (groupedTest s records && (not (eqb group 0) || ungroupedTest s)) ⌝ }
-{
-    grouped(s, records) & (!(group == 0) | ungrouped(s))
-}
-
 fn numbered(r: Refusal, records: u16) -> bool
     ensures { λ b. ⌜ b ≡ numberedTest r records ⌝ }
 {
@@ -102,6 +95,36 @@ fn unrefused(r: Refusal) -> bool
     (r.code == 0) & (r.number == 0) & (r.field == 0)
 }
 
+// Stage, records and warming set; those of an open book first, since all calls but a book's first and last have one.
+fn started(stage: u8, records: u16, set: u8) -> bool
+    ensures { λ r. ⌜ r ≡ (countedTest stage records && warmedTest set records) ⌝ }
+{
+    if stage == 1 {
+        return (1 <= records) & (records <= 4096) & (1 <= set) & (set <= 2);
+    }
+    counted(stage, records) & warmed(set, records)
+}
+
+// Heading, day sums and subtotal: without a group all zero, with one in their ranges.
+fn under(h: Heading, d: Days, s: Subtotal, records: u16) -> bool
+    ensures { λ r. ⌜ r ≡ ((headedTest h d records || unheadedTest h d) && (groupedTest s records && (not (eqb (h .group) 0) || ungroupedTest s))) ⌝ }
+{
+    if h.group == 0 {
+        return unheaded(h, d) & ungrouped(s);
+    }
+    headed(h, d, records) & grouped(s, records)
+}
+
+// The refusal of stage 3, or none.
+fn ended(stage: u8, r: Refusal, records: u16) -> bool
+    ensures { λ b. ⌜ b ≡ ((not (eqb stage 3) || numberedTest r records) && (eqb stage 3 || unrefusedTest r)) ⌝ }
+{
+    if stage == 3 {
+        return numbered(r, records);
+    }
+    unrefused(r)
+}
+
 pub fn test(a: Account) -> bool
     ensures { λ r. ⌜ r ≡ fair a ⌝ }
 {
@@ -110,11 +133,8 @@ pub fn test(a: Account) -> bool
     let s = a.subtotal;
     let f = a.sums;
     let r = a.refusal;
-    counted(a.stage, a.records)
-        & warmed(a.set, a.records)
-        & (headed(h, d, a.records) | unheaded(h, d))
+    started(a.stage, a.records, a.set)
         & bounded(f, a.records)
-        & subtotalled(s, h.group, a.records)
-        & (!(a.stage == 3) | numbered(r, a.records))
-        & ((a.stage == 3) | unrefused(r))
+        & under(h, d, s, a.records)
+        & ended(a.stage, r, a.records)
 }

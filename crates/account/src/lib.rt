@@ -3,6 +3,7 @@ mod fair;
 pub mod line;
 pub mod weigh;
 mod whole;
+mod within;
 
 use grams::units::N2o;
 use line::Line;
@@ -11,7 +12,7 @@ ghost use Prim.Native.Nat.{_+_, _<_, _≤_};
 ghost use lib.ListN.{length};
 ghost use Rattle.account.specs.Range.{Fair, fair};
 ghost use Rattle.account.specs.Judge.{Whole, noRecord, refused, judge};
-ghost use Rattle.account.specs.Told.{Tells, refusing};
+ghost use Rattle.account.specs.Told.{Tells, TellsIn, refusing};
 
 // A group heading: its number, its class (1 milking, 2 dry, 3 heifer, 4 pig) and its head count; all zero where there is none.
 pub struct Heading {
@@ -109,8 +110,47 @@ impl Account {
         }
     }
 
+    // The same, each number moved by itself: of a whole copy the compiler makes wide words, and takes them apart again at each record.
+    pub fn by_fields(self) -> Account
+        ensures { λ r. ⌜ r ≡ self ⌝ }
+    {
+        Account {
+            stage: self.stage,
+            records: self.records,
+            set: self.set,
+            heading: Heading {
+                group: self.heading.group,
+                class: self.heading.class,
+                head: self.heading.head,
+            },
+            days: Days {
+                enteric: self.days.enteric,
+                nitrogen: self.days.nitrogen,
+                pig: self.days.pig,
+            },
+            subtotal: Subtotal {
+                ch4: self.subtotal.ch4,
+                n2o: N2o(self.subtotal.n2o.0),
+                excreted: self.subtotal.excreted,
+                land: self.subtotal.land,
+            },
+            sums: Figures {
+                ch4: self.sums.ch4,
+                n2o: N2o(self.sums.n2o.0),
+                co2: self.sums.co2,
+                excreted: self.sums.excreted,
+                land: self.sums.land,
+            },
+            refusal: Refusal {
+                code: self.refusal.code,
+                number: self.refusal.number,
+                field: self.refusal.field,
+            },
+        }
+    }
+
     // Refused by a rule, at a field.
-    pub fn refuse(mut self, code: u8, field: u8) -> Account
+    pub fn refuse(self, code: u8, field: u8) -> Account
         ensures { λ r. ⌜ r ≡ refused self code field ⌝ }
     {
         let refusal = Refusal {
@@ -118,9 +158,10 @@ impl Account {
             number: self.records,
             field: field,
         };
-        self.stage = 3;
-        self.refusal = refusal;
-        self
+        let mut next = self.by_fields();
+        next.stage = 3;
+        next.refusal = refusal;
+        next
     }
 
     // Refused, with no line.
@@ -147,20 +188,28 @@ impl Account {
         requires { ⌜ Fair self × (self .stage < 2) × Whole (now r) ⌝ }
         ensures { λ j. ⌜ Tells (judge self (now (r .entry))) j ⌝ }
     {
+        self.judge_within(r, 100)
+    }
+
+    // What the whole record r does where its lines fit the room; where they do not, the account is handed back as it came.
+    pub fn judge_within(self, r: &[u8], room: usize) -> Judged
+        requires { ⌜ Fair self × (self .stage < 2) × Whole (now r) ⌝ }
+        ensures { λ j. ⌜ TellsIn room self (judge self (now (r .entry))) j ⌝ }
+    {
         let version = r[2];
         if version != 1 {
             return self.wrong(2, 0);
         }
         let kind = r[3];
         match kind {
-            1 => whole::farm(self, r),
-            2 => whole::heading(self, r),
-            3 => whole::enteric(self, r),
-            4 => whole::cattle(self, r),
-            5 => whole::pig(self, r),
-            6 => whole::energy(self, r),
-            7 => whole::soil(self, r),
-            8 => whole::close(self, r),
+            1 => whole::farm(self, r, room),
+            2 => whole::heading(self, r, room),
+            3 => whole::enteric(self, r, room),
+            4 => whole::cattle(self, r, room),
+            5 => whole::pig(self, r, room),
+            6 => whole::energy(self, r, room),
+            7 => whole::soil(self, r, room),
+            8 => whole::close(self, r, room),
             _ => self.wrong(3, 0),
         }
     }

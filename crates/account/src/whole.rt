@@ -1,89 +1,89 @@
-// A whole record of each kind: refusal 4 where its length is not the kind's, else what its values do.
+// A whole record of each kind: refusal 4 where its length is not the kind's, else what its values do where its lines fit the room.
 use crate::Account;
 use crate::Judged;
-use crate::weigh;
+use crate::within;
 ghost use mathlib.Core.Path.{_≡_};
 ghost use Prim.Native.Nat.{_<_};
 ghost use Rattle.account.specs.Range.{Fair};
 ghost use Rattle.account.specs.Judge.{judge};
-ghost use Rattle.account.specs.Told.{Tells, Kind};
+ghost use Rattle.account.specs.Told.{TellsIn, Kind};
 
-pub fn farm(a: Account, r: &[u8]) -> Judged
+pub fn farm(a: Account, r: &[u8], room: usize) -> Judged
     requires { ⌜ Fair a × (a .stage < 2) × Kind 1 (now r) ⌝ }
-    ensures { λ j. ⌜ Tells (judge a (now (r .entry))) j ⌝ }
+    ensures { λ j. ⌜ TellsIn room a (judge a (now (r .entry))) j ⌝ }
 {
     if r.len() != 11 {
         return a.wrong(4, 0);
     }
-    weigh::farm(a, codec::read::farm(r, 4))
+    within::farm(a, codec::read::farm(r, 4), room)
 }
 
-pub fn heading(a: Account, r: &[u8]) -> Judged
+pub fn heading(a: Account, r: &[u8], room: usize) -> Judged
     requires { ⌜ Fair a × (a .stage < 2) × Kind 2 (now r) ⌝ }
-    ensures { λ j. ⌜ Tells (judge a (now (r .entry))) j ⌝ }
+    ensures { λ j. ⌜ TellsIn room a (judge a (now (r .entry))) j ⌝ }
 {
     if r.len() != 9 {
         return a.wrong(4, 0);
     }
-    weigh::heading(a, codec::read::heading(r, 4))
+    within::heading(a, codec::read::heading(r, 4), room)
 }
 
-pub fn enteric(a: Account, r: &[u8]) -> Judged
+pub fn enteric(a: Account, r: &[u8], room: usize) -> Judged
     requires { ⌜ Fair a × (a .stage < 2) × Kind 3 (now r) ⌝ }
-    ensures { λ j. ⌜ Tells (judge a (now (r .entry))) j ⌝ }
+    ensures { λ j. ⌜ TellsIn room a (judge a (now (r .entry))) j ⌝ }
 {
     if r.len() != 12 {
         return a.wrong(4, 0);
     }
-    weigh::enteric(a, codec::read::enteric(r, 4))
+    within::enteric(a, codec::read::enteric(r, 4), room)
 }
 
-pub fn cattle(a: Account, r: &[u8]) -> Judged
+pub fn cattle(a: Account, r: &[u8], room: usize) -> Judged
     requires { ⌜ Fair a × (a .stage < 2) × Kind 4 (now r) ⌝ }
-    ensures { λ j. ⌜ Tells (judge a (now (r .entry))) j ⌝ }
+    ensures { λ j. ⌜ TellsIn room a (judge a (now (r .entry))) j ⌝ }
 {
     if r.len() != 22 {
         return a.wrong(4, 0);
     }
-    weigh::cattle(a, codec::read::cattle(r, 4))
+    within::cattle(a, codec::read::cattle(r, 4), room)
 }
 
-pub fn pig(a: Account, r: &[u8]) -> Judged
+pub fn pig(a: Account, r: &[u8], room: usize) -> Judged
     requires { ⌜ Fair a × (a .stage < 2) × Kind 5 (now r) ⌝ }
-    ensures { λ j. ⌜ Tells (judge a (now (r .entry))) j ⌝ }
+    ensures { λ j. ⌜ TellsIn room a (judge a (now (r .entry))) j ⌝ }
 {
     if r.len() != 28 {
         return a.wrong(4, 0);
     }
-    weigh::pig(a, codec::read::pig(r, 4))
+    within::pig(a, codec::read::pig(r, 4), room)
 }
 
-pub fn energy(a: Account, r: &[u8]) -> Judged
+pub fn energy(a: Account, r: &[u8], room: usize) -> Judged
     requires { ⌜ Fair a × (a .stage < 2) × Kind 6 (now r) ⌝ }
-    ensures { λ j. ⌜ Tells (judge a (now (r .entry))) j ⌝ }
+    ensures { λ j. ⌜ TellsIn room a (judge a (now (r .entry))) j ⌝ }
 {
     if r.len() != 13 {
         return a.wrong(4, 0);
     }
-    weigh::energy(a, codec::read::energy(r, 4))
+    within::energy(a, codec::read::energy(r, 4), room)
 }
 
-pub fn soil(a: Account, r: &[u8]) -> Judged
+pub fn soil(a: Account, r: &[u8], room: usize) -> Judged
     requires { ⌜ Fair a × (a .stage < 2) × Kind 7 (now r) ⌝ }
-    ensures { λ j. ⌜ Tells (judge a (now (r .entry))) j ⌝ }
+    ensures { λ j. ⌜ TellsIn room a (judge a (now (r .entry))) j ⌝ }
 {
     if r.len() != 8 {
         return a.wrong(4, 0);
     }
-    weigh::soil(a, codec::read::soil(r, 4))
+    within::soil(a, codec::read::soil(r, 4), room)
 }
 
-pub fn close(a: Account, r: &[u8]) -> Judged
+pub fn close(a: Account, r: &[u8], room: usize) -> Judged
     requires { ⌜ Fair a × (a .stage < 2) × Kind 8 (now r) ⌝ }
-    ensures { λ j. ⌜ Tells (judge a (now (r .entry))) j ⌝ }
+    ensures { λ j. ⌜ TellsIn room a (judge a (now (r .entry))) j ⌝ }
 {
     if r.len() != 6 {
         return a.wrong(4, 0);
     }
-    weigh::close(a, codec::read::close(r, 4))
+    within::close(a, codec::read::close(r, 4), room)
 }

@@ -8,7 +8,7 @@ use native.Mathlib.Omega.{arith}
 use borrow.Author.Tests.{ltb-true, ltb-false, lt-ltb, le-ltb}
 use lib.ListN.{length, take, length-append, List·getD-append}
 use lib.Seq.{length-take-le, getD-take}
-use lib.Dec.{ltb, eqb}
+use lib.Dec.{ltb}
 use Rattle.codec.specs.Codec.{pick, valAt}
 use Rattle.codec.proofs.BigEndian.{valAt-same}
 use Rattle.book.specs.Front.{Front, unfinished, badLength, whole, need, bad, front}
@@ -113,10 +113,10 @@ held-whole h xs b =
 
 -- ---- the number of a front
 
-pub code-zero : (f : Front) → eqb (codeOf f) 0 ≡ isUnfinished f
-code-zero unfinished = refl
-code-zero badLength = refl
-code-zero whole = refl
+pub code-some : (f : Front) → (codeOf f ≡ 0 → ⊥) → isUnfinished f ≡ false
+code-some unfinished h = absurd (h refl)
+code-some badLength h = refl
+code-some whole h = refl
 
 pub code-unfinished : (f : Front) → codeOf f ≡ 0 → f ≡ unfinished
 code-unfinished unfinished e = refl

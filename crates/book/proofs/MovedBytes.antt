@@ -1,13 +1,18 @@
--- Laws of bytes that are moved: kept behind the state, filled in, gathered.
-use Prim.Native.Nat.{ℕ, suc, _+_, _-_, _≤_, _<_}
+-- Laws of bytes that are moved and looked at: kept behind the state, filled in, gathered, zero.
+use Prim.Native.Nat.{ℕ, suc, _+_, _*_, _-_, _≤_, _<_}
 use mathlib.Core.Path.{_≡_, ap, sym, _∙_}
 use mathlib.Core.List.{List, _++_}
+use mathlib.Core.Bool.{Bool, true, _&&_}
 use mathlib.Core.Logic.{⊎-elim}
 use native.Mathlib.Nat.{zero-add}
 use native.Mathlib.Numerals.{add-one}
 use native.Mathlib.Omega.{arith}
-use lib.ListN.{length, getD, take, set, replicate}
-use lib.Seq.{paste, paste-suc, length-paste, take-paste, take-suc, set-at, append-snoc, length-take-le, take-append-seam}
+use borrow.Author.Tests.{eq-eqb}
+use lib.Dec.{eqb}
+use lib.ListN.{length, getD, take, drop, set, replicate}
+use lib.Seq.{paste, paste-suc, length-paste, take-paste, take-suc, set-at, append-snoc, drop-cons, length-take-le, take-take, take-append-seam}
+use Rattle.codec.specs.Codec.{valAt}
+use Rattle.book.specs.State.{zeros}
 use Rattle.book.specs.Inner.{Filled, Gathered}
 use Rattle.account.proofs.Tests.{lt-or-ge}
 
@@ -32,18 +37,20 @@ filled {rec} {rec′} {n} {goal} {src} {k} l inside bound bytes upto end =
 take-filled : (rec rec′ : List ℕ) (n goal : ℕ) (src : List ℕ) (k : ℕ) → length rec ≡ 28 → Filled rec rec′ n goal src k → take (n + k) rec′ ≡ take n rec ++ take k src
 take-filled rec rec′ n goal src k l f = rw (f .bytes) (take-paste rec n src k (omega (arith, f .bound)) (f .inside))
 
--- the held bytes filled in, and then the next ones
+-- all places for held bytes filled in, and then the next ones behind those held
 pub gathered : (held : List ℕ) (count : ℕ) (src r0 r1 r2 : List ℕ) (h k : ℕ) → length held ≡ 27 → count ≤ 27 → 0 < length src → length r0 ≡ 28
-    → Filled r0 r1 0 count held h → Filled r1 r2 h 28 src k → Gathered (take count held) src r2 (h + k)
+    → Filled r0 r1 0 27 held h → Filled r1 r2 count 28 src k → Gathered (take count held) src r2 (count + k)
 gathered held count src r0 r1 r2 h k l27 short some l28 f1 f2 =
-    let e0 : h ≡ count =
-    ⊎-elim (λ (q : h < count). let z = f1 .end (omega arith) in absurd (omega arith)) (λ (q : count ≤ h). let z = f1 .upto (omega arith) in omega arith) (lt-or-ge h count) in
-    let lh : length (take count held) ≡ h = length-take-le count held (omega arith) ∙ sym e0 in
-    let t1 : take h r1 ≡ take count held = rw zero-add at (take-filled r0 r1 0 count held h l28 f1) ∙ ap (λ (n : ℕ). take n held) e0 in
-    let t2 : take (h + k) r2 ≡ take count held ++ take k src = take-filled r1 r2 h 28 src k (f1 .array) f2 ∙ ap (λ (l : List ℕ). l ++ take k src) t1 in
+    let e0 : h ≡ 27 =
+    ⊎-elim (λ (q : h < 27). let z = f1 .end (omega arith) in absurd (omega arith)) (λ (q : 27 ≤ h). let z = f1 .upto (omega arith) in omega arith) (lt-or-ge h 27) in
+    let all : take 27 r1 ≡ take 27 held = rw (zero-add, e0) at (take-filled r0 r1 0 27 held h l28 f1) in
+    let t1 : take count r1 ≡ take count held =
+    sym (take-take count 27 r1 short) ∙ ap (λ (l : List ℕ). take count l) all ∙ take-take count 27 held short in
+    let t2 : take (count + k) r2 ≡ take count held ++ take k src = take-filled r1 r2 count 28 src k (f1 .array) f2 ∙ ap (λ (l : List ℕ). l ++ take k src) t1 in
+    let lh : length (take count held) ≡ count = length-take-le count held (omega arith) in
     let more : 0 < k = ⊎-elim (λ (q : 0 < k). q) (λ (q : k ≤ 0). let z = f2 .end (omega arith) in absurd (omega arith)) (lt-or-ge 0 k) in
-    let d : h + k - length (take count held) ≡ k = omega arith in
-    record { least = omega arith; array = omega (arith, f2 .array, f2 .bound); inside = omega (arith, f2 .inside); bytes = rw d t2 }
+    let d : count + k - length (take count held) ≡ k = omega arith in
+    record { least = omega arith; array = omega (arith, f2 .array, f2 .bound); places = f2 .array; inside = omega (arith, f2 .inside); bytes = rw d t2 }
 
 module _ (held xs rec src : List ℕ) (n count : ℕ) (g : Gathered held xs rec n) (e : src ≡ take n rec) (l : length held ≡ count) where
   pub gathered-held : take count src ≡ held
@@ -51,3 +58,24 @@ module _ (held xs rec src : List ℕ) (n count : ℕ) (g : Gathered held xs rec 
 
   pub gathered-more : count < length src
   gathered-more = omega (arith, ap length e, length-take-le n rec (g .array), g .least, l)
+
+-- ---- places that are zero
+
+-- the first of what is left is looked at
+pub zeros-one : (a : List ℕ) (i : ℕ) (b : Bool) → i < length a → eqb (getD a i 0) 0 ≡ b → zeros (drop i a) ≡ (b && zeros (drop (i + 1) a))
+zeros-one a i b h e = rw (add-one i, drop-cons a i 0, e)
+
+zeros-on : (a : List ℕ) (i n : ℕ) → i < length a → getD a i 0 ≡ 0 → i + 1 ≡ n → zeros (drop i a) ≡ zeros (drop n a)
+zeros-on a i n h e k = zeros-one a i true h (eq-eqb _ _ e) ∙ ap (λ (m : ℕ). zeros (drop m a)) k
+
+-- four that are zero as one number
+pub zeros-four : (a : List ℕ) (i : ℕ) → i + 4 ≤ length a → valAt a i 4 ≡ 0 → zeros (drop i a) ≡ zeros (drop (i + 4) a)
+unfolding valAt
+zeros-four a i h e =
+    let n : (((0 * 256 + getD a (i + 0) 0) * 256 + getD a (i + 1) 0) * 256 + getD a (i + 2) 0) * 256 + getD a (i + 3) 0 ≡ 0 = e in
+    let first : getD a (i + 0) 0 ≡ 0 = omega (arith, n) in
+    let start : i + 0 ≡ i = omega arith in
+    zeros-on a i (i + 1) (omega arith) (rw start at first) (omega arith)
+    ∙ zeros-on a (i + 1) (i + 2) (omega arith) (omega (arith, n)) (omega arith)
+    ∙ zeros-on a (i + 2) (i + 3) (omega arith) (omega (arith, n)) (omega arith)
+    ∙ zeros-on a (i + 3) (i + 4) (omega arith) (omega (arith, n)) (omega arith)

@@ -12,7 +12,8 @@ use Rattle.account.specs.declared.Judged.{Judged}
 use Rattle.account.specs.Range.{Fair}
 use Rattle.account.specs.Judge.{Whole, judge}
 use Rattle.account.specs.Line.{joined, bytesOf}
-use Rattle.account.specs.Told.{Tells}
+use Rattle.account.specs.Told.{Tells, TellsIn}
+use Rattle.account.proofs.Told.{tells-fit, account-kept, lines-long}
 use Rattle.account.proofs.Keeps.{fair-judge}
 use Rattle.book.specs.Front.{whole, need, front}
 use Rattle.book.specs.State.{holding}
@@ -76,24 +77,24 @@ nothing-yet {a₀} {src} {out₀} {out} {a} {at} {w} r z =
     let l : 0 ≡ length (take w out) = ap (λ (o : Outcome). length (o .bytes)) q in
     (ap (λ (o : Outcome). o .state .account) q, omega (arith, l, length-take-le w out (r .fits)))
 
-module _ {a₀ : Account} {src out₀ out : List ℕ} {a : Account} {at w : ℕ} (early : a₀ .stage < 2) (e : front src ≡ whole) (r : Running a₀ src out₀ out a at w) where
+module _ {a₀ : Account} {src out₀ out : List ℕ} {a : Account} {at w : ℕ} (early : a₀ .stage < 2) (r : Running a₀ src out₀ out a at w) where
   -- the book is closed or refused
   pub ran-ended : 2 ≤ a .stage → Ran a₀ src out₀ out a at w
   ran-ended h =
       record {
         reading = r .reading;
         least = r .least;
-        none = λ z. let q = ap (λ (b : Account). b .stage) (nothing-yet (r .reading) z .0) in absurd (omega arith);
+        none = λ z e. let q = ap (λ (b : Account). b .stage) (nothing-yet (r .reading) z .0) in absurd (omega arith);
       }
 
   -- all bytes are read
   pub ran-end : length src ≤ at → Ran a₀ src out₀ out a at w
-  ran-end h = let m = meaning src whole e in record { reading = r .reading; least = r .least; none = λ z. absurd (omega (arith, m .0)) }
+  ran-end h = record { reading = r .reading; least = r .least; none = λ z e. let m = meaning src whole e in absurd (omega (arith, m .0)) }
 
   -- no whole record is there
   pub ran-out : {n : ℕ} → Ready (drop at src) n → n ≡ 0 → Ran a₀ src out₀ out a at w
   ran-out y k =
-      record { reading = r .reading; least = r .least; none = λ z. let f : front (drop at src) ≡ whole = rw z e in absurd (y .none k f) }
+      record { reading = r .reading; least = r .least; none = λ z e. let f : front (drop at src) ≡ whole = rw z e in absurd (y .none k f) }
 
 -- one more record lies at the front of what is left, and j tells what it does
 pub record Next (a₀ : Account) (src out₀ out : List ℕ) (a : Account) (at w n : ℕ) (j : Judged) : Type 0 where
@@ -101,7 +102,7 @@ pub record Next (a₀ : Account) (src out₀ out : List ℕ) (a : Account) (at w
   pub still : a .stage < 2
   pub ready : Ready (drop at src) n
   pub some : 0 < n
-  pub tells : Tells (judge a (take n (drop at src))) j
+  pub tells : TellsIn (length out - w) a (judge a (take n (drop at src))) j
 
 module _ {a₀ : Account} {src out₀ out : List ℕ} {a : Account} {at w n : ℕ} {j : Judged} (x : Next a₀ src out₀ out a at w n j) where
   reading : Reading src out₀ (holding a₀ []) out (holding a []) at w
@@ -118,30 +119,31 @@ module _ {a₀ : Account} {src out₀ out : List ℕ} {a : Account} {at w n : �
   first-need z = let d : drop at src ≡ src = rw z in rw d at (is-record .1)
 
   -- its lines do not fit
-  pub ran-full : length out - w < j .line .len → Ran a₀ src out₀ out a at w
+  pub ran-full : length out - w < j .line .len → Ran a₀ src out₀ out (j .account) at w
   ran-full f =
-      record {
+      rw (account-kept (x .tells) f)
+      (record {
         reading = reading;
         least = x .running .least;
-        none = λ z.
+        none = λ z e.
             let q = nothing-yet reading z in
-            let b : length (joined (judge a (take n (drop at src)) .lines)) ≡ j .line .len = rw (← x .tells .bytes) (x .tells .long) in
             let c : judge a (take n (drop at src)) ≡ judge a₀ (take (need src) src) = rw (q .0, z, ← first-need z) in
-            let g : length (joined (judge a₀ (take (need src) src) .lines)) ≡ j .line .len = rw (← c) b in
+            let g : length (joined (judge a₀ (take (need src) src) .lines)) ≡ j .line .len = rw (← c) (lines-long (x .tells)) in
             omega (arith, g, q .1, f, reading .long);
-      }
+      })
 
   -- its line is written
   pub running-on : {out′ : List ℕ} → j .line .len ≤ length out - w → out′ ≡ paste out w (bytesOf j) (j .line .len)
       → Running a₀ src out₀ out′ (j .account) (at + n) (w + j .line .len)
   unfolding run
   running-on f p =
+      let t = tells-fit (x .tells) f in
       let fair = reading .range .account in
       record {
         reading =
-            read-line reading (bytesOf j) (j .line .len) p (omega (arith, reading .fits, f)) (x .tells .long) (holding (j .account) []) n record-inside
-            (range-idle (j .account) (rw (x .tells .account) (fair-judge a (take n (drop at src)) fair (x .still))))
-            (outcome-one (drop at src) n (is-record .0) (is-record .1) a j fair (x .still) (x .tells));
+            read-line reading (bytesOf j) (j .line .len) p (omega (arith, reading .fits, f)) (t .long) (holding (j .account) []) n record-inside
+            (range-idle (j .account) (rw (t .account) (fair-judge a (take n (drop at src)) fair (x .still))))
+            (outcome-one (drop at src) n (is-record .0) (is-record .1) a j fair (x .still) t);
         least = λ h.
             ⊎-elim (λ (g : 0 < at). let l = x .running .least g in omega arith)
             (λ (g : at ≤ 0). let m = first-need (omega arith) in omega arith)

@@ -4,22 +4,23 @@ use mathlib.Core.Path.{_≡_, refl, ap, sym, _∙_}
 use mathlib.Core.List.{List, [], _++_, append-nil}
 use mathlib.Core.Bool.{true, false}
 use native.Mathlib.Omega.{arith}
+use lib.Dec.{eqb}
 use lib.ListN.{length, take, drop, length-append, length-drop, drop-of-length-le, take-append-drop}
 use lib.Seq.{length-take-le, take-take, take-length, take-append-add}
-use Rattle.codec.specs.Codec.{valAt}
+use Rattle.codec.specs.Codec.{pick, valAt}
 use Rattle.account.specs.declared.Account.{Account}
 use Rattle.account.specs.Judge.{judge, refused}
 use Rattle.account.specs.Line.{joined}
 use Rattle.account.proofs.Keeps.{fair-length}
 use Rattle.book.specs.declared.State.{State}
 use Rattle.book.specs.declared.turns.Turn.{Turn}
-use Rattle.book.specs.Front.{unfinished, badLength, whole, need, front}
+use Rattle.book.specs.Front.{Front, unfinished, badLength, whole, need, front}
 use Rattle.book.specs.State.{heldOf, holding}
 use Rattle.book.specs.Run.{outcome, book, run}
-use Rattle.book.specs.Inner.{Gathered, Ran, Offered, Begins, Turned}
+use Rattle.book.specs.Inner.{Gathered, Ran, Offered, Begins, Turned, leftBy, codeOf}
 use Rattle.account.proofs.Tests.{no-bool}
 use Rattle.book.proofs.MovedBytes.{gathered-held, gathered-more}
-use Rattle.book.proofs.FrontLaws.{meaning, is-unfinished, is-bad, length-take-two, held-bad, held-whole}
+use Rattle.book.proofs.FrontLaws.{meaning, unfinished-short, is-unfinished, is-bad, length-take-two, held-bad, held-whole}
 use Rattle.book.proofs.RangeLaws.{held-length, range-holding, range-idle}
 use Rattle.book.proofs.RunLaws.{book-unfinished, book-bad}
 use Rattle.book.proofs.RecordLaws.{book-one, nothing-yet}
@@ -50,14 +51,11 @@ module _ {s : State} {src : List ℕ} (b : Begins s src) where
       let q = ap need parts in
       omega arith
 
-  pub turned-unfinished : {out : List ℕ} {s′ : State} → front src ≡ unfinished → s′ ≡ holding (s .account) (take (length src) src)
-      → Does s src out out (record { state = s′; taken = length src - s .count; written = 0; full = false })
-  turned-unfinished e h =
-      let h2 = rw (take-length src) at h in
+  turned-unfinished : {out : List ℕ} → front src ≡ unfinished → Does s src out out (leftBy unfinished (s .account) (s .count) src)
+  turned-unfinished e =
       let k : book (s .account) (take (length src) src) ≡ record { state = holding (s .account) src; lines = []; left = [] } =
       rw (take-length src) (book-unfinished (s .account) src (b .early) e) in
-      rw h2
-      (record {
+      record {
         range = range-holding (s .account) src (b .range .account) (b .early) e;
         inside = omega arith;
         long = refl;
@@ -66,11 +64,10 @@ module _ {s : State} {src : List ℕ} (b : Begins s src) where
         is = ap outcome (up-to (length src) (omega arith) ∙ k);
         some = λ f. omega arith;
         full = λ f. no-bool f;
-      })
+      }
 
-  pub turned-bad : {out : List ℕ} {s′ : State} {a : Account} → front src ≡ badLength → a ≡ refused (s .account) 1 0 → s′ ≡ holding a []
-      → Does s src out out (record { state = s′; taken = 2 - s .count; written = 0; full = false })
-  turned-bad e h h′ =
+  turned-bad : {out : List ℕ} → front src ≡ badLength → Does s src out out (leftBy badLength (s .account) (s .count) src)
+  turned-bad e =
       let m = meaning src badLength e in
       let c = bad-count e in
       let l : length (take 2 src) ≡ 2 = length-take-le 2 src (m .0) in
@@ -79,8 +76,7 @@ module _ {s : State} {src : List ℕ} (b : Begins s src) where
       let d : drop 2 (take 2 src) ≡ [] = drop-of-length-le (take 2 src) {i = 2} (omega (arith, l)) in
       let k : book (s .account) (take 2 src) ≡ record { state = holding (refused (s .account) 1 0) []; lines = []; left = [] } =
       rw d at (book-bad (s .account) (take 2 src) (b .early) f) in
-      rw (h′, h)
-      (record {
+      record {
         range = range-idle (refused (s .account) 1 0) (fair-length (s .account) (b .range .account));
         inside = omega arith;
         long = refl;
@@ -89,9 +85,9 @@ module _ {s : State} {src : List ℕ} (b : Begins s src) where
         is = ap outcome (up-to 2 (omega arith) ∙ k);
         some = λ g. omega arith;
         full = λ g. no-bool g;
-      })
+      }
 
-  module _ {out out′ : List ℕ} {a : Account} {at w : ℕ} (e : front src ≡ whole) (r : Ran (s .account) src out out′ a at w) where
+  module _ {out out′ : List ℕ} {a : Account} {at w : ℕ} (r : Ran (s .account) src out out′ a at w) where
     pub turned-told : {s′ : State} → 0 < at → s′ ≡ holding a [] → Does s src out out′ (record { state = s′; taken = at - s .count; written = w; full = false })
     unfolding run
     turned-told k h =
@@ -110,10 +106,10 @@ module _ {s : State} {src : List ℕ} (b : Begins s src) where
           full = λ g. no-bool g;
         })
 
-    pub turned-full : {s′ : State} (m : ℕ) → at ≡ 0 → m ≡ valAt src 0 2 + 1 → s′ ≡ holding (s .account) (take m src)
-        → Does s src out out′ (record { state = s′; taken = m - s .count; written = 0; full = true })
-    turned-full m z k h =
+    turned-full : at ≡ 0 → front src ≡ whole → Does s src out out′ (leftBy whole (s .account) (s .count) src)
+    turned-full z e =
         let y = r .reading in
+        let m = valAt src 0 2 + 1 in
         let c = whole-count in
         let o = meaning src whole e in
         let l : length (take m src) ≡ m = length-take-le m src (omega arith) in
@@ -123,8 +119,7 @@ module _ {s : State} {src : List ℕ} (b : Begins s src) where
         let i : s .count + (m - s .count + 1) ≡ need src = omega arith in
         let t : joined (book (s .account) (take (s .count + (m - s .count + 1)) src) .lines) ≡ joined (judge (s .account) (take (need src) src) .lines) =
         rw (i, book-one src (need src) e refl (s .account) (b .range .account) (b .early), append-nil) in
-        rw h
-        (record {
+        record {
           range = range-holding (s .account) (take m src) (b .range .account) (b .early) u;
           inside = omega arith;
           long = y .long;
@@ -132,8 +127,20 @@ module _ {s : State} {src : List ℕ} (b : Begins s src) where
           within = omega arith;
           is = ap outcome (up-to m (omega arith) ∙ book-unfinished (s .account) (take m src) (b .early) u);
           some = λ g. no-bool (sym g);
-          full = λ g. (omega arith, refl, rw t (r .none z));
-        })
+          full = λ g. (omega arith, refl, rw t (r .none z e));
+        }
+
+    -- no record was judged
+    pub turned-left : {t : Turn} → at ≡ 0 → t ≡ leftBy (front src) a (s .count) src → Does s src out out′ t
+    turned-left {t} z h = rw (h, ← nothing-yet (r .reading) z .0) (go (front src) refl)
+      where
+        same : out′ ≡ out
+        same = let d : drop 0 out′ ≡ drop 0 out = rw (nothing-yet (r .reading) z .1) at (r .reading .rest) in d
+
+        go : (f : Front) → front src ≡ f → Does s src out out′ (leftBy f (s .account) (s .count) src)
+        go unfinished e = rw same (turned-unfinished e)
+        go badLength e = rw same (turned-bad e)
+        go whole e = turned-full z e
 
 -- ---- a turn over what is gathered is a turn over the next bytes
 
@@ -189,3 +196,32 @@ module _ {s : State} {input : List ℕ} {i : ℕ} (o : Offered s input i) {src :
     turned-gathered a =
         let g2 : Gathered (heldOf s) (drop i input) rec n = rw e at g in
         rw (length-drop i input) at (turned-run s (drop i input) src (n - length (heldOf s)) (g2 .inside) (h ∙ g2 .bytes) (held-length s (o .range)) a)
+
+-- ---- what is left of src
+
+-- neither all of an unfinished record nor all but the last byte of a whole one are more than can be held
+module _ (xs : List ℕ) (front-code n : ℕ) (c : front-code ≡ codeOf (front xs)) (fine : front-code ≡ 1 → ⊥)
+    (e : n ≡ pick (eqb front-code 2) (valAt xs 0 2 + 1) (length xs)) where
+  by-front : (P : Front → ℕ → Type 0) → (front xs ≡ unfinished → P unfinished (length xs)) → (front xs ≡ whole → P whole (valAt xs 0 2 + 1)) → P (front xs) n
+  by-front P f g = rw (e, c) (go (front xs) refl)
+    where
+      go : (x : Front) → front xs ≡ x → P x (pick (eqb (codeOf x) 2) (valAt xs 0 2 + 1) (length xs))
+      go unfinished h = f h
+      go badLength h = absurd (fine (c ∙ ap codeOf h))
+      go whole h = g h
+
+  pub left-short : n ≤ 27
+  left-short = by-front (λ x m. m ≤ 27) (λ h. unfinished-short xs h) (λ h. let m = meaning xs whole h in omega (arith, m .2))
+
+  pub left-inside : n ≤ length xs
+  left-inside = by-front (λ x m. m ≤ length xs) (λ h. omega arith) (λ h. let m = meaning xs whole h in omega (arith, m .3))
+
+  pub left-more : {s : State} → Begins s xs → s .count ≤ n
+  left-more {s} b = by-front (λ x m. s .count ≤ m) (λ h. omega (arith, b .more)) (λ h. omega (arith, whole-count b))
+
+  pub left-is : (a : Account) (count : ℕ) (s′ : State) → s′ ≡ holding a (take n xs)
+      → record { state = s′; taken = n - count; written = 0; full = eqb front-code 2 } ≡ leftBy (front xs) a count xs
+  left-is a count s′ h =
+      rw (h, c)
+      (by-front (λ x m. record { state = holding a (take m xs); taken = m - count; written = 0; full = eqb (codeOf x) 2 } ≡ leftBy x a count xs)
+      (λ u. rw (take-length xs) refl) (λ u. refl))

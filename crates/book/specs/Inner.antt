@@ -5,8 +5,9 @@ use mathlib.Core.List.{List, [], _++_}
 use mathlib.Core.Bool.{true, false}
 use lib.ListN.{length, take, drop}
 use lib.Seq.{paste}
+use Rattle.codec.specs.Codec.{valAt}
 use Rattle.account.specs.declared.Account.{Account}
-use Rattle.account.specs.Judge.{judge}
+use Rattle.account.specs.Judge.{judge, refused}
 use Rattle.account.specs.Line.{joined}
 use Rattle.book.specs.declared.State.{State}
 use Rattle.book.specs.declared.Fed.{Fed}
@@ -40,6 +41,7 @@ pub record Filled (rec rec′ : List ℕ) (n goal : ℕ) (src : List ℕ) (k : �
 pub record Gathered (held xs rec : List ℕ) (n : ℕ) : Type 0 where
   pub least : length held < n
   pub array : n ≤ length rec
+  pub places : length rec ≡ 28
   pub inside : n - length held ≤ length xs
   pub bytes : take n rec ≡ held ++ take (n - length held) xs
 
@@ -53,11 +55,11 @@ pub record Reading (input out₀ : List ℕ) (s₀ : State) (out : List ℕ) (s 
   pub rest : drop w out ≡ drop w out₀
   pub so-far : outcome (run s₀ (take i input)) ≡ record { state = s; bytes = take w out; left = [] }
 
--- the whole records of src up to at are read; none, where the first one's lines do not fit
+-- the whole records of src up to at are read; none, where there is none or the first one's lines do not fit
 pub record Ran (a₀ : Account) (src out₀ out : List ℕ) (a : Account) (at w : ℕ) : Type 0 where
   pub reading : Reading src out₀ (holding a₀ []) out (holding a []) at w
   pub least : 0 < at → need src ≤ at
-  pub none : at ≡ 0 → length out₀ < length (joined (judge a₀ (take (need src) src) .lines))
+  pub none : at ≡ 0 → front src ≡ whole → length out₀ < length (joined (judge a₀ (take (need src) src) .lines))
 
 -- an open state has bytes of the input left from i on
 pub record Offered (s : State) (input : List ℕ) (i : ℕ) : Type 0 where
@@ -83,6 +85,13 @@ pub record Turned (gives : ℕ → Run) (most : ℕ) (out out′ : List ℕ) (t 
   pub is : outcome (gives (t .taken)) ≡ record { state = t .state; bytes = take (t .written) out′; left = [] }
   pub some : t .full ≡ false → 0 < t .taken
   pub full : t .full ≡ true → (t .taken < most) × (t .written ≡ 0) × (length out < length (joined (gives (t .taken + 1) .lines)))
+
+-- what a turn leaves of src, of which count bytes were held before, where it judges no record: an unfinished record is held, a bad length refused, and
+-- a record whose lines do not fit is held but for its last byte
+abbrev pub leftBy : Front → Account → ℕ → List ℕ → Turn
+leftBy unfinished a count src = record { state = holding a src; taken = length src - count; written = 0; full = false }
+leftBy badLength a count src = record { state = holding (refused a 1 0) []; taken = 2 - count; written = 0; full = false }
+leftBy whole a count src = record { state = holding a (take (valAt src 0 2 + 1) src); taken = valAt src 0 2 + 1 - count; written = 0; full = true }
 
 -- the answer to n bytes, with so many taken and written
 abbrev pub fed : State → ℕ → ℕ → ℕ → Fed

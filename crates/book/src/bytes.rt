@@ -1,4 +1,5 @@
 // Bytes moved and looked at, with no regard to what they mean.
+use codec::numbers::be32;
 ghost use mathlib.Core.Path.{_≡_};
 ghost use mathlib.Core.List.{_++_};
 ghost use Prim.Native.Nat.{_-_, _≤_};
@@ -22,11 +23,25 @@ pub(crate) fn rest_of(s: &[u8], i: usize) -> &[u8]
     &s[i..]
 }
 
+// A place from n on, up to which all are zero: four are looked at as one number.
+fn past_zeros(a: [u8; 27], n: usize) -> usize
+    ensures { λ i. ⌜ zeros (drop i a) ≡ zeros (drop n a) ⌝ }
+{
+    let mut i = n;
+    while i < 24 {
+        if be32(&a, i) != 0 {
+            return i;
+        }
+        i += 4;
+    }
+    i
+}
+
 // From n on all are zero.
 pub(crate) fn zeroed(a: [u8; 27], n: usize) -> bool
     ensures { λ r. ⌜ r ≡ zeros (drop n a) ⌝ }
 {
-    let mut i = n;
+    let mut i = past_zeros(a, n);
     while i < 27 {
         if a[i] != 0 {
             return false;

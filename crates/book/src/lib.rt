@@ -79,10 +79,30 @@ impl State {
         if 27 < n {
             return false;
         }
-        let fair = a.fair();
-        let unused = zeroed(held, n);
-        let front = front_of(&held, n);
-        fair & unused & (front == 0) & ((a.stage < 2) | (n == 0))
+        if !a.fair() {
+            return false;
+        }
+        if !zeroed(held, n) {
+            return false;
+        }
+        if front_of(&held, n) != 0 {
+            return false;
+        }
+        (a.stage < 2) | (n == 0)
+    }
+
+    // The same, its account moved field by field.
+    fn by_fields(self) -> State
+        ensures { λ r. ⌜ r ≡ self ⌝ }
+    {
+        let a = self.account;
+        let account = a.by_fields();
+        let held = self.held;
+        State {
+            account: account,
+            held: held,
+            count: self.count,
+        }
     }
 
     // Refusal 13: nothing taken, nothing written, and the state as it came.
@@ -94,8 +114,9 @@ impl State {
             number: 0,
             field: 0,
         };
+        let same = self.by_fields();
         Fed {
-            state: self,
+            state: same,
             taken: 0,
             written: 0,
             answer: Answer::Refused(refusal),
@@ -106,10 +127,11 @@ impl State {
     fn fed(self, taken: usize, written: usize, n: usize) -> Fed
         ensures { λ r. ⌜ r ≡ fed self taken written n ⌝ }
     {
-        let a = self.account;
+        let same = self.by_fields();
+        let a = same.account;
         let answer = answered(a, taken, n);
         Fed {
-            state: self,
+            state: same,
             taken: taken,
             written: written,
             answer: answer,

@@ -7,7 +7,6 @@ use account::line::write;
 ghost use mathlib.Core.Path.{_≡_};
 ghost use Prim.Native.Nat.{_<_};
 ghost use Rattle.account.specs.Range.{Fair};
-ghost use Rattle.book.specs.Front.{front, whole};
 ghost use Rattle.book.specs.Inner.{Ran};
 
 // What a run of whole records does: the account after them, the bytes read, and the bytes of lines written.
@@ -19,7 +18,7 @@ pub(crate) struct Records {
 
 // The records that lie whole at the front of src, one after the other, while the book is open and their lines fit.
 pub(crate) fn judge_all(from: Account, src: &[u8], out: &mut [u8]) -> Records
-    requires { ⌜ Fair from × (from .stage < 2) × (front (now src) ≡ whole) ⌝ }
+    requires { ⌜ Fair from × (from .stage < 2) ⌝ }
     ensures { λ r. ⌜ Ran from (now (src .entry)) (now (out .entry)) (now (out .exit)) (r .account) (r .at) (r .w) ⌝ }
 {
     let mut account = from;
@@ -35,13 +34,13 @@ pub(crate) fn judge_all(from: Account, src: &[u8], out: &mut [u8]) -> Records
             return Records { account, at, w };
         }
         let record = first_of(rest, n);
-        let j = account.judge(record);
+        let j = account.judge_within(record, out.len() - w);
         let line = j.line;
+        account = j.account;
         if out.len() - w < line.len {
             return Records { account, at, w };
         }
         write(out, w, j);
-        account = j.account;
         w += line.len;
         at += n;
     }

@@ -12,16 +12,12 @@ ghost use mathlib.Core.Path.{_≡_};
 ghost use mathlib.Core.List.{[]};
 ghost use Prim.Native.Nat.{_+_, _-_, _≤_, _<_};
 ghost use lib.ListN.{length, take, drop};
-ghost use Rattle.book.specs.Front.{front, whole};
+ghost use Rattle.codec.specs.Codec.{pick, valAt};
+ghost use lib.Dec.{eqb};
+ghost use Rattle.book.specs.Front.{front};
 ghost use Rattle.book.specs.State.{InRange, heldOf, holding};
 ghost use Rattle.book.specs.Run.{book, run};
-ghost use Rattle.book.specs.Inner.{Begins, Gathered, Offered, Turned};
-
-// The first n bytes are gathered.
-pub(crate) struct Gathering {
-    pub bytes: [u8; 28],
-    pub n: usize,
-}
+ghost use Rattle.book.specs.Inner.{Begins, Gathered, Offered, Turned, leftBy};
 
 // What one turn does: the state after it, the bytes taken and written, and whether the next line does not fit.
 pub(crate) struct Turn {
@@ -37,8 +33,9 @@ fn hold(account: Account, s: &[u8], n: usize) -> State
     ensures { λ r. ⌜ r ≡ holding account (take n (now (s .entry))) ⌝ }
 {
     let held = kept(s, n);
+    let same = account.by_fields();
     State {
-        account: account,
+        account: same,
         held: held,
         count: n,
     }
@@ -48,54 +45,62 @@ fn hold(account: Account, s: &[u8], n: usize) -> State
 fn idle(account: Account) -> State
     ensures { λ r. ⌜ r ≡ holding account [] ⌝ }
 {
+    let same = account.by_fields();
     State {
-        account: account,
+        account: same,
         held: [0; 27],
         count: 0,
     }
 }
 
+// How many bytes of src are held: all of an unfinished record, all but the last of a whole one.
+fn unread(src: &[u8], front: u8) -> usize
+    requires { ⌜ (front ≡ 2 → (2 ≤ length (now src)) × (valAt (now src) 0 2 ≤ 26)) ⌝ }
+    ensures { λ n. ⌜ n ≡ pick (eqb front 2) (valAt (now (src .entry)) 0 2 + 1) (length (now (src .entry))) ⌝ }
+{
+    if front == 2 {
+        return (be16(src, 0) as usize) + 1;
+    }
+    src.len()
+}
+
 impl State {
-    // The bytes held and the next of src, 28 at most: any record that the held bytes begin is whole in them.
-    fn gather(self, src: &[u8]) -> Gathering
-        requires { ⌜ InRange self × (0 < length (now src)) ⌝ }
-        ensures { λ r. ⌜ Gathered (heldOf self) (now (src .entry)) (r .bytes) (r .n) ⌝ }
+    // The bytes held and the next of src, 28 at most: any record that the held bytes begin is whole in them. How many they are.
+    fn gather(self, bytes: &mut [u8; 28], src: &[u8]) -> usize
+        requires { ⌜ InRange self × (0 < length (now src)) × (length (now bytes) ≡ 28) ⌝ }
+        ensures { λ n. ⌜ Gathered (heldOf self) (now (src .entry)) (now (bytes .exit)) n ⌝ }
     {
-        let mut bytes = [0u8; 28];
         let held = self.held;
         let count = self.count;
-        let h = fill(&mut bytes, 0, count, &held);
-        let k = fill(&mut bytes, h, 28, src);
-        Gathering {
-            bytes: bytes,
-            n: h + k,
-        }
+        fill(bytes, 0, 27, &held);
+        let k = fill(bytes, count, 28, src);
+        count + k
     }
 
-    // What the whole records of src do, which begins with the bytes held; where not even the first line fits, all but its record's last byte is held.
-    fn told(self, src: &[u8], out: &mut [u8]) -> Turn
-        requires { ⌜ Begins self (now src) × (front (now src) ≡ whole) ⌝ }
-        ensures { λ t. ⌜ Turned (λ n. book (self .account) (take (self .count + n) (now (src .entry)))) (length (now (src .entry)) - self .count) (now (out .entry)) (now (out .exit)) t ⌝ }
+    // What is left where no record was judged: an unfinished record is held, a bad length refused, a record whose lines do not fit held but for its
+    // last byte.
+    fn left(self, account: Account, src: &[u8]) -> Turn
+        requires { ⌜ Begins self (now src) ⌝ }
+        ensures { λ t. ⌜ t ≡ leftBy (front (now (src .entry))) account (self .count) (now (src .entry)) ⌝ }
     {
-        let a = self.account;
-        let r = judge_all(a, src, out);
-        if r.at == 0 {
-            let n = (be16(src, 0) as usize) + 1;
-            let s = hold(a, src, n);
+        let front = front_of(src, src.len());
+        if front == 1 {
+            let refused = account.refuse(1, 0);
+            let s = idle(refused);
             return Turn {
                 state: s,
-                taken: n - self.count,
+                taken: 2 - self.count,
                 written: 0,
-                full: true,
+                full: false,
             };
         }
-        let b = r.account;
-        let s = idle(b);
+        let n = unread(src, front);
+        let s = hold(account, src, n);
         Turn {
             state: s,
-            taken: r.at - self.count,
-            written: r.w,
-            full: false,
+            taken: n - self.count,
+            written: 0,
+            full: front == 2,
         }
     }
 
@@ -105,28 +110,18 @@ impl State {
         ensures { λ t. ⌜ Turned (λ n. book (self .account) (take (self .count + n) (now (src .entry)))) (length (now (src .entry)) - self .count) (now (out .entry)) (now (out .exit)) t ⌝ }
     {
         let a = self.account;
-        let n = src.len();
-        let front = front_of(src, n);
-        if front == 0 {
-            let s = hold(a, src, n);
-            return Turn {
-                state: s,
-                taken: n - self.count,
-                written: 0,
-                full: false,
-            };
+        let r = judge_all(a, src, out);
+        let b = r.account;
+        if r.at == 0 {
+            return self.left(b, src);
         }
-        if front == 1 {
-            let b = a.refuse(1, 0);
-            let s = idle(b);
-            return Turn {
-                state: s,
-                taken: 2 - self.count,
-                written: 0,
-                full: false,
-            };
+        let s = idle(b);
+        Turn {
+            state: s,
+            taken: r.at - self.count,
+            written: r.w,
+            full: false,
         }
-        self.told(src, out)
     }
 
     // One turn over the input from i on.
@@ -138,9 +133,9 @@ impl State {
         if self.count == 0 {
             self.turn(rest, out)
         } else {
-            let g = self.gather(rest);
-            let bytes = g.bytes;
-            let src = first_of(&bytes, g.n);
+            let mut bytes = [0u8; 28];
+            let n = self.gather(&mut bytes, rest);
+            let src = first_of(&bytes, n);
             self.turn(src, out)
         }
     }

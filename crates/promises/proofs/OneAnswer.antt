@@ -1,11 +1,16 @@
 -- One answer: each public function answers every input, and two answers that meet its contract are equal. The contracts are those of the
 -- source itself: Learnt is what a caller learns from a function's `ensures`, Asked what its `requires` ask.
+use Prim.Native.Nat.{ℕ, _≤_, _<_}
 use mathlib.Core.Path.{_≡_, sym, _∙_, ap}
+use mathlib.Core.Logic.{⊎-elim}
 use lib.ListN.{length}
 use Rattle.account.specs.declared.Judged.{Judged}
 use Rattle.account.specs.Line.{bytesOf}
 use Rattle.account.specs.Judge.{Step}
-use Rattle.account.specs.Told.{Tells}
+use Rattle.account.specs.Told.{Tells, TellsIn}
+use Rattle.account.specs.declared.Account.{Account}
+use Rattle.account.proofs.Tests.{lt-or-ge}
+use Rattle.account.proofs.Told.{tells-fit, account-kept, lines-long}
 use mathlib.Core.Bool.{Bool}
 use contract.Lifetimes.{Lfts}
 use borrow.Fn.Kinds.{Dens, endedOf}
@@ -59,3 +64,14 @@ pub one-judge : (j : Step) (one other : Judged) → Tells j one → Tells j othe
 one-judge j one other p q =
     let b : bytesOf one ≡ bytesOf other = p .bytes ∙ sym (q .bytes) in
     (p .account ∙ sym (q .account), (b, sym (p .long) ∙ ap length b ∙ q .long))
+
+-- Two answers that meet judge_within's contract have the same account and as many bytes of lines; where those fit, both tell what judge's would.
+pub one-judge-within : (room : ℕ) (a : Account) (j : Step) (one other : Judged) → TellsIn room a j one → TellsIn room a j other
+    → (one .account ≡ other .account) × (one .line .len ≡ other .line .len)
+one-judge-within room a j one other p q =
+    let l : one .line .len ≡ other .line .len = sym (lines-long p) ∙ lines-long q in
+    let b : one .account ≡ other .account =
+    ⊎-elim (λ (h : room < one .line .len). account-kept p h ∙ sym (account-kept q (rw l at h)))
+    (λ (h : one .line .len ≤ room). tells-fit p h .account ∙ sym (tells-fit q (rw l at h) .account))
+    (lt-or-ge room (one .line .len)) in
+    (b, l)

@@ -8,17 +8,17 @@ use Rattle.benchdesk.proofs.bench_parts.Statement.{statement}
 use Rattle.benchdesk.proofs.bench_parts.Tie as tie
 
 abbrev Inv-loop : tie.InvT-loop
-Inv-loop book lines₀ part state₀ i₀ w₀ calls₀ lines state i w calls = (i ≤ length book) × (w ≤ length lines) × (length lines ≡ length lines₀)
+Inv-loop book lines₀ part account₀ held₀ count₀ i₀ w₀ calls₀ lines account held count i w calls = (i ≤ length book) × (w ≤ length lines) × (length lines ≡ length lines₀)
 
 abbrev μ-loop : tie.MeasureT-loop
-μ-loop book lines₀ part state₀ i₀ w₀ calls₀ lines state i w calls = calls
+μ-loop book lines₀ part account₀ held₀ count₀ i₀ w₀ calls₀ lines account held count i w calls = calls
 
 -- what a call took and wrote lies in what was left
 ahead : (c : tie.After-feed-part Inv-loop μ-loop)
-    → (c .before .before .before .before .loop .i + c .feed-part .result .taken ≤ length (c .before .before .before .before .before .before .before .before .args .book .now)) × (c .before .before .before .before .loop .w + c .feed-part .result .written ≤ length (c .before .before .before .before .loop .lines))
+    → (c .before .before .before .before .loop .i + c .feed-part .result .taken ≤ length (c .before .before .before .before .before .before .before .before .before .before .args .book .now)) × (c .before .before .before .before .loop .w + c .feed-part .result .written ≤ length (c .before .before .before .before .loop .lines))
 ahead c =
     let l = c .before .before .before .before in
-    let book = l .before .before .before .before .args .book .now in
+    let book = c .before .before .before .before .before .before .before .before .before .before .args .book .now in
     let d = length-drop (l .loop .i) book in
     let t = length-take-le (length book - l .loop .i) (drop (l .loop .i) book) (omega arith) in
     let e = length-drop (l .loop .w) (l .loop .lines) in
@@ -41,14 +41,14 @@ bench-parts-spec =
     (λ c. search needs)
     (λ c. search needs)
     (λ c κs. search needs)
-    (λ c. omega (arith, ahead (c .before .before .before .before) .0, c .before .before .before .before .before .before .before .before .before .before .before .before .good))
-    (λ c. omega (arith, ahead (c .before .before .before .before .before) .1, c .before .before .before .before .before .before .before .before .before .loop .inv .2, c .before .before .before .before .before .before .before .before .before .before .before .before .before .good))
+    (λ c. omega (arith, ahead (c .before .before .before .before .before .before) .0, c .before .before .before .before .before .before .before .before .before .before .before .before .before .before .before .before .good))
+    (λ c. omega (arith, ahead (c .before .before .before .before .before .before .before) .1, c .before .before .before .before .before .before .before .before .before .before .before .loop .inv .2, c .before .before .before .before .before .before .before .before .before .before .before .before .before .before .before .before .before .good))
     (λ c κs. search needs)
     (λ c κs. search needs)
+    (λ c. search (needs, c .before .before .before .before .before .before .before .before .before .before .before .before .before .before .loop .inv .2))
     (λ c. search needs)
     (λ c. search needs)
-    (λ c. search needs)
-    (λ c. let a = ahead (c .before .before .before .before .before .before .before) in search needs)
+    (λ c. let a = ahead (c .before .before .before .before .before .before .before .before .before) in search (needs, a .0, a .1, c .before .before .before .before .before .before .before .before .before .before .before .before .before .loop .inv .2))
     (λ c κs. search needs)
     (λ c. search needs)
     (λ c. search needs))

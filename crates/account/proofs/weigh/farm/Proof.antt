@@ -1,35 +1,7 @@
--- Refused by 5, 6 or 7; else the book is open. Assumes nothing.
-use mathlib.Core.Path.{_≡_, refl}
-use native.Mathlib.Omega.{arith}
-use borrow.Author.Needs.{needs}
-use Rattle.account.specs.Judge.{inPlace, first, accepted}
-use Rattle.account.proofs.Ranges.{farm-in}
-use Rattle.account.proofs.Told.{tells-quiet, Passes, passes, stops, accepts}
+-- Any record's lines fit 100 bytes. Assumes nothing.
+use Rattle.account.proofs.Told.{tells-fit, lines-short}
 use Rattle.account.proofs.weigh.farm.Statement.{statement}
 use Rattle.account.proofs.weigh.farm.Tie as tie
 
-returns : tie.Need-returns
-unfolding inPlace
-returns c = stops _ 1 _ _ _ _ refl (c .before .before .before .before .farm .ensures) (c .before .before .barred .ensures) _ (c .before .if1 .taken) (c .stopped .ensures)
-
-passed : (c : tie.Else1) → Passes (c .before .before .before .before .args .a) 1 (c .before .before .before .before .args .t2)
-unfolding inPlace
-passed c = passes _ 1 _ _ _ _ refl (c .before .before .before .farm .ensures) (c .before .barred .ensures) (c .if1 .left)
-
-returns-2 : tie.Need-returns-2
-unfolding first accepted
-returns-2 c = rw (accepts _ 1 _ (passed (c .before .before)) refl, c .silent .ensures) (tells-quiet _)
-
 pub farm-spec : {M : Type 1} → statement M
-farm-spec =
-    tie.close
-    (tie.spec
-    (λ c κs. tt)
-    (λ c κs. tt)
-    (λ c κs. tt)
-    returns
-    (λ c. omega (arith, passed (c .before) .room))
-    (λ c. search needs)
-    (λ c. omega (arith, farm-in _ (passed (c .before) .ranges) .set-most))
-    (λ c κs. tt)
-    returns-2)
+farm-spec = tie.close (tie.spec (λ c κs. c .pre) (λ c. tells-fit (c .farm .ensures) (lines-short (c .farm .ensures))))

@@ -9,7 +9,7 @@ use Rattle.account.proofs.whole.cattle.Tie as tie
 
 returns : tie.Need-returns
 unfolding table size
-returns c = wrong-length _ 4 _ 22 (c .before .before .before .pre .2) refl refl _ (c .before .if1 .taken) (c .wrong .ensures)
+returns c = wrong-length _ 4 _ 22 (c .before .before .before .pre .2) refl refl _ _ (c .before .if1 .taken) (c .wrong .ensures)
 
 returns-2 : tie.Need-returns-2
 unfolding table size

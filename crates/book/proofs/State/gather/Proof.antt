@@ -18,5 +18,5 @@ gather-spec =
     (λ c. search needs)
     (λ c.
     let h = c .before .before .before .before .before in
-    let p = h .before .before .pre in
-    gathered _ _ _ _ _ _ _ _ (places h) (p .0 .count) (p .1) refl (c .before .before .fill .ensures) (c .fill2 .ensures)))
+    let p = c .before .before .before .before .before .before .before .pre in
+    gathered _ _ _ _ _ _ _ _ (places h) (p .0 .count) (p .1) (p .2) (c .before .before .fill .ensures) (c .fill2 .ensures)))

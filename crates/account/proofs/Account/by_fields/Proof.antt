@@ -1,0 +1,7 @@
+-- Assumes nothing.
+use mathlib.Core.Path.{refl}
+use Rattle.account.proofs.Account.by_fields.Statement.{statement}
+use Rattle.account.proofs.Account.by_fields.Tie as tie
+
+pub by-fields-spec : {M : Type 1} → statement M
+by-fields-spec = tie.close (tie.spec (λ c. refl))
