@@ -1,6 +1,6 @@
 -- Laws of a record's values and bytes, over any row of fields.
 -- Assumes nothing.
-use mathlib.Core.Path.{_≡_, refl, ap}
+use mathlib.Core.Path.{_≡_, refl, sym, ap, _∙_}
 use mathlib.Core.List.{List, [], _∷_}
 use Prim.Native.Nat.{ℕ, suc, _+_, _<_}
 use native.Mathlib.Omega.{arith}
@@ -43,7 +43,7 @@ values-drop fs s n = values-same fs (drop n s) s 0 n (λ k l. rw (getD-drop, zer
 
 -- ---- the same values, each field by how far it stands from the first
 
-abbrev pub valuesFrom : List Field → List ℕ → ℕ → ℕ → List ℕ
+abbrev valuesFrom : List Field → List ℕ → ℕ → ℕ → List ℕ
 valuesFrom [] s at o = []
 valuesFrom (f ∷ fs) s at o = valAt s (at + o) (f .0) ∷ valuesFrom fs s at (o + f .0)
 
@@ -52,6 +52,20 @@ unfolding valuesAt
 values-from [] s at o = refl
 values-from (f ∷ fs) s at o = rw (← values-from fs s at (o + f .0), ← add-assoc at o (f .0))
 
-pub values-placed : (f : Field) (fs : List Field) (s : List ℕ) (at : ℕ) → valuesAt (f ∷ fs) s at ≡ valAt s at (f .0) ∷ valuesFrom fs s at (f .0)
+-- each of the values vs is the number at its field: equations of numbers, which omega finds among what the calls gave
+abbrev pub Placed : List Field → List ℕ → List ℕ → ℕ → ℕ → Type 0
+Placed [] [] s at o = Unit
+Placed [] (v ∷ vs) s at o = v ∷ vs ≡ []
+Placed (f ∷ fs) [] s at o = [] ≡ valuesFrom (f ∷ fs) s at o
+Placed (f ∷ fs) (v ∷ vs) s at o = (v ≡ valAt s (at + o) (f .0)) × Placed fs vs s at (o + f .0)
+
+placed-from : (fs : List Field) (vs s : List ℕ) (at o : ℕ) → Placed fs vs s at o → vs ≡ valuesFrom fs s at o
+placed-from [] [] s at o p = refl
+placed-from [] (v ∷ vs) s at o p = p
+placed-from (f ∷ fs) [] s at o p = p
+placed-from (f ∷ fs) (v ∷ vs) s at o p = λ j. p .0 j ∷ placed-from fs vs s at (o + f .0) (p .1) j
+
+-- then they are the values
+pub values-read : (f : Field) (fs : List Field) (v : ℕ) (vs s : List ℕ) (at : ℕ) → v ≡ valAt s at (f .0) → Placed fs vs s at (f .0) → v ∷ vs ≡ valuesAt (f ∷ fs) s at
 unfolding valuesAt
-values-placed f fs s at = ap (λ k. valAt s at (f .0) ∷ k) (values-from fs s at (f .0))
+values-read f fs v vs s at e p = λ j. e j ∷ (placed-from fs vs s at (f .0) p ∙ sym (values-from fs s at (f .0))) j

@@ -1,4 +1,4 @@
-use borrow.Author.Needs.{needs}
+use native.Mathlib.Omega.{arith}
 use Rattle.text.proofs.Puts.{and-then}
 use Rattle.listing.proofs.Lines.{end-closed, end-unfinished, end-refused}
 use Rattle.listing.proofs.put_end.Statement.{statement}
@@ -8,28 +8,28 @@ pub put-end-spec : {M : Type 1} → statement M
 put-end-spec =
     tie.close
     (tie.spec
-    (λ c. search needs)
-    (λ c κs. search needs)
-    (λ c. search needs)
+    (λ c. omega arith)
+    (λ c κs. omega arith)
+    (λ c. omega arith)
     (λ c.
     let w = c .before .before in
     let i = w .before .before .before in
     rw (end-closed (i .before .before .before .args .account) (i .if1 .taken)) (w .put-word .ensures))
-    (λ c. search needs)
-    (λ c κs. search needs)
-    (λ c. search needs)
+    (λ c. omega arith)
+    (λ c κs. omega arith)
+    (λ c. omega arith)
     (λ c.
     let w = c .before .before in
     let i = w .before .before .before in
     rw (end-unfinished (i .before .before .before .before .before .args .account) (i .before .before .if1 .left) (i .if2 .taken)) (w .put-word2 .ensures))
-    (λ c. search needs)
-    (λ c. search needs)
-    (λ c. search needs)
-    (λ c. search needs)
-    (λ c κs. search needs)
-    (λ c. search needs)
-    (λ c κs. search needs)
-    (λ c. search needs)
+    (λ c. omega arith)
+    (λ c. omega arith)
+    (λ c. omega arith)
+    (λ c. omega arith)
+    (λ c κs. omega arith)
+    (λ c. omega arith)
+    (λ c κs. omega arith)
+    (λ c. omega arith)
     (λ c.
     let n = c .before .before in
     let w = n .before .before .before .before .before in

@@ -1,5 +1,6 @@
 -- `codec::lines::five` meets its contract: five numbers.
 -- Assumes nothing.
+use mathlib.Core.Path.{refl}
 use native.Mathlib.Omega.{arith}
 use Rattle.codec.proofs.lines.five.Statement.{statement}
 use Rattle.codec.proofs.lines.five.Tie as tie
@@ -19,4 +20,4 @@ five-spec =
     (λ c. omega arith)
     (λ c κs. omega arith)
     (λ c. omega arith)
-    (λ c. cc))
+    (λ c. rw (c .before .before .put85 .ensures, c .before .before .before .before .before .before .put84 .ensures, c .before .before .before .before .before .before .before .before .before .before .put83 .ensures, c .before .before .before .before .before .before .before .before .before .before .before .before .before .before .put82 .ensures, c .before .before .before .before .before .before .before .before .before .before .before .before .before .before .before .before .before .before .put8 .ensures) refl))

@@ -1,7 +1,7 @@
 -- `codec::read::cattle` meets its contract.
 -- Assumes nothing.
 use Rattle.codec.specs.Table.{table}
-use Rattle.codec.proofs.Values.{values-placed}
+use Rattle.codec.proofs.Values.{values-read}
 use native.Mathlib.Omega.{arith}
 use Rattle.codec.proofs.read.cattle.Statement.{statement}
 use Rattle.codec.proofs.read.cattle.Tie as tie
@@ -28,4 +28,4 @@ cattle-spec =
     (λ c κs. omega arith)
     (λ c. omega arith)
     (λ c κs. omega arith)
-    (λ c. rw values-placed (cc)))
+    (λ c. values-read _ _ _ _ _ _ (omega arith) (omega arith)))

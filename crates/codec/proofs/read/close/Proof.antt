@@ -1,8 +1,7 @@
 -- `codec::read::close` meets its contract.
 -- Assumes nothing.
-use mathlib.Core.Path.{refl}
 use Rattle.codec.specs.Table.{table}
-use Rattle.codec.proofs.Values.{values-placed}
+use Rattle.codec.proofs.Values.{values-read}
 use native.Mathlib.Omega.{arith}
 use Rattle.codec.proofs.read.close.Statement.{statement}
 use Rattle.codec.proofs.read.close.Tie as tie
@@ -13,4 +12,4 @@ close-spec =
     tie.close
     (tie.spec
     (λ c κs. omega arith)
-    (λ c. rw (values-placed, c .be16 .ensures) refl))
+    (λ c. values-read _ _ _ _ _ _ (omega arith) tt))

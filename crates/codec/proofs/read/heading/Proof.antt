@@ -1,8 +1,7 @@
 -- `codec::read::heading` meets its contract.
 -- Assumes nothing.
-use mathlib.Core.Path.{refl}
 use Rattle.codec.specs.Table.{table}
-use Rattle.codec.proofs.Values.{values-placed}
+use Rattle.codec.proofs.Values.{values-read}
 use native.Mathlib.Omega.{arith}
 use Rattle.codec.proofs.read.heading.Statement.{statement}
 use Rattle.codec.proofs.read.heading.Tie as tie
@@ -17,4 +16,4 @@ heading-spec =
     (λ c κs. omega arith)
     (λ c. omega arith)
     (λ c κs. omega arith)
-    (λ c. rw (values-placed, c .be162 .ensures, c .before .be8 .ensures, c .before .before .be16 .ensures) refl))
+    (λ c. values-read _ _ _ _ _ _ (omega arith) (omega arith)))

@@ -1,7 +1,7 @@
 -- `codec::read::pig` meets its contract.
 -- Assumes nothing.
 use Rattle.codec.specs.Table.{table}
-use Rattle.codec.proofs.Values.{values-placed}
+use Rattle.codec.proofs.Values.{values-read}
 use native.Mathlib.Omega.{arith}
 use Rattle.codec.proofs.read.pig.Statement.{statement}
 use Rattle.codec.proofs.read.pig.Tie as tie
@@ -34,4 +34,4 @@ pig-spec =
     (λ c κs. omega arith)
     (λ c. omega arith)
     (λ c κs. omega arith)
-    (λ c. rw values-placed (cc)))
+    (λ c. values-read _ _ _ _ _ _ (omega arith) (omega arith)))

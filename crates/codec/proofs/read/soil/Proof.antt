@@ -1,8 +1,7 @@
 -- `codec::read::soil` meets its contract.
 -- Assumes nothing.
-use mathlib.Core.Path.{refl}
 use Rattle.codec.specs.Table.{table}
-use Rattle.codec.proofs.Values.{values-placed}
+use Rattle.codec.proofs.Values.{values-read}
 use native.Mathlib.Omega.{arith}
 use Rattle.codec.proofs.read.soil.Statement.{statement}
 use Rattle.codec.proofs.read.soil.Tie as tie
@@ -13,4 +12,4 @@ soil-spec =
     tie.close
     (tie.spec
     (λ c κs. omega arith)
-    (λ c. rw (values-placed, c .be32 .ensures) refl))
+    (λ c. values-read _ _ _ _ _ _ (omega arith) tt))

@@ -1,5 +1,6 @@
 -- `codec::write::start` meets its contract: three numbers.
 -- Assumes nothing.
+use mathlib.Core.Path.{refl}
 use native.Mathlib.Omega.{arith}
 use Rattle.codec.proofs.write.start.Statement.{statement}
 use Rattle.codec.proofs.write.start.Tie as tie
@@ -14,4 +15,4 @@ start-spec =
     (λ c. omega arith)
     (λ c κs. omega arith)
     (λ c. omega arith)
-    (λ c. cc))
+    (λ c. rw (c .before .before .put12 .ensures, c .before .before .before .before .before .before .put1 .ensures, c .before .before .before .before .before .before .before .before .before .before .put2 .ensures) refl))
