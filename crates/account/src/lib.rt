@@ -1,18 +1,12 @@
-// The account that a book's records have made so far, and what one whole record does to it.
+// The account that a book's records have made so far. What a record does to it is said in specs/Judge and carried out by weighing and judging.
 mod fair;
 pub mod line;
-pub mod weigh;
-mod whole;
-mod within;
 
 use grams::units::N2o;
 use line::Line;
 ghost use mathlib.Core.Path.{_≡_};
-ghost use Prim.Native.Nat.{_+_, _<_, _≤_};
-ghost use lib.ListN.{length};
-ghost use Rattle.account.specs.Range.{Fair, fair};
-ghost use Rattle.account.specs.Judge.{Whole, noRecord, refused, judge};
-ghost use Rattle.account.specs.Told.{Tells, TellsIn, refusing};
+ghost use Rattle.account.specs.Range.{fair};
+ghost use Rattle.account.specs.Judge.{noRecord, refused};
 
 // A group heading: its number, its class (1 milking, 2 dry, 3 heifer, 4 pig) and its head count; all zero where there is none.
 pub struct Heading {
@@ -164,53 +158,10 @@ impl Account {
         next
     }
 
-    // Refused, with no line.
-    fn wrong(self, code: u8, field: u8) -> Judged
-        ensures { λ r. ⌜ r ≡ refusing self code field ⌝ }
-    {
-        let next = self.refuse(code, field);
-        let none = line::none();
-        Judged {
-            account: next,
-            line: none,
-        }
-    }
-
     // Whether every field is in its range.
     pub fn fair(self) -> bool
         ensures { λ r. ⌜ r ≡ fair self ⌝ }
     {
         fair::test(self)
-    }
-
-    // What the whole record r does.
-    pub fn judge(self, r: &[u8]) -> Judged
-        requires { ⌜ Fair self × (self .stage < 2) × Whole (now r) ⌝ }
-        ensures { λ j. ⌜ Tells (judge self (now (r .entry))) j ⌝ }
-    {
-        self.judge_within(r, 100)
-    }
-
-    // What the whole record r does where its lines fit the room; where they do not, the account is handed back as it came.
-    pub fn judge_within(self, r: &[u8], room: usize) -> Judged
-        requires { ⌜ Fair self × (self .stage < 2) × Whole (now r) ⌝ }
-        ensures { λ j. ⌜ TellsIn room self (judge self (now (r .entry))) j ⌝ }
-    {
-        let version = r[2];
-        if version != 1 {
-            return self.wrong(2, 0);
-        }
-        let kind = r[3];
-        match kind {
-            1 => whole::farm(self, r, room),
-            2 => whole::heading(self, r, room),
-            3 => whole::enteric(self, r, room),
-            4 => whole::cattle(self, r, room),
-            5 => whole::pig(self, r, room),
-            6 => whole::energy(self, r, room),
-            7 => whole::soil(self, r, room),
-            8 => whole::close(self, r, room),
-            _ => self.wrong(3, 0),
-        }
     }
 }

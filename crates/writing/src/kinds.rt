@@ -1,7 +1,7 @@
 // The eight kinds, each by its number: how many values and bytes it has, what its values do, and its record.
 use account::Account;
 use account::Judged;
-use account::weigh;
+use judging::weigh;
 ghost use mathlib.Core.Path.{_≡_};
 ghost use Prim.Native.Nat.{_+_, _<_, _≤_};
 ghost use lib.ListN.{length};

@@ -1,7 +1,0 @@
--- Assumes nothing.
-use borrow.Author.Needs.{needs}
-use Rattle.account.proofs.Account.wrong.Statement.{statement}
-use Rattle.account.proofs.Account.wrong.Tie as tie
-
-pub wrong-spec : {M : Type 1} → statement M
-wrong-spec = tie.close (tie.spec (λ c κs. tt) (λ c κs. tt) (λ c. cc))
