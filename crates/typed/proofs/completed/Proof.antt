@@ -10,5 +10,5 @@ completed-spec =
     tie.close
     (tie.spec
     (λ c. search needs)
-    (λ c. (filled _ _ (c .if1 .taken), refl))
-    (λ c. (kept _ _ (c .if1 .left), search needs)))
+    (λ c. let a = c .before .before .before .args in (filled (a .entry) (a .records) (c .if1 .taken), refl))
+    (λ c. let a = c .before .before .before .args in (kept (a .entry) (a .records) (c .if1 .left), search needs)))
