@@ -25,7 +25,7 @@ ghost use Rattle.account.specs.Figures.{added, grouped, groupFigures, ch4Alone,
 ghost use Rattle.grams.specs.Farm.{warmingOf};
 ghost use Rattle.account.specs.Range.{Fair, Bounded, Grouped};
 ghost use Rattle.account.specs.Judge.{first, weigh};
-ghost use Rattle.account.specs.Told.{TellsIn, Small, inRoom, quiet, refusing, detailing, groupLine, heading, closing};
+ghost use Rattle.account.specs.Told.{TellsIn, Small, inRoom, noLine, quiet, refusing, detailing, heading, closing};
 
 // Refused, with no line.
 pub fn wrong(a: Account, code: u8, field: u8) -> Judged
@@ -201,20 +201,18 @@ fn group_figures(s: Subtotal) -> Figures
     }
 }
 
-// The subtotal of the group that a new heading ends; no line where there was no heading.
-fn group_line(a: Account) -> Line
-    ensures { λ r. ⌜ r ≡ groupLine a ⌝ }
+// The line of a group with this subtotal; no line where there was no heading.
+fn group_line(group: u16, s: Subtotal) -> Line
+    ensures { λ r. ⌜ r ≡ pick (eqb group 0) noLine (record { len = 46; kind = 16; group = group; figures = groupFigures s; co2e = 0 }) ⌝ }
 {
-    let h = a.heading;
-    if h.group == 0 {
+    if group == 0 {
         return line::none();
     }
-    let s = a.subtotal;
     let f = group_figures(s);
     Line {
         len: 46,
         kind: 16,
-        group: h.group,
+        group: group,
         figures: f,
         co2e: 0,
     }
@@ -265,7 +263,9 @@ fn headed(a: Account, h: Heading, room: usize) -> Judged
     requires { ⌜ a .records < 4096 ⌝ }
     ensures { λ r. ⌜ r ≡ inRoom room a (heading a (h .group) (h .class) (h .head)) ⌝ }
 {
-    let line = group_line(a);
+    let last = a.heading;
+    let s = a.subtotal;
+    let line = group_line(last.group, s);
     if room < line.len {
         return full(a, line);
     }

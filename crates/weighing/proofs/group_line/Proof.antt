@@ -12,4 +12,4 @@ group-line-spec =
     (λ c κs. tt)
     (λ c. rw (eq-eqb _ 0 (c .before .if1 .taken)) (c .none .ensures))
     (λ c κs. tt)
-    (λ c. rw (ne-eqb _ 0 (c .before .before .if1 .left), c .group-figures .ensures) refl))
+    (λ c. rw (ne-eqb _ 0 (c .before .if1 .left), c .group-figures .ensures) refl))
