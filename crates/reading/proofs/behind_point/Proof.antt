@@ -1,4 +1,4 @@
-use mathlib.Core.Path.{_∙_}
+use mathlib.Core.Path.{refl, _∙_}
 use Rattle.reading.proofs.Blanks.{past-end}
 use borrow.Author.Needs.{needs}
 use Rattle.reading.proofs.behind_point.Statement.{statement}
@@ -12,4 +12,4 @@ behind-point-spec =
     (λ c. c .rest-of .ensures ∙ past-end (c .before .before .before .args .s .now) (c .before .before .before .args .p) (search needs))
     (λ c. search needs)
     (λ c κs. search needs)
-    (λ c. search needs))
+    (λ c. rw (c .rest-of2 .ensures) refl))
