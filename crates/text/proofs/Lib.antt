@@ -2,3 +2,4 @@ pub mod Digits
 pub mod Examples
 pub mod Joined
 pub mod Puts
+pub mod Sayings

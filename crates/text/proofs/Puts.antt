@@ -4,8 +4,8 @@ use native.Mathlib.Omega.{arith}
 use native.Mathlib.Numerals.{add-one}
 use mathlib.Core.Path.{_≡_, refl, sym, ap, _∙_}
 use mathlib.Core.List.{List, [], _∷_, _++_, append-assoc}
-use lib.ListN.{length, set, take, drop, length-append, length-drop, take-append-drop}
-use lib.Seq.{length-take-le, set-split, take-at, drop-append-add, drop-drop}
+use lib.ListN.{length, getD, set, take, drop, length-append, length-drop, take-append-drop}
+use lib.Seq.{length-take-le, set-split, take-at, take-suc, drop-append-add, drop-drop}
 use Rattle.text.specs.Decimal.{Put}
 
 pub none : (xs : List ℕ) (at : ℕ) → at ≤ length xs → Put xs xs at [] at
@@ -35,3 +35,10 @@ module _ {xs ys : List ℕ} {at r : ℕ} {s : List ℕ} (a : Put xs ys at s r) w
         room = omega (arith, b .room, put-length);
         text = b .text ∙ rw (front, behind) (simp append-assoc);
       }
+
+-- one byte more of a text
+pub put-more : {out₀ out : List ℕ} {at : ℕ} (text : List ℕ) (i : ℕ) → Put out₀ out at (take i text) (at + i) → i < length text → at + i < length out
+    → Put out₀ (set out (at + i) (getD text i 0)) at (take (i + 1) text) (at + (i + 1))
+put-more {out₀} {out} {at} text i p h k =
+    let e : at + i + 1 ≡ at + suc i = omega arith in
+    rw (add-one i, take-suc text i 0 h) (rw e at (and-then p (one out (at + i) (getD text i 0) k)))

@@ -1,9 +1,10 @@
 // Decimal text: numbers written into a buffer that the caller lends.
 ghost use mathlib.Core.Path.{_≡_};
 ghost use Prim.Native.Nat.{_+_, _*_, _≤_, _<_};
-ghost use lib.ListN.{length, drop};
+ghost use lib.ListN.{length, take, drop};
 ghost use mathlib.Core.List.{_∷_, []};
 ghost use Rattle.text.specs.Decimal.{digit, decimal, thousandths, spaced, numbersLine, Put};
+ghost use Rattle.text.specs.Said.{Said};
 
 // The digits before the last, then the last.
 fn put_digits(out: &mut [u8], at: usize, v: u64) -> usize
@@ -90,4 +91,44 @@ pub fn put_thousandths(out: &mut [u8], at: usize, v: u64) -> usize
     let tenth = put_digit(out, point, v / 100 % 10);
     let hundredth = put_digit(out, tenth, v / 10 % 10);
     put_digit(out, hundredth, v % 10)
+}
+
+pub fn put_text(out: &mut [u8], at: usize, text: &[u8]) -> usize
+    requires { ⌜ at + length (now text) ≤ length (now out) ⌝ }
+    ensures { λ r. ⌜ Put (now (out .entry)) (now (out .exit)) at (now (text .entry)) r ⌝ }
+{
+    let mut i = 0;
+    while i < text.len() {
+        out[at + i] = text[i];
+        i += 1;
+    }
+    at + i
+}
+
+fn first_of(s: &[u8], n: usize) -> &[u8]
+    requires { ⌜ n ≤ length (now s) ⌝ }
+    ensures { λ r. ⌜ now r ≡ take n (now (s .entry)) ⌝ }
+{
+    &s[..n]
+}
+
+// As much of the text as fits: what is said to people is cut off at the buffer's end.
+pub fn say(out: &mut [u8], at: usize, text: &[u8]) -> usize
+    requires { ⌜ at ≤ length (now out) ⌝ }
+    ensures { λ r. ⌜ Said (now (out .entry)) (now (out .exit)) at (now (text .entry)) r ⌝ }
+{
+    let room = out.len() - at;
+    if text.len() <= room {
+        return put_text(out, at, text);
+    }
+    put_text(out, at, first_of(text, room))
+}
+
+pub fn say_number(out: &mut [u8], at: usize, v: u64) -> usize
+    requires { ⌜ at ≤ length (now out) ⌝ }
+    ensures { λ r. ⌜ Said (now (out .entry)) (now (out .exit)) at (decimal v) r ⌝ }
+{
+    let mut digits = [0u8; 20];
+    let n = put_decimal(&mut digits, 0, v);
+    say(out, at, first_of(&digits, n))
 }
