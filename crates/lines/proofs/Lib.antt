@@ -1,0 +1,5 @@
+pub mod Bytes
+pub mod Kept
+pub mod Pieces
+pub mod SameLines
+mod Steps
