@@ -1,15 +1,15 @@
--- Document 02, W1: "Advisers now type a book into one program". One record a line: the kind's name or number, then its values in the units of
--- document 01, whole numbers with blanks between; # starts a comment; a line with no word says nothing.
+-- Document 02, W1: "Advisers now type a book into one program". One record a line: the kind's name or number, then its values in the order of
+-- document 01 with blanks between; a line with no word says nothing. What stands behind a # is gone before a line comes here.
 use Prim.Native.Nat.{ℕ, zero, suc, _-_}
 use mathlib.Core.Bool.{true, _&&_}
 use mathlib.Core.List.{List, [], _∷_, _++_}
 use lib.ListN.{length, take, replicate}
-use lib.Dec.{eqb}
-use Rattle.bytes.specs.Bytes.{indexOf}
+use lib.Dec.{eqb, leb}
 use Rattle.codec.specs.Codec.{pick}
+use Rattle.text.specs.Ascii.{ascii}
 use Rattle.reading.specs.declared.Whole.{Whole}
-use Rattle.reading.specs.Words.{nthWord, sameText}
-use Rattle.reading.specs.Numbers.{wholeOf}
+use Rattle.reading.specs.Words.{nthWord, sameText, lowered}
+use Rattle.reading.specs.Amounts.{amountOf}
 use Rattle.book.specs.declared.State.{State}
 use Rattle.writing.specs.Write.{Write, write}
 use Rattle.typed.specs.declared.Values.{Values}
@@ -18,41 +18,20 @@ use Rattle.typed.specs.declared.Line.{Line}
 use Rattle.typed.specs.declared.Said.{Said}
 use Rattle.typed.specs.declared.Said.the-variants.{Nothing, Record, Wrong}
 
--- what stands before the first #
-abbrev pub uncommented : List ℕ → List ℕ
-uncommented line = take (indexOf 35 line) line
-
 -- ---- the kind
 
 -- the names of the eight kinds, in the order of their numbers
 unfoldable pub names : List ℕ
-names =
-    -- farm
-    102 ∷ 97 ∷ 114 ∷ 109
-    -- heading
-    ∷ 32 ∷ 104 ∷ 101 ∷ 97 ∷ 100 ∷ 105 ∷ 110 ∷ 103
-    -- enteric
-    ∷ 32 ∷ 101 ∷ 110 ∷ 116 ∷ 101 ∷ 114 ∷ 105 ∷ 99
-    -- cattle
-    ∷ 32 ∷ 99 ∷ 97 ∷ 116 ∷ 116 ∷ 108 ∷ 101
-    -- pig
-    ∷ 32 ∷ 112 ∷ 105 ∷ 103
-    -- energy
-    ∷ 32 ∷ 101 ∷ 110 ∷ 101 ∷ 114 ∷ 103 ∷ 121
-    -- soil
-    ∷ 32 ∷ 115 ∷ 111 ∷ 105 ∷ 108
-    -- close
-    ∷ 32 ∷ 99 ∷ 108 ∷ 111 ∷ 115 ∷ 101
-    ∷ []
+names = ascii "farm heading enteric cattle pig energy soil close"
 
 -- the place of the word w among the n words of line from the ith on, counted from 1; 0 where it is none of them
 unfoldable pub placeFrom : ℕ → ℕ → List ℕ → List ℕ → ℕ
 placeFrom zero i line w = 0
 placeFrom (suc n) i line w = pick (sameText w (nthWord i line)) (suc i) (placeFrom n (suc i) line w)
 
--- a kind by its name, or else by a whole number
+-- a kind by its name, in capitals or not, or else by a whole number
 unfoldable pub kindOf : List ℕ → Whole
-kindOf w = pick (eqb (placeFrom 8 0 names w) 0) (wholeOf w) (record { good = true; value = placeFrom 8 0 names w })
+kindOf w = pick (eqb (placeFrom 8 0 names (lowered w)) 0) (amountOf 0 w) (record { good = true; value = placeFrom 8 0 names (lowered w) })
 
 -- ---- the values
 
@@ -70,16 +49,22 @@ wrongAt place = record { values = []; wrong = place }
 abbrev pub with : ℕ → Read → Read
 with v r = record { values = v ∷ r .values; wrong = r .wrong }
 
--- at most n words of the line from the ith on, as whole numbers
-unfoldable pub valuesFrom : ℕ → ℕ → List ℕ → Read
-valuesFrom zero i line = nothingMore
-valuesFrom (suc n) i line =
-    pick (eqb (length (nthWord i line)) 0) nothingMore
-    (pick (wholeOf (nthWord i line) .good) (with (wholeOf (nthWord i line) .value) (valuesFrom n (suc i) line)) (wrongAt (suc i)))
+-- a word as the value of a kind's field i, counted from 0
+abbrev pub valueAt : ℕ → ℕ → List ℕ → Whole
+valueAt kind i word = amountOf 0 word
 
--- in 13 places, zeros behind
+-- at most n values of a kind, from field i on: the words behind the kind's
+unfoldable pub valuesFrom : ℕ → ℕ → ℕ → List ℕ → Read
+valuesFrom zero i kind line = nothingMore
+valuesFrom (suc n) i kind line =
+    pick (eqb (length (nthWord (suc i) line)) 0) nothingMore
+    (pick (valueAt kind i (nthWord (suc i) line) .good)
+    (with (valueAt kind i (nthWord (suc i) line) .value) (valuesFrom n (suc i) kind line))
+    (wrongAt (suc (suc i))))
+
+-- the first 13, zeros behind
 abbrev pub padded : List ℕ → List ℕ
-padded vs = vs ++ replicate (13 - length vs) 0
+padded vs = take 13 vs ++ replicate (13 - length vs) 0
 
 abbrev pub listed : Read → Values
 listed r = record { values = padded (r .values); count = length (r .values); wrong = r .wrong }
@@ -94,16 +79,17 @@ abbrev pub noRecord : Said → Line
 noRecord said = record { said = said; entry = entry 0 [] }
 
 abbrev pub byValues : ℕ → Read → Line
-byValues kind r = pick (eqb (r .wrong) 0) (record { said = Record; entry = entry kind (r .values) }) (noRecord (Wrong (r .wrong)))
+byValues kind r = pick (eqb (r .wrong) 0) (record { said = Record; entry = entry kind (r .values) }) (noRecord (Wrong kind (r .wrong)))
 
 abbrev pub byKind : Whole → List ℕ → Line
-byKind kind text = pick (kind .good) (byValues (kind .value) (valuesFrom 13 1 text)) (noRecord (Wrong 1))
+byKind kind text = pick (kind .good) (byValues (kind .value) (valuesFrom 512 0 (kind .value) text)) (noRecord (Wrong 0 1))
 
--- what a line says: its first 13 values are read, more than any kind has, so that a longer line is refused for its count
+-- what a line says that has no comment: a line of 1,024 bytes or more is not read; the others have no more than 512 words
 unfoldable pub lineOf : List ℕ → Line
-lineOf line =
-    pick (eqb (length (nthWord 0 (uncommented line))) 0) (noRecord Nothing)
-    (byKind (kindOf (nthWord 0 (uncommented line))) (uncommented line))
+lineOf text =
+    pick (leb 1024 (length text)) (noRecord (Wrong 0 0))
+    (pick (eqb (length (nthWord 0 text)) 0) (noRecord Nothing)
+    (byKind (kindOf (nthWord 0 text)) text))
 
 -- a close that is typed without its count has the records before it
 unfoldable pub completedOf : Entry → ℕ → Entry

@@ -4,30 +4,31 @@ use reading::Whole;
 use writing::Written;
 ghost use mathlib.Core.Path.{_≡_};
 ghost use Prim.Native.Nat.{_≤_};
-ghost use lib.ListN.{length, take};
-ghost use Rattle.reading.specs.Words.{nthWord};
+ghost use lib.ListN.{length};
+ghost use Rattle.reading.specs.Words.{lowered};
 ghost use Rattle.writing.specs.Write.{writtenOf, laid};
-ghost use Rattle.typed.specs.Line.{uncommented, placeFrom, kindOf, valuesFrom, listed, noRecord, lineOf, completedOf, writeEntry};
+ghost use Rattle.typed.specs.Line.{placeFrom, kindOf, valuesFrom, listed, noRecord, lineOf, completedOf, writeEntry};
 
-// The values that are typed, zeros behind; the place of a word that is no whole number, counted from 1, or 0.
+// How many values are typed and the first 13 of them, zeros behind; the place of a word that is no number, counted from 1, or 0.
 struct Values {
     values: [u64; 13],
     count: usize,
     wrong: usize,
 }
 
-// A record that is typed: count values, zeros behind. No kind has 13.
+// A record that is typed: count values, of which the first 13 stand here, zeros behind. No kind has 13.
 pub struct Entry {
     pub kind: u64,
     pub values: [u64; 13],
     pub count: usize,
 }
 
-// Whether a line says a record: Nothing where it has no word before its comment, Wrong with the place of the word that can't be read.
+// Whether a line says a record: Nothing where it has no word; Wrong with the kind, 0 where it can't be read, and the place of the word that is
+// wrong, counted from 1, or 0 where the line is too long.
 pub enum Said {
     Nothing,
     Record,
-    Wrong(usize),
+    Wrong(u64, usize),
 }
 
 // What a line says; the entry is all zeros where it is no record.
@@ -36,26 +37,13 @@ pub struct Line {
     pub entry: Entry,
 }
 
-fn first_of(s: &[u8], n: usize) -> &[u8]
-    requires { ⌜ n ≤ length (now s) ⌝ }
-    ensures { λ r. ⌜ now r ≡ take n (now (s .entry)) ⌝ }
-{
-    &s[..n]
-}
-
-fn before_comment(line: &[u8]) -> &[u8]
-    ensures { λ r. ⌜ now r ≡ uncommented (now (line .entry)) ⌝ }
-{
-    first_of(line, bytes::scan::find(line, 0, line.len(), b'#'))
-}
-
 // The place of the word among the eight words of names, counted from 1; 0 where it is none of them.
 fn place(word: &[u8], names: &[u8]) -> u64
-    ensures { λ r. ⌜ r ≡ placeFrom 8 0 (now (names .entry)) (now (word .entry)) ⌝ }
+    ensures { λ r. ⌜ r ≡ placeFrom 8 0 (now (names .entry)) (lowered (now (word .entry))) ⌝ }
 {
     let mut i = 0;
     while i < 8 {
-        if reading::is_word(word, reading::word(names, i)) {
+        if reading::is_name(word, reading::word(names, i)) {
             return i as u64 + 1;
         }
         i += 1;
@@ -68,7 +56,7 @@ fn read_kind(word: &[u8]) -> Whole
 {
     let number = place(word, b"farm heading enteric cattle pig energy soil close");
     if number == 0 {
-        return reading::read_whole(word);
+        return reading::read_amount(word, 0);
     }
     Whole {
         good: true,
@@ -76,13 +64,13 @@ fn read_kind(word: &[u8]) -> Whole
     }
 }
 
-// The words behind the kind, as numbers.
-fn read_values(line: &[u8]) -> Values
-    ensures { λ r. ⌜ r ≡ listed (valuesFrom 13 1 (now (line .entry))) ⌝ }
+// The words behind the kind, as numbers: a line has no more than 512 words.
+fn read_values(line: &[u8], kind: u64) -> Values
+    ensures { λ r. ⌜ r ≡ listed (valuesFrom 512 0 kind (now (line .entry))) ⌝ }
 {
     let mut values = [0u64; 13];
     let mut count = 0;
-    while count < 13 {
+    while count < 512 {
         let word = reading::word(line, count + 1);
         if word.len() == 0 {
             return Values {
@@ -91,7 +79,7 @@ fn read_values(line: &[u8]) -> Values
                 wrong: 0,
             };
         }
-        let number = reading::read_whole(word);
+        let number = reading::read_amount(word, 0);
         if !number.good {
             return Values {
                 values: values,
@@ -99,7 +87,9 @@ fn read_values(line: &[u8]) -> Values
                 wrong: count + 2,
             };
         }
-        values[count] = number.value;
+        if count < 13 {
+            values[count] = number.value;
+        }
         count += 1;
     }
     Values {
@@ -123,21 +113,24 @@ fn without(said: Said) -> Line
     }
 }
 
-pub fn read_line(line: &[u8]) -> Line
-    ensures { λ r. ⌜ r ≡ lineOf (now (line .entry)) ⌝ }
+// What a line says that has no comment.
+pub fn read_line(text: &[u8]) -> Line
+    ensures { λ r. ⌜ r ≡ lineOf (now (text .entry)) ⌝ }
 {
-    let text = before_comment(line);
+    if 1024 <= text.len() {
+        return without(Said::Wrong(0, 0));
+    }
     let first = reading::word(text, 0);
     if first.len() == 0 {
         return without(Said::Nothing);
     }
     let kind = read_kind(first);
     if !kind.good {
-        return without(Said::Wrong(1));
+        return without(Said::Wrong(0, 1));
     }
-    let v = read_values(text);
+    let v = read_values(text, kind.value);
     if v.wrong != 0 {
-        return without(Said::Wrong(v.wrong));
+        return without(Said::Wrong(kind.value, v.wrong));
     }
     let values = v.values;
     Line {

@@ -3,13 +3,14 @@ use Prim.Native.Nat.{_-_, _≤_}
 use mathlib.Core.Path.{_≡_, refl, sym, _∙_}
 use native.Mathlib.Omega.{arith}
 use borrow.Author.Needs.{needs}
+use Rattle.reading.specs.Words.{lowered}
 use Rattle.typed.specs.Line.{placeFrom}
 use Rattle.typed.proofs.Lines.{place-here, place-on, place-none}
 use Rattle.typed.proofs.place.Statement.{statement}
 use Rattle.typed.proofs.place.Tie as tie
 
 abbrev Inv-loop : tie.InvT-loop
-Inv-loop word names i₀ i = (i ≤ 8) × (placeFrom (8 - i) i names word ≡ placeFrom 8 0 names word)
+Inv-loop word names i₀ i = (i ≤ 8) × (placeFrom (8 - i) i names (lowered word) ≡ placeFrom 8 0 names (lowered word))
 
 abbrev μ-loop : tie.MeasureT-loop
 μ-loop word names i₀ i = 8 - i
@@ -26,10 +27,10 @@ place-spec =
     (λ c. omega arith)
     (λ c.
     let l = c .before .before .before .before .loop in
-    sym (place-here _ _ (l .i) (omega arith) (c .before .before .word .ensures) (c .before .is-word .ensures) (c .if1 .taken)) ∙ l .inv .1)
+    sym (place-here _ _ (l .i) (omega arith) (c .before .before .word .ensures) (c .before .is-name .ensures) (c .if1 .taken)) ∙ l .inv .1)
     (λ c. omega arith)
     (λ c. omega arith)
     (λ c.
     let l = c .before .before .before .before .loop in
-    (omega arith, sym (place-on _ _ (l .i) (omega arith) (c .before .before .word .ensures) (c .before .is-word .ensures) (c .if1 .left)) ∙ l .inv .1))
+    (omega arith, sym (place-on _ _ (l .i) (omega arith) (c .before .before .word .ensures) (c .before .is-name .ensures) (c .if1 .left)) ∙ l .inv .1))
     (λ c. let l = c .before .loop in sym (place-none _ _ (l .i) (omega arith)) ∙ l .inv .1))

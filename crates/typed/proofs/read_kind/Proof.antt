@@ -13,5 +13,5 @@ read-kind-spec =
     (λ c. search needs)
     (λ c κs. search needs)
     (λ c κs. search needs)
-    (λ c. by-number _ (c .before .before .place .ensures) (c .before .if1 .taken) (c .read-whole .ensures))
+    (λ c. by-number _ (c .before .before .place .ensures) (c .before .if1 .taken) (c .read-amount .ensures))
     (λ c. by-name _ (c .before .place .ensures) (c .if1 .left)))
