@@ -1,0 +1,3 @@
+mod Lines
+mod Shown
+pub mod Ranges
