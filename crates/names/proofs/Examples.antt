@@ -1,6 +1,6 @@
 -- Texts as they are told: the lines of the tables stand where their kinds and numbers say.
 use mathlib.Core.Path.{_≡_, refl}
-use mathlib.Core.List.{List, [], _∷_}
+use mathlib.Core.List.{[], _∷_}
 use Rattle.bytes.specs.Bytes.{indexOf, indexAfter}
 use Rattle.reading.specs.Words.{nthPart}
 use Rattle.text.specs.Ascii.{ascii}

@@ -1,5 +1,5 @@
 -- Laws of `amountOf`: its number by the parts that the code reads one after the other, and words of digits alone.
-use Prim.Native.Nat.{ℕ, zero, suc, _+_, _-_, _*_, _<_, _≤_, min}
+use Prim.Native.Nat.{ℕ, suc, _+_, _-_, _<_, _≤_}
 use native.Mathlib.Numerals.{add-one}
 use native.Mathlib.Omega.{arith}
 use mathlib.Core.Path.{_≡_, refl, sym, ap, _∙_}
@@ -7,13 +7,13 @@ use mathlib.Core.Bool.{Bool, true, false, not, _&&_, true≢false}
 use mathlib.Core.List.{List, [], _∷_, _++_}
 use lib.ListN.{length, getD, take, drop, replicate, drop-of-length-le}
 use lib.Seq.{drop-cons}
-use lib.Dec.{T, leb, ltb, eqb, leb→le}
+use lib.Dec.{leb, ltb, eqb, leb→le}
 use lib.Ieee.Fits.{and-l, and-r}
 use borrow.Author.Tests.{not-true, not-false, lt-ltb, le-ltb, ne-eqb}
 use Rattle.bytes.specs.Bytes.{indexOf, indexAfter}
 use Rattle.reading.specs.declared.Whole.{Whole}
-use Rattle.reading.specs.Numbers.{noWhole, goesOn, beforePoint, behindPoint}
-use Rattle.reading.specs.Amounts.{isDigit, withDigit, aWhole, numberFrom, numberOf, placesFit, filledUp, hasPoint, pickWhole, amountOf}
+use Rattle.reading.specs.Numbers.{noWhole, goesOn}
+use Rattle.reading.specs.Amounts.{isDigit, withDigit, aWhole, numberFrom, numberOf, amountOf}
 
 at-byte : (v : ℕ) (s : List ℕ) (i : ℕ) → i < length s
     → numberFrom v (drop i s) ≡ goesOn (isDigit (getD s i 0)) (numberFrom (withDigit v (getD s i 0)) (drop (i + 1) s))

@@ -1,7 +1,7 @@
 -- Typed numbers and their values in the book's unit.
 use mathlib.Core.Path.{_≡_, refl}
 use mathlib.Core.Bool.{true}
-use mathlib.Core.List.{List, [], _∷_}
+use mathlib.Core.List.{[], _∷_}
 use Rattle.bytes.specs.Bytes.{indexOf, indexAfter}
 use Rattle.reading.specs.Numbers.{noWhole}
 use Rattle.reading.specs.Words.{lowered, sameText, nthPart}

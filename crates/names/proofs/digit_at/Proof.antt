@@ -1,4 +1,3 @@
-use mathlib.Core.Path.{refl}
 use native.Mathlib.Omega.{arith}
 use Rattle.names.proofs.Lines.{no-digit}
 use borrow.Author.Needs.{needs}

@@ -1,5 +1,4 @@
 -- Read off the table, kind by kind. Assumes nothing.
-use mathlib.Core.Path.{sym}
 use Rattle.codec.specs.Table.{table}
 use Rattle.names.proofs.Lines.{other-kind}
 use Rattle.names.proofs.field_count.Statement.{statement}

@@ -1,4 +1,3 @@
-use Rattle.text.specs.Said.{Said}
 use Rattle.names.specs.Names.{sentenceTable}
 use borrow.Author.Needs.{needs}
 use Rattle.names.proofs.say_sentence.Statement.{statement}

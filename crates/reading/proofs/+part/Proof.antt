@@ -1,6 +1,4 @@
 use Prim.Native.Nat.{ℕ, _<_}
-use mathlib.Core.Path.{_≡_}
-use Rattle.reading.specs.Words.{nthPart}
 use Rattle.reading.proofs.Names.{no-others, behind-one}
 use borrow.Author.Needs.{needs}
 use borrow.Fn.Kinds.{In}

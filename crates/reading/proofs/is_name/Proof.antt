@@ -1,6 +1,5 @@
 use Prim.Native.Nat.{_-_, _≤_}
 use mathlib.Core.Path.{_≡_, sym, _∙_}
-use native.Mathlib.Omega.{arith}
 use lib.ListN.{length, drop}
 use Rattle.reading.specs.Words.{sameText, lowered}
 use Rattle.reading.proofs.Names.{other-name, name-goes-on, name-differs, name-ends}

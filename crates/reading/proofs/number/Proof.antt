@@ -1,7 +1,7 @@
-use Prim.Native.Nat.{ℕ, _-_, _≤_, _<_}
+use Prim.Native.Nat.{_-_, _≤_}
 use mathlib.Core.Path.{_≡_, sym, _∙_}
 use native.Mathlib.Omega.{arith}
-use lib.ListN.{length, getD, drop}
+use lib.ListN.{length, drop}
 use Rattle.reading.specs.Amounts.{numberFrom}
 use Rattle.reading.proofs.Amounts.{low, goes-on, breaks-off, at-end}
 use borrow.Author.Needs.{needs}
