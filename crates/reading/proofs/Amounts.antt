@@ -1,5 +1,5 @@
 -- Laws of `amountOf`: its number by the parts that the code reads one after the other, and words of digits alone.
-use Prim.Native.Nat.{ℕ, zero, suc, _+_, _-_, _*_, _<_, _≤_, min}
+use Prim.Native.Nat.{ℕ, suc, _+_, _-_, _<_, _≤_}
 use native.Mathlib.Numerals.{add-one}
 use native.Mathlib.Omega.{arith}
 use mathlib.Core.Path.{_≡_, refl, sym, ap, _∙_}
@@ -7,13 +7,13 @@ use mathlib.Core.Bool.{Bool, true, false, not, _&&_, true≢false}
 use mathlib.Core.List.{List, [], _∷_, _++_}
 use lib.ListN.{length, getD, take, drop, replicate, drop-of-length-le}
 use lib.Seq.{drop-cons}
-use lib.Dec.{T, leb, ltb, eqb, leb→le}
+use lib.Dec.{leb, ltb, eqb, leb→le}
 use lib.Ieee.Fits.{and-l, and-r}
 use borrow.Author.Tests.{not-true, not-false, lt-ltb, le-ltb, ne-eqb}
 use Rattle.bytes.specs.Bytes.{indexOf, indexAfter}
 use Rattle.reading.specs.declared.Whole.{Whole}
-use Rattle.reading.specs.Numbers.{noWhole, goesOn, beforePoint, behindPoint}
-use Rattle.reading.specs.Amounts.{isDigit, withDigit, aWhole, numberFrom, numberOf, placesFit, filledUp, hasPoint, pickWhole, amountOf}
+use Rattle.reading.specs.Numbers.{noWhole, goesOn}
+use Rattle.reading.specs.Amounts.{isDigit, withDigit, aWhole, numberFrom, numberOf, amountOf}
 
 at-byte : (v : ℕ) (s : List ℕ) (i : ℕ) → i < length s
     → numberFrom v (drop i s) ≡ goesOn (isDigit (getD s i 0)) (numberFrom (withDigit v (getD s i 0)) (drop (i + 1) s))
@@ -51,12 +51,12 @@ no-zero v k i h = let e : k - i ≡ 0 = omega arith in rw e
 pub followed : (v : ℕ) (s t : List ℕ) → numberFrom v (s ++ t) ≡ goesOn (numberFrom v s .good) (numberFrom (numberFrom v s .value) t)
 unfolding numberFrom
 followed v [] t = refl
-followed v (b ∷ s) t = by-digit (isDigit b) (followed (withDigit v b) s t)
+followed v (b ∷ s) t = by-digit (isDigit b) (numberFrom (withDigit v b) s) (numberFrom (withDigit v b) (s ++ t)) (followed (withDigit v b) s t)
   where
-    by-digit : (d : Bool) → numberFrom (withDigit v b) (s ++ t) ≡ goesOn (numberFrom (withDigit v b) s .good) (numberFrom (numberFrom (withDigit v b) s .value) t)
-        → goesOn d (numberFrom (withDigit v b) (s ++ t)) ≡ goesOn (goesOn d (numberFrom (withDigit v b) s) .good) (numberFrom (goesOn d (numberFrom (withDigit v b) s) .value) t)
-    by-digit true e = e
-    by-digit false e = refl
+    by-digit : (d : Bool) (w all : Whole) → all ≡ goesOn (w .good) (numberFrom (w .value) t)
+        → goesOn d all ≡ goesOn (goesOn d w .good) (numberFrom (goesOn d w .value) t)
+    by-digit true w all e = e
+    by-digit false w all e = refl
 
 all-tests : (x y z : Bool) (n : Whole) → goesOn x (goesOn y (goesOn z n)) ≡ goesOn ((x && y) && z) n
 all-tests true true z n = refl
@@ -94,7 +94,8 @@ module _ (d : ℕ) (s : List ℕ) {b f : List ℕ} {p : ℕ} {w a : Whole}
       )
       (all-tests ((ltb 0 p && ltb 0 (length f)) && leb (length f) d) (w .good) (a .good) (numberFrom (a .value) (replicate (d - length f) 48)))
 
-  pub is-amount : (z : ℕ) → passes p (length f) d w a ≡ true → numberFrom (a .value) (replicate (d - length f) 48) ≡ aWhole z → aWhole z ≡ amountOf d s
+  pub is-amount : (z : ℕ) → passes p (length f) d w a ≡ true → numberFrom (a .value) (replicate (d - length f) 48) ≡ aWhole z
+      → aWhole z ≡ amountOf d s
   is-amount z t e = sym (parts ∙ rw (t, e))
 
   pub is-none : passes p (length f) d w a ≡ false → noWhole ≡ amountOf d s

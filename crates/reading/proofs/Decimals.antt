@@ -1,16 +1,14 @@
 -- Laws of `decimalOf`: its value by the parts that the code reads one after the other.
 use Prim.Native.Nat.{ℕ, _+_, _^_, _≤_}
-use native.Mathlib.Omega.{arith}
-use mathlib.Core.Path.{_≡_, refl, sym, _∙_}
+use mathlib.Core.Path.{_≡_, sym, _∙_}
 use mathlib.Core.Bool.{Bool, true, false, _&&_}
 use mathlib.Core.List.{List}
 use lib.ListN.{length, take, drop}
-use lib.Seq.{take-length}
-use lib.Dec.{T, leb, ltb, leb→le}
+use lib.Dec.{leb, ltb, leb→le}
 use lib.Ieee.{Float}
 use lib.Ieee.Fits.{and-r}
 use Rattle.bytes.specs.Bytes.{indexOf, slice}
-use Rattle.reading.specs.Numbers.{digitsFrom, double, +0, pickDouble, isDecimal, decimalOf}
+use Rattle.reading.specs.Numbers.{digitsFrom, double, +0, pickDouble, decimalOf}
 use Rattle.reading.specs.declared.Whole.{Whole}
 use Rattle.reading.proofs.Names.{found}
 

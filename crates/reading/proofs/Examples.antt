@@ -1,7 +1,7 @@
 -- Typed numbers and their values in the book's unit.
 use mathlib.Core.Path.{_≡_, refl}
 use mathlib.Core.Bool.{true}
-use mathlib.Core.List.{List, [], _∷_}
+use mathlib.Core.List.{[], _∷_}
 use Rattle.bytes.specs.Bytes.{indexOf, indexAfter}
 use Rattle.reading.specs.Numbers.{noWhole}
 use Rattle.reading.specs.Words.{lowered, sameText, nthPart}
@@ -42,7 +42,9 @@ unfolding amountOf numberFrom indexOf indexAfter
 nothing-behind = refl
 
 -- 20 digits
-twenty-digits : amountOf 2 (49 ∷ 50 ∷ 51 ∷ 52 ∷ 53 ∷ 54 ∷ 55 ∷ 56 ∷ 57 ∷ 48 ∷ 49 ∷ 50 ∷ 51 ∷ 52 ∷ 53 ∷ 54 ∷ 55 ∷ 56 ∷ 57 ∷ 48 ∷ []) ≡ aWhole 1000000000000000
+twenty-digits : amountOf 2
+    (49 ∷ 50 ∷ 51 ∷ 52 ∷ 53 ∷ 54 ∷ 55 ∷ 56 ∷ 57 ∷ 48 ∷ 49 ∷ 50 ∷ 51 ∷ 52 ∷ 53 ∷ 54 ∷ 55 ∷ 56 ∷ 57 ∷ 48 ∷ [])
+    ≡ aWhole 1000000000000000
 unfolding amountOf numberFrom indexOf indexAfter
 twenty-digits = refl
 

@@ -2,14 +2,13 @@
 use Prim.Native.Nat.{ℕ, zero, suc, _+_, _-_, _<_, _≤_}
 use native.Mathlib.Omega.{arith}
 use mathlib.Core.Path.{_≡_, refl, sym, ap, _∙_}
-use mathlib.Core.Bool.{Bool, true, false, _&&_}
+use mathlib.Core.Bool.{true, false}
 use mathlib.Core.List.{List, [], _∷_}
 use lib.ListN.{length, getD, take, drop}
 use lib.Seq.{take-length}
-use lib.Dec.{leb}
 use borrow.Author.Tests.{le-leb, lt-leb}
 use Rattle.bytes.specs.Bytes.{indexOf, slice}
-use Rattle.reading.specs.Words.{smallIf, smallLetter, lowered, sameText, nthPart}
+use Rattle.reading.specs.Words.{smallLetter, lowered, sameText, nthPart}
 use Rattle.reading.proofs.Same.{other-length, goes-on, differs, at-end}
 
 pub capital : (b : ℕ) → 65 ≤ b → b ≤ 90 → b + 32 ≡ smallLetter b
