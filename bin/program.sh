@@ -1,6 +1,6 @@
-# Sourced by the scripts of the programs. They set $here (this folder), $name, $sample, $about and $example (for --help), $bytes (yes where the program
-# writes a book's bytes) and $heading (names of the columns, for a terminal). Runs the program on a file, on standard input (-) or, with no argument, on
-# the sample; builds it when it is not there or older than its source. --help says what the exit statuses mean.
+# Sourced by the scripts of the programs. They set $here (this folder), $name, $sample, $about and $example (for --help), $bytes (yes where
+# the program writes a book's bytes) and $heading (names of the columns, for a terminal). Runs the program on a file, on standard input (-)
+# or, with no argument, on the sample; builds it when it is not there or older than its source. --help says what the exit statuses mean.
 root=${here%/*}
 program=$root/target/bin/$name
 
@@ -57,6 +57,7 @@ esac
 # Whether the program is not there, or older than the source of one of its crates.
 stale() {
     [ -x "$program" ] || return 0
+    [ -d "$root/crates" ] || return 1 # a copy without sources
     folders=
     for crate in $name $(sed -n "s/^$name://p" "$root/crates.txt"); do
         [ ! -d "$root/crates/$crate" ] || folders="$folders $crate"
