@@ -9,7 +9,7 @@ program=$root/target/bin/$name
 { true 9>&1; } 2>/dev/null || exec 1</dev/null
 { true 9>&2; } 2>/dev/null || exec 2>/dev/null
 
-say() { printf 'bin/%s: %s\n' "$name" "$*" >&2; }
+say() { printf 'bin/%s: %s\n' "$name" "$*" >&2 || :; }
 stop() { status=$1; shift; say "$@"; exit "$status"; }
 misused() { stop 2 "$*; usage: bin/$name [FILE|-], and bin/$name --help says more"; }
 
@@ -33,7 +33,7 @@ END
 # By git where this is a repository of it, else the word kept beside this file.
 version() {
     described=
-    [ ! -e "$root/.git" ] || described=$(git -C "$root" describe --tags --always --dirty 2>/dev/null) || described=
+    [ ! -e "$root/.git" ] || described=$(git -c safe.directory="$root" -C "$root" describe --tags --always --dirty 2>/dev/null) || described=
     [ -n "$described" ] || described=$(cat "$here/version.txt")
     printf 'farm book, bin/%s %s\n' "$name" "$described"
 }
@@ -89,7 +89,7 @@ if [ "$(uname -m)" != x86_64 ]; then
 fi
 
 [ "$input" = - ] || exec <"$input"
-[ -z "${heading:-}" ] || [ ! -t 1 ] || printf '%s\n' "$heading" >&2
+[ -z "${heading:-}" ] || [ ! -t 1 ] || printf '%s\n' "$heading" >&2 || :
 
 # A program has no exit status: with the word `status` it writes, as its last act, 0 or 1 on descriptor 3. It is told of a closed pipe, and tells it.
 trap '' PIPE
