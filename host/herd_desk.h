@@ -5,11 +5,24 @@
    herd_desk reads `book_len` bytes at `book`, writes lines from the start of `lines`, never more than `lines_len` bytes, and
    gives back code × 2^32 + bytes written:
 
-       0        the book is closed and ends there
-       1 to 12  the book is refused by that number of document 01
-       16       full: the lines of the next record do not fit
-       17       the bytes end before the close
-       18       the book is closed, and bytes remain after the close
+       0   closed: the book ends with its close
+       1   refused: a length that no record has
+       2   refused: another version than 1
+       3   refused: no such kind of record
+       4   refused: another length than the kind's
+       5   refused: more than 4,096 records
+       6   refused: a record out of its place
+       7   refused: a value out of its range
+       8   refused: a group number not above that before
+       9   refused: more than 366 days of a kind under a heading
+       10  refused: shares or parts that do not add up
+       11  refused: more nitrogen in milk and gain than in the feed
+       12  refused: the close counts other records than there are before it
+       16  no room: the lines of the next record do not fit
+       17  unfinished: the bytes end before the close
+       18  the book is closed, and bytes stand behind its close
+
+   Numbers 1 to 12 are those of document 01. herd_desk_words gives the words of a code, for people.
 
    Every book starts from no record: nothing is kept from one call to the next, and calls may run side by side.
 
@@ -39,23 +52,7 @@
    Pointers.  Both must be good for their lengths. NULL is fine with length 0. The two must not overlap. The book is not
    changed. Nothing is allocated, no file is touched, and every call ends.
 
-   A whole program:
-
-       #include "herd_desk.h"
-       #include <stdio.h>
-
-       static uint8_t book[HERD_DESK_BOOK_MAX + 1], lines[HERD_DESK_LINES_MAX];
-
-       int main(void) {
-           size_t book_len = fread(book, 1, sizeof book, stdin);
-           uint64_t answer = herd_desk(book, book_len, lines, sizeof lines);
-           if (herd_desk_code(answer) != 0) {
-               fprintf(stderr, "not a right book: %u\n", (unsigned)herd_desk_code(answer));
-               return 1;
-           }
-           fwrite(lines, 1, herd_desk_written(answer), stdout);
-           return 0;
-       }
+   host/example.c is a whole program; README.md has the lines that build one.
 */
 #ifndef HERD_DESK_H
 #define HERD_DESK_H
@@ -84,6 +81,30 @@ static inline uint32_t herd_desk_code(uint64_t answer) {
 
 static inline size_t herd_desk_written(uint64_t answer) {
     return (size_t)(answer & 0xffffffff);
+}
+
+/* The words of a code; they are never freed, and have no line's end. */
+static inline const char *herd_desk_words(uint32_t code) {
+    switch (code) {
+    case 0: return "closed";
+    case 1: return "a length that no record has: it is 4 to 26";
+    case 2: return "the version is not 1";
+    case 3: return "no such kind of record: kinds are 1 to 8";
+    case 4: return "a wrong length or count of values";
+    case 5: return "the book has 4096 records, and no more go in";
+    case 6: return "out of its place: a book begins with its one farm record; enteric and cattle stand under a heading of class 1 to 3, "
+                   "pig under one of class 4";
+    case 7: return "a value is out of its range";
+    case 8: return "the group number must be above that of the heading before";
+    case 9: return "more than 366 days of this kind under the heading";
+    case 10: return "cattle shares must be 100.00 per cent together; a pig's volatilised and leached parts at most 1.000";
+    case 11: return "more nitrogen in milk and gain than in the feed";
+    case 12: return "the close counts other records than there are before it; left out, the count is filled in";
+    case 16: return "no room";
+    case 17: return "the bytes end before the close";
+    case 18: return "bytes stand behind the close";
+    default: return "no such number";
+    }
 }
 
 #ifdef __cplusplus

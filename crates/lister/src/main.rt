@@ -1,95 +1,164 @@
-// Reads a book on standard input, in parts, and prints a text line per line record, then the last word.
+// Reads a book on standard input, in parts, and prints a text line per line record, then the last word. Remarks go to standard error.
 use book::State;
+use libc::STDERR_FILENO;
 use libc::STDIN_FILENO;
 use libc::STDOUT_FILENO;
 ghost use Prim.Native.Nat.{_≤_};
 ghost use lib.ListN.{length};
 
-// The state after what was read, whether more may come, and whether a read failed.
-struct Turned {
+// Where a caller that gives an argument, the word `status`, wants the status byte.
+const STATUS_FILENO: i32 = 3;
+
+// The state after what was read, whether a byte has come and whether the first is one of a typed text, whether no read and no write has failed,
+// and whether more may come.
+struct Work {
     state: State,
+    started: bool,
+    typed: bool,
+    read: bool,
+    written: bool,
     more: bool,
-    failed: bool,
 }
 
-fn stopped(state: State, failed: bool) -> Turned {
-    Turned {
-        state,
-        more: false,
-        failed,
+// Where the text can't go out it is told.
+fn send(text: &[u8]) -> bool {
+    if io::write_all(STDOUT_FILENO, text) {
+        return true;
     }
+    os::fail(b"standard output");
+    false
+}
+
+fn unwritten(mut w: Work) -> Work {
+    w.written = false;
+    w.more = false;
+    w
 }
 
 // Lists a part, with one write for each call of the book; a part of 2,048 bytes never fills the line buffer, so that is one.
 // A proved loop has to end: the calls count down from a number that no part uses up, since each takes a byte.
-fn list_part(from: State, part: &[u8], text: &mut [u8]) -> State
+fn list_part(from: Work, part: &[u8], text: &mut [u8]) -> Work
     requires { ⌜ 65536 ≤ length (now text) ⌝ }
 {
-    let mut state = from;
+    let mut w = from;
     let mut i = 0;
     let mut calls = part.len();
     while calls > 0 {
         calls -= 1;
+        let state = w.state;
         let listed = listing::list(state, &part[i..], text);
-        state = listed.state;
-        let written = listed.written;
-        io::write_all(STDOUT_FILENO, &text[..written]);
+        let next = listed.state;
+        w.state = next;
+        let n = listed.written;
+        if !send(&text[..n]) {
+            return unwritten(w);
+        }
         i += listed.taken;
         if i == part.len() {
-            return state;
+            return w;
         }
     }
-    state
+    w
 }
 
-// Reads once. At the end of the input, behind the book's end, or where a read fails, there is no more.
-fn turn(state: State, text: &mut [u8]) -> Turned
+fn begin(mut w: Work, part: &[u8]) -> Work {
+    if !w.started {
+        w.started = true;
+        w.typed = listing::begins_typed(part);
+    }
+    w
+}
+
+// Behind the book's end nothing more is read.
+fn go_on(mut w: Work) -> Work {
+    let state = w.state;
+    let account = state.account;
+    if account.stage > 1 {
+        w.more = false;
+    }
+    w
+}
+
+// Reads once. At the end of the input, behind the book's end, or where a read or a write fails, there is no more.
+fn turn(mut w: Work, text: &mut [u8]) -> Work
     requires { ⌜ 65536 ≤ length (now text) ⌝ }
 {
     let mut buf = [0u8; 2048];
     let got = libc::read(STDIN_FILENO, &mut buf);
     if got < 0 {
         os::fail(b"standard input");
-        return stopped(state, true);
+        w.read = false;
     }
-    if got == 0 {
-        return stopped(state, false);
+    if got <= 0 {
+        w.more = false;
+        return w;
     }
     let n = io::count(got, &buf);
-    let next = list_part(state, &buf[..n], text);
-    let account = next.account;
-    Turned {
-        state: next,
-        more: account.stage < 2,
-        failed: false,
-    }
+    let begun = begin(w, &buf[..n]);
+    go_on(list_part(begun, &buf[..n], text))
 }
 
 // Nothing says that the input ends: the turns count down from a number that no run uses up.
-fn run(text: &mut [u8]) -> Turned
+fn run(from: Work, text: &mut [u8]) -> Work
     requires { ⌜ 65536 ≤ length (now text) ⌝ }
 {
-    let mut done = stopped(State::new(), false);
+    let mut w = from;
     let mut turns = u64::MAX;
     while turns > 0 {
-        turns -= 1;
-        let state = done.state;
-        done = turn(state, text);
-        if !done.more {
-            return done;
+        if !w.more {
+            return w;
         }
+        turns -= 1;
+        w = turn(w, text);
     }
-    done
+    w
+}
+
+// The last word. Where a read or a write failed there is none: the book was not seen whole, or its lines were not.
+fn end(w: Work, text: &mut [u8]) -> Work
+    requires { ⌜ 65536 ≤ length (now text) ⌝ }
+{
+    if !w.read {
+        return w;
+    }
+    if !w.written {
+        return w;
+    }
+    let state = w.state;
+    let n = listing::put_end(text, 0, state.account);
+    if !send(&text[..n]) {
+        return unwritten(w);
+    }
+    w
+}
+
+fn remark(w: Work) {
+    let mut text = [0u8; 256];
+    let state = w.state;
+    let n = listing::say_remark(&mut text, state.account, w.typed);
+    io::write_all(STDERR_FILENO, &text[..n]);
+}
+
+fn tell_status(w: Work) {
+    if os::arg_count() == 2 {
+        let state = w.state;
+        let status = listing::status(state.account, w.read, w.written);
+        io::write_all(STATUS_FILENO, &[status]);
+    }
 }
 
 fn main() {
     let mut text = io::large_buffer();
-    let last = run(&mut text);
-    if last.failed {
-        return;
-    }
-    let state = last.state;
-    let account = state.account;
-    let n = listing::put_end(&mut text, 0, account);
-    io::write_all(STDOUT_FILENO, &text[..n]);
+    let start = Work {
+        state: State::new(),
+        started: false,
+        typed: false,
+        read: true,
+        written: true,
+        more: true,
+    };
+    let last = run(start, &mut text);
+    let done = end(last, &mut text);
+    remark(done);
+    tell_status(done);
 }

@@ -5,9 +5,8 @@ use mathlib.Core.List.{List, [], _∷_, _++_}
 use mathlib.Core.Bool.{Bool, false}
 use native.Mathlib.Omega.{arith}
 use borrow.Author.Tests.{ltb-false, lt-ltb, le-ltb, eq-eqb, ne-eqb}
-use native.Mathlib.Numerals.{add-one}
-use lib.ListN.{length, getD, set, take, drop, length-drop}
-use lib.Seq.{take-suc, drop-drop, take-append-seam}
+use lib.ListN.{length, getD, take, drop, length-drop}
+use lib.Seq.{drop-drop, take-append-seam}
 use lib.Dec.{ltb}
 use Rattle.codec.specs.Table.{lineFields, totalFields}
 use Rattle.codec.specs.Codec.{pick, valAt, valuesAt}
@@ -17,7 +16,7 @@ use Rattle.book.specs.declared.State.{State}
 use Rattle.book.specs.declared.Fed.{Fed}
 use Rattle.book.specs.Call.{call, fedOf, laid}
 use Rattle.text.specs.Decimal.{numbersLine, Put}
-use Rattle.text.proofs.Puts.{none, one, put-length, and-then}
+use Rattle.text.proofs.Puts.{none, put-length, and-then}
 use Rattle.listing.specs.Listing.{isTotal, lineSize, lineNumbers, textBy, linesText, closedWord, unfinishedWord, refusedWord, endText, Lists}
 
 pub eight-bytes : (s : List ℕ) (at h l : ℕ) → h ≡ valAt s at 4 → l ≡ valAt s (at + 4) 4 → h * 4294967296 + l ≡ valAt s at 8
@@ -72,13 +71,6 @@ module _ (xs : List ℕ) (k : getD xs 3 0 ≡ 8 → ⊥) where
   pub numbers-detail : lineNumbers xs ≡ drop 2 (valuesAt lineFields xs 0)
   unfolding lineNumbers
   numbers-detail = rw (ne-eqb _ _ k)
-
--- one byte more of a word is put
-pub put-more : {out₀ out : List ℕ} {at : ℕ} (word : List ℕ) (i : ℕ) → Put out₀ out at (take i word) (at + i) → i < length word → at + i < length out
-    → Put out₀ (set out (at + i) (getD word i 0)) at (take (i + 1) word) (at + (i + 1))
-put-more {out₀} {out} {at} word i p h k =
-    let e : at + i + 1 ≡ at + suc i = omega arith in
-    rw (add-one i, take-suc word i 0 h) (rw e at (and-then p (one out (at + i) (getD word i 0) k)))
 
 -- ---- the loop over the lines
 

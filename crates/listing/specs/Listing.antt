@@ -9,6 +9,7 @@ use lib.Dec.{ltb, eqb}
 use Rattle.codec.specs.declared.Field.{Field}
 use Rattle.codec.specs.Table.{lineFields, totalFields}
 use Rattle.codec.specs.Codec.{pick, valuesAt}
+use Rattle.text.specs.Ascii.{ascii}
 use Rattle.text.specs.Decimal.{numbersLine, Put}
 use Rattle.account.specs.declared.Account.{Account}
 use Rattle.book.specs.Call.{Call}
@@ -39,15 +40,15 @@ textBy (suc n) xs = pick (ltb (length xs) (lineSize xs)) [] (numbersLine (lineNu
 unfoldable pub linesText : List ℕ → List ℕ
 linesText xs = textBy (suc (length xs)) xs
 
--- `closed`, `unfinished` and `refused `, in ASCII
+-- the words of the last line
 abbrev pub closedWord : List ℕ
-closedWord = 99 ∷ 108 ∷ 111 ∷ 115 ∷ 101 ∷ 100 ∷ 10 ∷ []
+closedWord = ascii "closed\n"
 
 abbrev pub unfinishedWord : List ℕ
-unfinishedWord = 117 ∷ 110 ∷ 102 ∷ 105 ∷ 110 ∷ 105 ∷ 115 ∷ 104 ∷ 101 ∷ 100 ∷ 10 ∷ []
+unfinishedWord = ascii "unfinished\n"
 
 abbrev pub refusedWord : List ℕ
-refusedWord = 114 ∷ 101 ∷ 102 ∷ 117 ∷ 115 ∷ 101 ∷ 100 ∷ 32 ∷ []
+refusedWord = ascii "refused "
 
 -- the last word, by the stage of the account reached
 unfoldable pub endText : Account → List ℕ

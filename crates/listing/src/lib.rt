@@ -1,10 +1,12 @@
-// The lister's text: a text line per line record, and the last word.
+// The lister's text: a text line per line record, and the last word; what it remarks to a person, and its status.
 use account::Account;
 use book::State;
 use codec::numbers::be8;
 use codec::numbers::be16;
 use codec::numbers::be32;
 use text::put_numbers;
+use text::put_text;
+use text::say;
 ghost use mathlib.Core.Path.{_≡_};
 ghost use mathlib.Core.List.{_∷_, []};
 ghost use Prim.Native.Nat.{_+_, _*_, _≤_};
@@ -12,8 +14,10 @@ ghost use lib.ListN.{length, drop};
 ghost use Rattle.codec.specs.Table.{lineFields, totalFields};
 ghost use Rattle.codec.specs.Codec.{valAt, valuesAt};
 ghost use Rattle.text.specs.Decimal.{Put, numbersLine};
+ghost use Rattle.text.specs.Said.{Said};
 ghost use Rattle.book.specs.Call.{call};
 ghost use Rattle.listing.specs.Listing.{lineSize, lineNumbers, linesText, endText, Lists};
+ghost use Rattle.listing.specs.Remarks.{isTyped, beginsTyped, looksTyped, remarkText, statusByte};
 
 // What one call over a part of a book makes: the new state, the bytes taken, and the bytes of text.
 pub struct Listed {
@@ -118,28 +122,16 @@ pub fn put_lines(out: &mut [u8], lines: &[u8]) -> usize
     at
 }
 
-fn put_word(out: &mut [u8], at: usize, word: &[u8]) -> usize
-    requires { ⌜ at + length (now word) ≤ length (now out) ⌝ }
-    ensures { λ r. ⌜ Put (now (out .entry)) (now (out .exit)) at (now (word .entry)) r ⌝ }
-{
-    let mut i = 0;
-    while i < word.len() {
-        out[at + i] = word[i];
-        i += 1;
-    }
-    at + i
-}
-
 // The last word.
 pub fn put_end(out: &mut [u8], at: usize, account: Account) -> usize
     requires { ⌜ at + 72 ≤ length (now out) ⌝ }
     ensures { λ r. ⌜ Put (now (out .entry)) (now (out .exit)) at (endText account) r ⌝ }
 {
     if account.stage == 2 {
-        return put_word(out, at, b"closed\n");
+        return put_text(out, at, b"closed\n");
     }
     if account.stage != 3 {
-        return put_word(out, at, b"unfinished\n");
+        return put_text(out, at, b"unfinished\n");
     }
     let refusal = account.refusal;
     let numbers = [
@@ -147,7 +139,7 @@ pub fn put_end(out: &mut [u8], at: usize, account: Account) -> usize
         refusal.number as u64,
         refusal.field as u64,
     ];
-    let end = put_word(out, at, b"refused ");
+    let end = put_text(out, at, b"refused ");
     put_numbers(out, end, &numbers)
 }
 
@@ -166,5 +158,55 @@ pub fn list(state: State, part: &[u8], out: &mut [u8]) -> Listed
         state: next,
         taken: fed.taken,
         written,
+    }
+}
+
+// A tab, a line's end, a printed character, or the first byte of a byte order mark.
+fn is_typed(b: u8) -> bool
+    ensures { λ r. ⌜ r ≡ isTyped b ⌝ }
+{
+    (b == 9) | (b == 10) | (b == 13) | ((32 <= b) & (b <= 126)) | (b == 239)
+}
+
+// Whether an input begins as a typed text does: no book does, since its first byte is 0.
+pub fn begins_typed(input: &[u8]) -> bool
+    ensures { λ r. ⌜ r ≡ beginsTyped (now (input .entry)) ⌝ }
+{
+    if input.len() == 0 {
+        return false;
+    }
+    is_typed(input[0])
+}
+
+// Whether a typed text was given for a book: it is refused by 1 at its first record.
+fn looks_typed(account: Account, begins: bool) -> bool
+    ensures { λ r. ⌜ r ≡ looksTyped account begins ⌝ }
+{
+    let refusal = account.refusal;
+    (account.stage == 3) & (refusal.code == 1) & (refusal.number == 0) & begins
+}
+
+// What is said to a person beside the last word, from the start of out.
+pub fn say_remark(out: &mut [u8], account: Account, begins: bool) -> usize
+    ensures { λ r. ⌜ Said (now (out .entry)) (now (out .exit)) 0 (remarkText account begins) r ⌝ }
+{
+    if looks_typed(account, begins) {
+        return say(
+            out,
+            0,
+            b"this looks like a typed book: bin/writer makes a book of it\n",
+        );
+    }
+    say(out, 0, b"")
+}
+
+// The status byte: 0 only where the book is closed, all of it was read, and everything was written.
+pub fn status(account: Account, read: bool, written: bool) -> u8
+    ensures { λ r. ⌜ r ≡ statusByte account read written ⌝ }
+{
+    if (account.stage == 2) & read & written {
+        b'0'
+    } else {
+        b'1'
     }
 }

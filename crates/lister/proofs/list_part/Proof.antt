@@ -9,15 +9,17 @@ use Rattle.lister.proofs.list_part.Statement.{statement}
 use Rattle.lister.proofs.list_part.Tie as tie
 
 abbrev Inv-loop : tie.InvT-loop
-Inv-loop part text₀ state₀ i₀ calls₀ text state i calls = (i ≤ length part) × (length text ≡ length text₀)
+Inv-loop part text₀ w₀ i₀ calls₀ text w i calls = (i ≤ length part) × (length text ≡ length text₀)
 
 abbrev μ-loop : tie.MeasureT-loop
-μ-loop part text₀ state₀ i₀ calls₀ text state i calls = calls
+μ-loop part text₀ w₀ i₀ calls₀ text w i calls = calls
 
 -- what a call took lies in what was left
-ahead : (c : tie.After-list Inv-loop μ-loop) → c .before .before .before .before .loop .i + c .list .result .taken ≤ length (c .before .before .before .before .before .before .before .args .part .now)
+ahead : (c : tie.After-list Inv-loop μ-loop)
+    → c .before .before .before .before .before .loop .i + c .list .result .taken
+    ≤ length (c .before .before .before .before .before .before .before .before .args .part .now)
 ahead c =
-    let l = c .before .before .before .before in
+    let l = c .before .before .before .before .before in
     let part = l .before .before .before .args .part .now in
     let d = length-drop (l .loop .i) part in
     let t = length-take-le (length part - l .loop .i) (drop (l .loop .i) part) (omega arith) in
@@ -38,10 +40,15 @@ list-part-spec =
     (λ c. search needs)
     (λ c. let t = c .before .before .before .before .list .ensures .0 .text in sym (length-take-le _ _ (omega (arith, t .room, put-length t))))
     (λ c κs. search needs)
-    (λ c. omega (arith, ahead (c .before .before .before .before .before .before), c .before .before .before .before .before .before .before .before .before .before .before .before .before .good))
+    (λ c κs. search needs)
+    (λ c. search needs)
+    (λ c. search needs)
+    (λ c.
+    let l = c .before .before .before .before .before .before .before in
+    omega (arith, ahead l, l .before .before .before .before .before .before .before .before .good))
     (λ c. search needs)
     (λ c. search needs)
     (λ c. search needs)
-    (λ c. let a = ahead (c .before .before .before .before .before .before .before) in search needs)
+    (λ c. let a = ahead (c .before .before .before .before .before .before .before .before) in search needs)
     (λ c. search needs)
     (λ c. search needs))

@@ -5,10 +5,10 @@ use Rattle.lister.proofs.run.Statement.{statement}
 use Rattle.lister.proofs.run.Tie as tie
 
 abbrev Inv-loop : tie.InvT-loop
-Inv-loop text₀ done₀ turns₀ text done turns = length text ≡ length text₀
+Inv-loop text₀ w₀ turns₀ text w turns = length text ≡ length text₀
 
 abbrev μ-loop : tie.MeasureT-loop
-μ-loop text₀ done₀ turns₀ text done turns = turns
+μ-loop text₀ w₀ turns₀ text w turns = turns
 
 pub run-spec : {M : Type 1} → statement M
 run-spec =
@@ -16,13 +16,11 @@ run-spec =
     (tie.spec
     Inv-loop
     μ-loop
-    (λ c κs. search needs)
-    (λ c κs. search needs)
+    (λ c. search needs)
+    (λ c. search needs)
     (λ c. search needs)
     (λ c. search needs)
     (λ c κs. search needs)
-    (λ c. search needs)
-    (λ c. search needs)
     (λ c. search needs)
     (λ c. search needs)
     (λ c. search needs)
