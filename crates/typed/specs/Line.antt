@@ -10,6 +10,7 @@ use Rattle.text.specs.Ascii.{ascii}
 use Rattle.reading.specs.declared.Whole.{Whole}
 use Rattle.reading.specs.Words.{nthWord, sameText, lowered}
 use Rattle.reading.specs.Amounts.{amountOf}
+use Rattle.names.specs.Names.{decimalsAt}
 use Rattle.book.specs.declared.State.{State}
 use Rattle.writing.specs.Write.{Write, write}
 use Rattle.typed.specs.declared.Values.{Values}
@@ -49,9 +50,9 @@ wrongAt place = record { values = []; wrong = place }
 abbrev pub with : ℕ → Read → Read
 with v r = record { values = v ∷ r .values; wrong = r .wrong }
 
--- a word as the value of a kind's field i, counted from 0
+-- a word as the value of a kind's field i, counted from 0: digits alone are the book's unit, a number with a point the unit that people say
 abbrev pub valueAt : ℕ → ℕ → List ℕ → Whole
-valueAt kind i word = amountOf 0 word
+valueAt kind i word = amountOf (decimalsAt kind i) word
 
 -- at most n values of a kind, from field i on: the words behind the kind's
 unfoldable pub valuesFrom : ℕ → ℕ → ℕ → List ℕ → Read

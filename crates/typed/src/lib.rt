@@ -79,7 +79,7 @@ fn read_values(line: &[u8], kind: u64) -> Values
                 wrong: 0,
             };
         }
-        let number = reading::read_amount(word, 0);
+        let number = reading::read_amount(word, names::decimals(kind, count));
         if !number.good {
             return Values {
                 values: values,
