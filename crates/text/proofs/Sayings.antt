@@ -7,7 +7,7 @@ use lib.ListN.{length, take, drop, length-append, length-take}
 use lib.Seq.{take-all, take-at, length-take-le, take-append-add, take-append-le}
 use Rattle.text.specs.Decimal.{Put}
 use Rattle.text.specs.Said.{Said}
-use Rattle.text.proofs.Puts.{put-length, and-then}
+use Rattle.text.proofs.Puts.{none, put-length, and-then}
 
 pub said-whole : {xs zs : List ℕ} {at : ℕ} (s : List ℕ) {r : ℕ} → length s ≤ length xs - at → Put xs zs at s r → Said xs zs at s r
 said-whole {xs} {zs} {at} s h p = record { put = rw (take-all (length xs - at) s h) p; long = put-length p }
@@ -30,10 +30,19 @@ cut-fits s n at e h = let l = ap length e ∙ length-take (n - at) s in omega (a
 pub text-at-start : {xs zs : List ℕ} {s : List ℕ} {r : ℕ} → Put xs zs 0 s r → take r zs ≡ s
 text-at-start {xs} {zs} {s} {r} p = rw (p .text) (take-at s (drop r xs) r (omega (arith, p .next)))
 
-pub then-said : {xs ys zs : List ℕ} {at r q : ℕ} {s t : List ℕ} → at ≤ length xs → Said xs ys at s r → Said ys zs r t q → Said xs zs at (s ++ t) q
-then-said {xs} {ys} {zs} {at} {r} {q} {s} {t} h a b =
+infixr 40 _⟫_
+pub _⟫_ : {xs ys zs : List ℕ} {at r q : ℕ} {s t : List ℕ} → Said xs ys at s r → Said ys zs r t q → Said xs zs at (s ++ t) q
+_⟫_ {xs} {ys} {zs} {at} {r} {q} {s} {t} a b =
     let left : length ys - r ≡ length xs - at - length (take (length xs - at) s) = omega (arith, a .long, a .put .next) in
     record {
       put = rw (cut-both (length xs - at) s t) (rw left at (and-then (a .put) (b .put)));
       long = b .long ∙ a .long;
     }
+
+-- nothing said
+pub said-none : {xs : List ℕ} {at : ℕ} → at ≤ length xs → Said xs xs at [] at
+said-none {xs} {at} h = record { put = rw (nothing-cut (length xs - at)) (none xs at h); long = refl }
+  where
+    nothing-cut : (n : ℕ) → take {A = ℕ} n [] ≡ []
+    nothing-cut zero = refl
+    nothing-cut (suc n) = refl

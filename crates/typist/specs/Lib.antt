@@ -1,2 +1,3 @@
+pub mod Remarks
 pub mod Text
 pub mod Typist
