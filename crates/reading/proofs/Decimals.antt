@@ -12,11 +12,7 @@ use lib.Ieee.Fits.{and-r}
 use Rattle.bytes.specs.Bytes.{indexOf, slice}
 use Rattle.reading.specs.Numbers.{digitsFrom, double, +0, pickDouble, isDecimal, decimalOf}
 use Rattle.reading.specs.declared.Whole.{Whole}
-
--- the point is looked for in all of s
-found : (s : List ℕ) (p : ℕ) → p ≡ 0 + indexOf 46 (slice 0 (length s) s) → p ≡ indexOf 46 s
-unfolding slice
-found s p e = let t : indexOf 46 (take (length s) s) ≡ indexOf 46 s = rw take-length in omega arith
+use Rattle.reading.proofs.Names.{found}
 
 abbrev pub passes : ℕ → Whole → Whole → List ℕ → Bool
 passes p w a f = ((ltb 0 p && w .good) && a .good) && leb (length f) 15
@@ -29,7 +25,7 @@ module _ (s : List ℕ) {b f : List ℕ} {p : ℕ} {w a : Whole}
     (behind : f ≡ drop (p + 1) s) (all : a ≡ digitsFrom (w .value) f) where
   parts : decimalOf s ≡ pickDouble (passes p w a f) (double (a .value) (10 ^ length f))
   unfolding decimalOf
-  parts = let point = found s p find in rw (← point, ← before, ← whole, ← behind, ← all)
+  parts = let point = found 46 s p find in rw (← point, ← before, ← whole, ← behind, ← all)
 
   pub is-decimal : (x : Float) → passes p w a f ≡ true → x ≡ double (a .value) (10 ^ length f) → record { good = true; value = x } ≡ decimalOf s
   is-decimal x t e = sym (parts ∙ rw (t, ← e))

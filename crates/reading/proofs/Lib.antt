@@ -1,5 +1,8 @@
+pub mod Amounts
 mod Blanks
 mod Decimals
+mod Examples
+mod Names
 mod Quotient
 mod Same
 mod Values

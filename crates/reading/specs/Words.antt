@@ -1,9 +1,10 @@
--- The words of a line that a person types for document 01's what-if slip.
-use Prim.Native.Nat.{ℕ, zero, suc}
+-- The words of a line that a person types for document 01's what-if slip or book, names in capitals or not, and the pieces of a text.
+use Prim.Native.Nat.{ℕ, zero, suc, _+_}
 use mathlib.Core.Bool.{Bool, true, false, _&&_, _||_, Bool·beq}
 use mathlib.Core.List.{List, [], _∷_}
 use lib.ListN.{take, drop}
-use lib.Dec.{eqb}
+use lib.Dec.{eqb, leb}
+use Rattle.bytes.specs.Bytes.{indexOf}
 
 -- a space, a tab or a carriage return
 abbrev pub isBlank : ℕ → Bool
@@ -42,3 +43,20 @@ sameText [] [] = true
 sameText [] (b ∷ t) = false
 sameText (a ∷ s) [] = false
 sameText (a ∷ s) (b ∷ t) = eqb a b && sameText s t
+
+abbrev pub smallIf : Bool → ℕ → ℕ
+smallIf true b = b + 32
+smallIf false b = b
+
+-- a capital, 65 to 90, as the small letter
+abbrev pub smallLetter : ℕ → ℕ
+smallLetter b = smallIf (leb 65 b && leb b 90) b
+
+unfoldable pub lowered : List ℕ → List ℕ
+lowered [] = []
+lowered (b ∷ s) = smallLetter b ∷ lowered s
+
+-- the piece behind n separators: empty where there are not so many
+unfoldable pub nthPart : ℕ → ℕ → List ℕ → List ℕ
+nthPart sep zero s = take (indexOf sep s) s
+nthPart sep (suc n) s = nthPart sep n (drop (indexOf sep s + 1) s)
