@@ -7,7 +7,7 @@ ghost use Rattle.text.specs.Decimal.{decimal, Put};
 ghost use Rattle.reading.specs.Words.{nthWord};
 ghost use Rattle.reading.specs.Numbers.{decimalOf};
 ghost use Rattle.slip_text.specs.Asked.{changeNamed, daysOf, askedOf};
-ghost use Rattle.slip_text.specs.Shown.{shown, spacedShown, rationText, slipLine};
+ghost use Rattle.slip_text.specs.Shown.{gramsOf, shown, spacedShown, rationText, difference, compared, slipLine};
 use slip::Change;
 use slip::Ration;
 use slip::Slip;
@@ -23,6 +23,12 @@ pub enum Asked {
 struct Named {
     good: bool,
     change: Change,
+}
+
+// Thousandths; not good where there is no such number to show.
+struct Grams {
+    good: bool,
+    value: u64,
 }
 
 fn decimal_word(line: &[u8], n: usize) -> reading::Double
@@ -95,15 +101,32 @@ pub fn read_line(line: &[u8]) -> Asked
     Asked::Wrong
 }
 
+// Thousandths of x, to the nearest, where x can be shown.
+fn in_grams(x: f64) -> Grams
+    ensures { λ r. ⌜ r ≡ gramsOf x ⌝ }
+{
+    let y = x * 1000.0 + 0.5;
+    if (-1.0 < y) & (y < 1000000000000000.0) {
+        return Grams {
+            good: true,
+            value: std::num::truncating_f64_to_u64(y),
+        };
+    }
+    Grams {
+        good: false,
+        value: 0,
+    }
+}
+
 // Three decimals, or a dash.
 fn put_shown(out: &mut [u8], at: usize, x: f64) -> usize
     requires { ⌜ at + 24 ≤ length (now out) ⌝ }
     ensures { λ r. ⌜ Put (now (out .entry)) (now (out .exit)) at (shown x) r ⌝ }
     ensures { λ r. ⌜ r ≤ at + 24 ⌝ }
 {
-    let y = x * 1000.0 + 0.5;
-    if (-1.0 < y) & (y < 1000000000000000.0) {
-        return text::put_thousandths(out, at, std::num::truncating_f64_to_u64(y));
+    let g = in_grams(x);
+    if g.good {
+        return text::put_thousandths(out, at, g.value);
     }
     text::put_byte(out, at, b'-')
 }
@@ -129,15 +152,48 @@ fn put_ration(out: &mut [u8], at: usize, r: Ration) -> usize
     text::put_decimal(out, after, r.days as u64)
 }
 
-// One line of at most 142 bytes.
-pub fn put_slip(out: &mut [u8], at: usize, s: Slip) -> usize
-    requires { ⌜ at + 142 ≤ length (now out) ⌝ }
-    ensures { λ r. ⌜ Put (now (out .entry)) (now (out .exit)) at (slipLine s) r ⌝ }
-    ensures { λ r. ⌜ r ≤ at + 142 ⌝ }
+// After less before, from the numbers as they are shown, so that the columns add up.
+fn put_difference(out: &mut [u8], at: usize, after: f64, before: f64) -> usize
+    requires { ⌜ at + 25 ≤ length (now out) ⌝ }
+    ensures { λ r. ⌜ Put (now (out .entry)) (now (out .exit)) at (difference after before) r ⌝ }
+    ensures { λ r. ⌜ r ≤ at + 25 ⌝ }
+{
+    let a = in_grams(after);
+    let b = in_grams(before);
+    if !(a.good & b.good) {
+        return text::put_byte(out, at, b'-');
+    }
+    if a.value < b.value {
+        let minus = text::put_byte(out, at, b'-');
+        return text::put_thousandths(out, minus, b.value - a.value);
+    }
+    text::put_thousandths(out, at, a.value - b.value)
+}
+
+// The kg before the change and the difference; a refused slip has dashes.
+fn put_compared(out: &mut [u8], at: usize, s: Slip, before: f64) -> usize
+    requires { ⌜ at + 51 ≤ length (now out) ⌝ }
+    ensures { λ r. ⌜ Put (now (out .entry)) (now (out .exit)) at (compared s before) r ⌝ }
+    ensures { λ r. ⌜ r ≤ at + 51 ⌝ }
+{
+    if s.code != 0 {
+        return text::put_text(out, at, b" - -");
+    }
+    let kg = put_spaced_shown(out, at, before);
+    let space = text::put_byte(out, kg, b' ');
+    put_difference(out, space, s.kg, before)
+}
+
+// One line of at most 193 bytes: the slip, and beside it the kg before the change.
+pub fn put_slip(out: &mut [u8], at: usize, s: Slip, before: f64) -> usize
+    requires { ⌜ at + 193 ≤ length (now out) ⌝ }
+    ensures { λ r. ⌜ Put (now (out .entry)) (now (out .exit)) at (slipLine s before) r ⌝ }
+    ensures { λ r. ⌜ r ≤ at + 193 ⌝ }
 {
     let ration = s.ration;
     let code = text::put_decimal(out, at, s.code as u64);
     let days = put_ration(out, code, ration);
     let kg = put_spaced_shown(out, days, s.kg);
-    text::put_byte(out, kg, b'\n')
+    let both = put_compared(out, kg, s, before);
+    text::put_byte(out, both, b'\n')
 }
