@@ -51,12 +51,12 @@ no-zero v k i h = let e : k - i ≡ 0 = omega arith in rw e
 pub followed : (v : ℕ) (s t : List ℕ) → numberFrom v (s ++ t) ≡ goesOn (numberFrom v s .good) (numberFrom (numberFrom v s .value) t)
 unfolding numberFrom
 followed v [] t = refl
-followed v (b ∷ s) t = by-digit (isDigit b) (followed (withDigit v b) s t)
+followed v (b ∷ s) t = by-digit (isDigit b) (numberFrom (withDigit v b) s) (numberFrom (withDigit v b) (s ++ t)) (followed (withDigit v b) s t)
   where
-    by-digit : (d : Bool) → numberFrom (withDigit v b) (s ++ t) ≡ goesOn (numberFrom (withDigit v b) s .good) (numberFrom (numberFrom (withDigit v b) s .value) t)
-        → goesOn d (numberFrom (withDigit v b) (s ++ t)) ≡ goesOn (goesOn d (numberFrom (withDigit v b) s) .good) (numberFrom (goesOn d (numberFrom (withDigit v b) s) .value) t)
-    by-digit true e = e
-    by-digit false e = refl
+    by-digit : (d : Bool) (w all : Whole) → all ≡ goesOn (w .good) (numberFrom (w .value) t)
+        → goesOn d all ≡ goesOn (goesOn d w .good) (numberFrom (goesOn d w .value) t)
+    by-digit true w all e = e
+    by-digit false w all e = refl
 
 all-tests : (x y z : Bool) (n : Whole) → goesOn x (goesOn y (goesOn z n)) ≡ goesOn ((x && y) && z) n
 all-tests true true z n = refl
@@ -94,7 +94,8 @@ module _ (d : ℕ) (s : List ℕ) {b f : List ℕ} {p : ℕ} {w a : Whole}
       )
       (all-tests ((ltb 0 p && ltb 0 (length f)) && leb (length f) d) (w .good) (a .good) (numberFrom (a .value) (replicate (d - length f) 48)))
 
-  pub is-amount : (z : ℕ) → passes p (length f) d w a ≡ true → numberFrom (a .value) (replicate (d - length f) 48) ≡ aWhole z → aWhole z ≡ amountOf d s
+  pub is-amount : (z : ℕ) → passes p (length f) d w a ≡ true → numberFrom (a .value) (replicate (d - length f) 48) ≡ aWhole z
+      → aWhole z ≡ amountOf d s
   is-amount z t e = sym (parts ∙ rw (t, e))
 
   pub is-none : passes p (length f) d w a ≡ false → noWhole ≡ amountOf d s

@@ -42,7 +42,9 @@ unfolding amountOf numberFrom indexOf indexAfter
 nothing-behind = refl
 
 -- 20 digits
-twenty-digits : amountOf 2 (49 ∷ 50 ∷ 51 ∷ 52 ∷ 53 ∷ 54 ∷ 55 ∷ 56 ∷ 57 ∷ 48 ∷ 49 ∷ 50 ∷ 51 ∷ 52 ∷ 53 ∷ 54 ∷ 55 ∷ 56 ∷ 57 ∷ 48 ∷ []) ≡ aWhole 1000000000000000
+twenty-digits : amountOf 2
+    (49 ∷ 50 ∷ 51 ∷ 52 ∷ 53 ∷ 54 ∷ 55 ∷ 56 ∷ 57 ∷ 48 ∷ 49 ∷ 50 ∷ 51 ∷ 52 ∷ 53 ∷ 54 ∷ 55 ∷ 56 ∷ 57 ∷ 48 ∷ [])
+    ≡ aWhole 1000000000000000
 unfolding amountOf numberFrom indexOf indexAfter
 twenty-digits = refl
 

@@ -1,4 +1,5 @@
--- The numbers that a person types for the fields of document 01's book (document 02, W1), with the decimals that people say, and their values in the book's unit.
+-- The numbers that a person types for the fields of document 01's book (document 02, W1), with the decimals that people say,
+-- and their values in the book's unit.
 use Prim.Native.Nat.{ℕ, _+_, _-_, _*_, min}
 use mathlib.Core.Bool.{Bool, true, false, _&&_}
 use mathlib.Core.List.{List, [], _∷_, _++_}

@@ -41,9 +41,11 @@ pub +part-spec : {M : Type 1} → statement M
     (λ c κs. search needs)
     (λ c κs. search needs)
     (λ c. let start = c .before .before .before .before in
-    rw (c .first-of .ensures, c .before .before .index-of .ensures .0, no-others (start .args .sep) (start .args .n) (start .args .s .now) (c .before .if1 .taken)))
+    let first = no-others (start .args .sep) (start .args .n) (start .args .s .now) (c .before .if1 .taken) in
+    rw (c .first-of .ensures, c .before .before .index-of .ensures .0, first))
     (λ c κs. search needs)
     (λ c. search needs)
     (λ c κs. search needs)
     (λ c. let start = c .before .before .before .before .before in
-    rw (c .part .ensures, c .before .behind-point .ensures, c .before .before .before .index-of .ensures .0, behind-one (start .args .sep) (start .args .n) (start .args .s .now) (search needs)))
+    let later = behind-one (start .args .sep) (start .args .n) (start .args .s .now) (search needs) in
+    rw (c .part .ensures, c .before .behind-point .ensures, c .before .before .before .index-of .ensures .0, later))

@@ -20,16 +20,16 @@ differing c =
     let turn = c .before .before .before .before .before .loop in
     let args = c .before .before .before .before .before .before .before .before .before .args in
     let small = c .before .before .small-letter in
-    sym (turn .inv .1 ∙ name-differs (args .word .now) (args .name .now) (turn .i) (search needs) (search needs) (small .result) (small .ensures) (c .if2 .taken))
+    let here = name-differs (args .word .now) (args .name .now) (turn .i) (search needs) (search needs) (small .result) (small .ensures) in
+    sym (turn .inv .1 ∙ here (c .if2 .taken))
 
 again : tie.Need-loop-again Inv-loop μ-loop
 again c =
     let turn = c .before .before .before .before .before .loop in
     let args = c .before .before .before .before .before .before .before .before .before .args in
-    let small = c .before .before .small-letter in (
-      search needs,
-      turn .inv .1 ∙ name-goes-on (args .word .now) (args .name .now) (turn .i) (search needs) (search needs) (small .result) (small .ensures) (c .if2 .left),
-    )
+    let small = c .before .before .small-letter in
+    let here = name-goes-on (args .word .now) (args .name .now) (turn .i) (search needs) (search needs) (small .result) (small .ensures) in
+    (search needs, turn .inv .1 ∙ here (c .if2 .left))
 
 same : tie.Need-returns-3 Inv-loop μ-loop
 same c =

@@ -19,21 +19,17 @@ broken-off : tie.Need-returns Inv-loop μ-loop
 broken-off c =
     let turn = c .before .before .before .before .loop in
     let s = c .before .before .before .before .before .before .args .s .now in
-    let test = c .before .is-digit in (
-      sym (turn .inv .2 ∙ breaks-off (turn .v) s (turn .i) (c .before .before .before .loop-test .taken) (test .result) (test .ensures) (c .if1 .taken)),
-      search needs,
-    )
+    let test = c .before .is-digit in
+    let here = breaks-off (turn .v) s (turn .i) (c .before .before .before .loop-test .taken) (test .result) (test .ensures) in
+    (sym (turn .inv .2 ∙ here (c .if1 .taken)), search needs)
 
 again : tie.Need-loop-again Inv-loop μ-loop
 again c =
     let turn = c .before .before .before .before .before .loop in
     let s = c .before .before .before .before .before .before .before .args .s .now in
-    let test = c .before .before .is-digit in (
-      search needs,
-      omega (arith, c .with-digit .ensures),
-      rw (c .with-digit .ensures)
-          (turn .inv .2 ∙ goes-on (turn .v) s (turn .i) (c .before .before .before .before .loop-test .taken) (test .result) (test .ensures) (c .before .if1 .left)),
-    )
+    let test = c .before .before .is-digit in
+    let here = goes-on (turn .v) s (turn .i) (c .before .before .before .before .loop-test .taken) (test .result) (test .ensures) in
+    (search needs, omega (arith, c .with-digit .ensures), rw (c .with-digit .ensures) (turn .inv .2 ∙ here (c .before .if1 .left)))
 
 ended : tie.Need-returns-2 Inv-loop μ-loop
 ended c =

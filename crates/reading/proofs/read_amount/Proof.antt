@@ -10,11 +10,10 @@ few : tie.Need-sub-with-zeros
 few c =
     let parts = c .before .before .before in
     let front = parts .before .before .before in
-    omega (
-      arith,
-      enough (front .before .before .index-of .result) (length (parts .before .behind-point .result .now)) (front .before .before .before .before .args .decimals)
-          (parts .before .before .number .result) (parts .number2 .result) (c .if2 .taken),
-    )
+    let places = length (parts .before .behind-point .result .now) in
+    let decimals = front .before .before .before .before .args .decimals in
+    let whole = parts .before .before .number .result in
+    omega (arith, enough (front .before .before .index-of .result) places decimals whole (parts .number2 .result) (c .if2 .taken))
 
 amount : tie.Need-returns-2
 amount c =
@@ -22,8 +21,8 @@ amount c =
     let front = parts .before .before .before in
     let start = front .before .before .before .before in
     is-amount (start .args .decimals) (start .args .word .now) (front .before .before .index-of .ensures .0) (search needs) (front .first-of .ensures)
-    (parts .before .before .number .ensures .0) (parts .before .behind-point .ensures) (parts .number2 .ensures .0) (c .with-zeros .result) (c .before .if2 .taken)
-    (c .with-zeros .ensures)
+    (parts .before .before .number .ensures .0) (parts .before .behind-point .ensures) (parts .number2 .ensures .0) (c .with-zeros .result)
+    (c .before .if2 .taken) (c .with-zeros .ensures)
 
 none : tie.Need-returns-3
 none c =

@@ -1,0 +1,4 @@
+mod Examples
+mod Lines
+mod Shown
+pub mod Ranges

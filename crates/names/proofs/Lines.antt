@@ -1,0 +1,77 @@
+-- Laws of the table's lines: the lines past the last, the digits of the decimals, and the kinds that the book has not.
+use Prim.Native.Nat.{ℕ, zero, suc, _+_, _-_, _<_, _≤_, min, zero-le}
+use native.Mathlib.Omega.{arith}
+use mathlib.Core.Path.{_≡_, refl, sym, ap, _∙_, subst}
+use mathlib.Core.Bool.{Bool, true, false, _&&_}
+use mathlib.Core.List.{List, [], _∷_}
+use lib.ListN.{length, getD, List·getD-eq-default}
+use lib.Dec.{T, leb, eqb, leb→le}
+use lib.Ieee.Fits.{and-l, and-r}
+use borrow.Author.Tests.{eqb-true, eqb-false}
+use Rattle.bytes.specs.Bytes.{indexOf, indexAfter}
+use Rattle.reading.specs.Words.{nthPart}
+use Rattle.text.proofs.Digits.{by-test}
+use Rattle.codec.specs.Table.{table, fields}
+use Rattle.names.specs.Names.{lineOf, decimalsTable, decimalsOf, decimalsAt}
+
+pub line-past : (last k : ℕ) (text : List ℕ) → last < k → nthPart 10 last text ≡ lineOf last k text
+line-past last k text h = let e : min k last ≡ last = omega arith in rw e
+
+pub line-within : (last k : ℕ) (text : List ℕ) → k ≤ last → nthPart 10 k text ≡ lineOf last k text
+line-within last k text h = let e : min k last ≡ k = omega arith in rw e
+
+-- every number below n passes the test
+unfoldable pub allBelow : ℕ → (ℕ → Bool) → Bool
+allBelow zero p = true
+allBelow (suc n) p = p n && allBelow n p
+
+pub at-below : (n : ℕ) (p : ℕ → Bool) → T (allBelow n p) → (k : ℕ) → k < n → T (p k)
+unfolding allBelow
+at-below zero p t k h = absurd (omega arith)
+at-below (suc n) p t k h =
+    by-test (eqb k n)
+    (λ e. subst (λ (m : ℕ). T (p m)) (sym (eqb-true k n e)) (and-l (p n) (allBelow n p) t))
+    (λ e. at-below n p (and-r (p n) (allBelow n p) t) k (omega (arith, eqb-false k n e)))
+
+-- ---- the digits
+
+pub no-digit : (l : List ℕ) (i : ℕ) → length l ≤ i → 0 ≡ getD l i 0 - 48
+no-digit l i h = rw (List·getD-eq-default l 0 h)
+
+unfoldable upTo5 : List ℕ → Bool
+upTo5 [] = true
+upTo5 (b ∷ s) = leb b 53 && upTo5 s
+
+small : (l : List ℕ) → T (upTo5 l) → (i : ℕ) → getD l i 0 - 48 ≤ 5
+unfolding upTo5
+small [] t i = omega arith
+small (b ∷ s) t zero = let h = leb→le b 53 (and-l (leb b 53) (upTo5 s) t) in omega arith
+small (b ∷ s) t (suc i) = small s (and-r (leb b 53) (upTo5 s) t) i
+
+abbrev smallLine : ℕ → Bool
+smallLine k = upTo5 (nthPart 10 k decimalsTable)
+
+small-lines : T (allBelow 10 smallLine)
+unfolding allBelow upTo5 nthPart indexOf indexAfter decimalsTable
+small-lines = tt
+
+pub few-decimals : (k i : ℕ) → decimalsAt k i ≤ 5
+few-decimals k i = small (decimalsOf k) (at-below 10 smallLine small-lines (min k 9) (omega arith)) i
+
+-- ---- the kinds
+
+pub no-fields : (k : ℕ) → 8 < k → fields k ≡ []
+unfolding table
+no-fields k h = List·getD-eq-default table [] h
+
+next : {k : ℕ} (j : ℕ) → j ≤ k → (k ≡ j → ⊥) → suc j ≤ k
+next j l h = omega arith
+
+pub other-kind : (k : ℕ) → (k ≡ 1 → ⊥) → (k ≡ 2 → ⊥) → (k ≡ 3 → ⊥) → (k ≡ 4 → ⊥) → (k ≡ 5 → ⊥) → (k ≡ 6 → ⊥) → (k ≡ 7 → ⊥) → (k ≡ 8 → ⊥)
+    → 0 ≡ length (fields k)
+unfolding table
+other-kind k h1 h2 h3 h4 h5 h6 h7 h8 =
+    by-test (eqb k 0)
+    (λ e. rw (eqb-true k 0 e))
+    (λ e. let past4 = next 4 (next 3 (next 2 (next 1 (next 0 zero-le (eqb-false k 0 e)) h1) h2) h3) h4 in
+    rw (no-fields k (next 8 (next 7 (next 6 (next 5 past4 h5) h6) h7) h8)))

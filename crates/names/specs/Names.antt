@@ -1,0 +1,128 @@
+-- Document 01's kinds, fields, classes and numbers in the words that people are told (document 02, W1: a book that is typed), in one table.
+use Prim.Native.Nat.{ℕ, _-_, min}
+use mathlib.Core.Bool.{Bool, true, false, _&&_}
+use mathlib.Core.List.{List, [], _∷_, _++_}
+use lib.ListN.{getD, take}
+use lib.Dec.{leb}
+use Rattle.reading.specs.Words.{nthPart}
+use Rattle.text.specs.Ascii.{ascii}
+use Rattle.codec.specs.Codec.{pick}
+
+-- the line k of a text, counted from 0; from the last on all are the same
+abbrev pub lineOf : ℕ → ℕ → List ℕ → List ℕ
+lineOf last k text = nthPart 10 (min k last) text
+
+-- ---- the kinds, 1 to 8: a line for each, from 0; no other has fields
+
+unfoldable pub kindTable : List ℕ
+kindTable = ascii "record\nfarm\nheading\nenteric\ncattle\npig\nenergy\nsoil\nclose\nrecord"
+
+abbrev pub kindName : ℕ → List ℕ
+kindName k = lineOf 9 k kindTable
+
+-- the names of a kind's fields, with a comma between
+unfoldable pub fieldTable : List ℕ
+fieldTable =
+    ascii "\n"
+    ++ ascii " farm number, year, warming set\n"
+    ++ ascii " group, class, head\n"
+    ++ ascii " days, GE, Ym\n"
+    ++ ascii " days, feed, protein, milk, milk protein, gain, solid share, liquid share, pasture share\n"
+    ++ ascii " days, feed, VS excretion, VS factor, MCF, protein, N factor, direct EF, volatilised part, volatilised EF, leached part, leached EF\n"
+    ++ ascii " source, amount, factor\n"
+    ++ ascii " area\n"
+    ++ ascii " records before it"
+
+abbrev pub fieldNames : ℕ → List ℕ
+fieldNames k = lineOf 9 k fieldTable
+
+-- the name of field i, counted from 0
+abbrev pub fieldName : ℕ → ℕ → List ℕ
+fieldName k i = nthPart 44 i (fieldNames k)
+
+-- what is expected of a kind's fields, with a semicolon between: from, to, and the unit that people say
+unfoldable pub expectedTable : List ℕ
+expectedTable =
+    ascii "\n"
+    ++ ascii " 0 to 4294967295; 1900 to 2200; 1 or 2\n"
+    ++ ascii " 1 to 65535; 1 to 4 (milking, dry, heifer, pig); 0 to 20000\n"
+    ++ ascii " 1 to 366; 0 to 1000.00 MJ per head and day; 0 to 20.00 per cent\n"
+    ++ ascii " 1 to 366; 0 to 50.00 kg per head and day; 0 to 40.00 per cent; 0 to 80.00 kg per head and day; 0 to 8.00 per cent"
+    ++ ascii "; 0 to 3000 g per head and day; 0 to 100.00 per cent; 0 to 100.00 per cent; 0 to 100.00 per cent\n"
+    ++ ascii " 1 to 366; 0 to 10.00 kg per head and day; 0 to 0.5000; 0 to 2.000; 0 to 1.000; 0 to 40.00 per cent; 0 to 2.000"
+    ++ ascii "; 0 to 0.10000; 0 to 1.000; 0 to 0.10000; 0 to 1.000; 0 to 0.10000\n"
+    ++ ascii " 1 to 8; 0 to 1000000.0 units; 0 to 10000000 g CO2 per unit\n"
+    ++ ascii " 0 to 100000.00 ha\n"
+    ++ ascii " 0 to 65535"
+
+abbrev pub expectedTexts : ℕ → List ℕ
+expectedTexts k = lineOf 9 k expectedTable
+
+abbrev pub expected : ℕ → ℕ → List ℕ
+expected k i = nthPart 59 i (expectedTexts k)
+
+-- how many decimals the fields of a kind have: a digit for each
+unfoldable pub decimalsTable : List ℕ
+decimalsTable = ascii "\n000\n000\n022\n022220222\n024332353535\n010\n2\n0"
+
+abbrev pub decimalsOf : ℕ → List ℕ
+decimalsOf k = lineOf 9 k decimalsTable
+
+-- 0 where there is no such field
+abbrev pub decimalsAt : ℕ → ℕ → ℕ
+decimalsAt k i = getD (decimalsOf k) i 0 - 48
+
+-- ---- the classes, 1 to 4: no other has a name
+
+unfoldable pub classTable : List ℕ
+classTable = ascii "\nmilking\ndry\nheifer\npig"
+
+abbrev pub className : ℕ → List ℕ
+className c = lineOf 5 c classTable
+
+-- ---- the numbers of refusals
+
+unfoldable pub sentenceTable : List ℕ
+sentenceTable =
+    ascii "closed\n"
+    ++ ascii "a length that no record has: it is 4 to 26\n"
+    ++ ascii "the version is not 1\n"
+    ++ ascii "no such kind of record: kinds are 1 to 8\n"
+    ++ ascii "a wrong length or count of values\n"
+    ++ ascii "the book has 4096 records, and no more go in\n"
+    ++ ascii "out of its place: a book begins with its one farm record; enteric and cattle stand under a heading of class 1 to 3"
+    ++ ascii ", pig under one of class 4\n"
+    ++ ascii "a value is out of its range\n"
+    ++ ascii "the group number must be above that of the heading before\n"
+    ++ ascii "more than 366 days of this kind under the heading\n"
+    ++ ascii "cattle shares must be 100.00 per cent together; a pig's volatilised and leached parts at most 1.000\n"
+    ++ ascii "more nitrogen in milk and gain than in the feed\n"
+    ++ ascii "the close counts other records than there are before it; left out, the count is filled in\n"
+    ++ ascii "a state outside its ranges\n"
+    ++ ascii "a number of the ration or the change is out of its range\n"
+    ++ ascii "the changed value is out of its range\n"
+    ++ ascii "no room\n"
+    ++ ascii "the bytes end before the close\n"
+    ++ ascii "bytes stand behind the close\n"
+    ++ ascii "no such number\n"
+    ++ ascii "no such number\n"
+    ++ ascii "no such number\n"
+    ++ ascii "the book is closed already\n"
+    ++ ascii "no such number"
+
+abbrev pub sentence : ℕ → List ℕ
+sentence code = lineOf 23 code sentenceTable
+
+-- ---- a word that is told back
+
+-- a byte that prints, 33 to 126, or a question mark
+abbrev pub printedByte : ℕ → ℕ
+printedByte b = pick (leb 33 b && leb b 126) b 63
+
+unfoldable pub allPrinted : List ℕ → List ℕ
+allPrinted [] = []
+allPrinted (b ∷ s) = printedByte b ∷ allPrinted s
+
+-- the first 24 bytes of a word
+abbrev pub shown : List ℕ → List ℕ
+shown word = allPrinted (take 24 word)

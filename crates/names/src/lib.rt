@@ -1,0 +1,241 @@
+// The names of kinds, fields and classes, what is expected of a field, and the sentences of the numbers: the one table of them, for every program.
+use reading::part;
+use text::say;
+ghost use mathlib.Core.Path.{_≡_};
+ghost use Prim.Native.Nat.{_-_, _≤_, min};
+ghost use lib.ListN.{length, getD};
+ghost use Rattle.codec.specs.Codec.{pick};
+ghost use Rattle.codec.specs.Table.{fields};
+ghost use Rattle.text.specs.Said.{Said};
+ghost use Rattle.names.specs.Names.{lineOf, kindName, fieldNames, fieldName, expected, decimalsAt, className, sentence, printedByte, shown};
+
+// The line k of a text, counted from 0; from the last on all are the same.
+fn line_of(text: &[u8], last: u64, k: u64) -> &[u8]
+    ensures { λ r. ⌜ now r ≡ lineOf last k (now (text .entry)) ⌝ }
+{
+    if last < k {
+        return part(text, b'\n', last as usize);
+    }
+    part(text, b'\n', k as usize)
+}
+
+// The kind's name; a kind that the book has not is a record.
+pub fn say_kind(out: &mut [u8], at: usize, kind: u64) -> usize
+    requires { ⌜ at ≤ length (now out) ⌝ }
+    ensures { λ r. ⌜ Said (now (out .entry)) (now (out .exit)) at (kindName kind) r ⌝ }
+{
+    let name = line_of(
+        b"record
+farm
+heading
+enteric
+cattle
+pig
+energy
+soil
+close
+record",
+        9,
+        kind,
+    );
+    say(out, at, name)
+}
+
+// The names of all the kind's fields, or that of field i.
+fn say_names(out: &mut [u8], at: usize, kind: u64, all: bool, i: usize) -> usize
+    requires { ⌜ at ≤ length (now out) ⌝ }
+    ensures { λ r. ⌜ Said (now (out .entry)) (now (out .exit)) at (pick all (fieldNames kind) (fieldName kind i)) r ⌝ }
+{
+    let names = line_of(
+        b"
+ farm number, year, warming set
+ group, class, head
+ days, GE, Ym
+ days, feed, protein, milk, milk protein, gain, solid share, liquid share, pasture share
+ days, feed, VS excretion, VS factor, MCF, protein, N factor, direct EF, volatilised part, volatilised EF, leached part, leached EF
+ source, amount, factor
+ area
+ records before it",
+        9,
+        kind,
+    );
+    if all {
+        return say(out, at, names);
+    }
+    say(out, at, part(names, b',', i))
+}
+
+// The name of field i, counted from 0, with a blank before it.
+pub fn say_field(out: &mut [u8], at: usize, kind: u64, i: usize) -> usize
+    requires { ⌜ at ≤ length (now out) ⌝ }
+    ensures { λ r. ⌜ Said (now (out .entry)) (now (out .exit)) at (fieldName kind i) r ⌝ }
+{
+    say_names(out, at, kind, false, i)
+}
+
+pub fn say_fields(out: &mut [u8], at: usize, kind: u64) -> usize
+    requires { ⌜ at ≤ length (now out) ⌝ }
+    ensures { λ r. ⌜ Said (now (out .entry)) (now (out .exit)) at (fieldNames kind) r ⌝ }
+{
+    say_names(out, at, kind, true, 0)
+}
+
+// What is expected of field i, with a blank before it.
+pub fn say_expected(out: &mut [u8], at: usize, kind: u64, i: usize) -> usize
+    requires { ⌜ at ≤ length (now out) ⌝ }
+    ensures { λ r. ⌜ Said (now (out .entry)) (now (out .exit)) at (expected kind i) r ⌝ }
+{
+    let texts = line_of(
+        b"
+ 0 to 4294967295; 1900 to 2200; 1 or 2
+ 1 to 65535; 1 to 4 (milking, dry, heifer, pig); 0 to 20000
+ 1 to 366; 0 to 1000.00 MJ per head and day; 0 to 20.00 per cent
+ 1 to 366; 0 to 50.00 kg per head and day; 0 to 40.00 per cent; 0 to 80.00 kg per head and day; 0 to 8.00 per cent; \
+0 to 3000 g per head and day; 0 to 100.00 per cent; 0 to 100.00 per cent; 0 to 100.00 per cent
+ 1 to 366; 0 to 10.00 kg per head and day; 0 to 0.5000; 0 to 2.000; 0 to 1.000; 0 to 40.00 per cent; 0 to 2.000; \
+0 to 0.10000; 0 to 1.000; 0 to 0.10000; 0 to 1.000; 0 to 0.10000
+ 1 to 8; 0 to 1000000.0 units; 0 to 10000000 g CO2 per unit
+ 0 to 100000.00 ha
+ 0 to 65535",
+        9,
+        kind,
+    );
+    say(out, at, part(texts, b';', i))
+}
+
+// The digit at index i; 0 where there is none.
+fn digit_at(digits: &[u8], i: usize) -> usize
+    ensures { λ r. ⌜ r ≡ getD (now (digits .entry)) i 0 - 48 ⌝ }
+{
+    if digits.len() <= i {
+        return 0;
+    }
+    let b = digits[i];
+    if b < 48 {
+        return 0;
+    }
+    (b - 48) as usize
+}
+
+// How many decimals field i has; 0 where there is no such field.
+pub fn decimals(kind: u64, i: usize) -> usize
+    ensures { λ r. ⌜ r ≡ decimalsAt kind i ⌝ }
+    ensures { λ r. ⌜ r ≤ 5 ⌝ }
+{
+    let digits = line_of(
+        b"
+000
+000
+022
+022220222
+024332353535
+010
+2
+0",
+        9,
+        kind,
+    );
+    digit_at(digits, i)
+}
+
+pub fn field_count(kind: u64) -> usize
+    ensures { λ r. ⌜ r ≡ length (fields kind) ⌝ }
+{
+    match kind {
+        1 => 3,
+        2 => 3,
+        3 => 3,
+        4 => 9,
+        5 => 12,
+        6 => 3,
+        7 => 1,
+        8 => 1,
+        _ => 0,
+    }
+}
+
+pub fn say_class(out: &mut [u8], at: usize, class: u64) -> usize
+    requires { ⌜ at ≤ length (now out) ⌝ }
+    ensures { λ r. ⌜ Said (now (out .entry)) (now (out .exit)) at (className class) r ⌝ }
+{
+    let name = line_of(
+        b"
+milking
+dry
+heifer
+pig",
+        5,
+        class,
+    );
+    say(out, at, name)
+}
+
+pub fn say_sentence(out: &mut [u8], at: usize, code: u64) -> usize
+    requires { ⌜ at ≤ length (now out) ⌝ }
+    ensures { λ r. ⌜ Said (now (out .entry)) (now (out .exit)) at (sentence code) r ⌝ }
+{
+    let words = line_of(
+        b"closed
+a length that no record has: it is 4 to 26
+the version is not 1
+no such kind of record: kinds are 1 to 8
+a wrong length or count of values
+the book has 4096 records, and no more go in
+out of its place: a book begins with its one farm record; enteric and cattle stand under a heading of class 1 to 3, pig under one of class 4
+a value is out of its range
+the group number must be above that of the heading before
+more than 366 days of this kind under the heading
+cattle shares must be 100.00 per cent together; a pig's volatilised and leached parts at most 1.000
+more nitrogen in milk and gain than in the feed
+the close counts other records than there are before it; left out, the count is filled in
+a state outside its ranges
+a number of the ration or the change is out of its range
+the changed value is out of its range
+no room
+the bytes end before the close
+bytes stand behind the close
+no such number
+no such number
+no such number
+the book is closed already
+no such number",
+        23,
+        code,
+    );
+    say(out, at, words)
+}
+
+fn shorter(a: usize, b: usize) -> usize
+    ensures { λ r. ⌜ r ≡ min a b ⌝ }
+{
+    if a < b {
+        return a;
+    }
+    b
+}
+
+fn printed(b: u8) -> u8
+    ensures { λ r. ⌜ r ≡ printedByte b ⌝ }
+{
+    if b < 33 {
+        return b'?';
+    }
+    if 126 < b {
+        return b'?';
+    }
+    b
+}
+
+// A word told back: its first 24 bytes, with a ? for each that does not print.
+pub fn say_shown(out: &mut [u8], at: usize, word: &[u8]) -> usize
+    requires { ⌜ at ≤ length (now out) ⌝ }
+    ensures { λ r. ⌜ Said (now (out .entry)) (now (out .exit)) at (shown (now (word .entry))) r ⌝ }
+{
+    let n = shorter(shorter(word.len(), 24), out.len() - at);
+    let mut i = 0;
+    while i < n {
+        out[at + i] = printed(word[i]);
+        i += 1;
+    }
+    at + i
+}
