@@ -6,17 +6,17 @@ ghost use mathlib.Core.List.{_∷_, []};
 ghost use Rattle.text.specs.Decimal.{decimal, Put};
 ghost use Rattle.reading.specs.Words.{nthWord};
 ghost use Rattle.reading.specs.Numbers.{decimalOf};
-ghost use Rattle.slip_text.specs.Asked.{changeNamed, daysOf, askedOf};
+ghost use Rattle.slip_text.specs.Asked.{changeNamed, daysOf, unless, rationFault, changeFault, faultOf, rationIn, changeIn, askedOf};
 ghost use Rattle.slip_text.specs.Shown.{gramsOf, shown, spacedShown, rationText, difference, compared, slipLine};
 use slip::Change;
 use slip::Ration;
 use slip::Slip;
 
-// What a line asks: nothing where it has no word.
+// What a line asks: nothing where it has no word; where something is wrong, what.
 pub enum Asked {
     Nothing,
     Estimate(Ration, Change),
-    Wrong,
+    Wrong(u64),
 }
 
 // A change by its name; with another name it is not good.
@@ -74,31 +74,80 @@ fn read_change(line: &[u8], x: f64) -> Named
     }
 }
 
-// GE Ym head days CHANGE X
-pub fn read_line(line: &[u8]) -> Asked
-    ensures { λ r. ⌜ r ≡ askedOf (now (line .entry)) ⌝ }
+// The fault where a test fails, else the other.
+fn fault_unless(good: bool, fault: u64, other: u64) -> u64
+    ensures { λ r. ⌜ r ≡ unless good fault other ⌝ }
 {
-    if reading::word(line, 0).len() == 0 {
-        return Asked::Nothing;
-    }
+    if good { other } else { fault }
+}
+
+fn ration_fault(line: &[u8], other: u64) -> u64
+    ensures { λ r. ⌜ r ≡ rationFault (now (line .entry)) other ⌝ }
+{
+    let days = fault_unless(read_days(line).good, 4, other);
+    let head = fault_unless(decimal_word(line, 2).good, 3, days);
+    let ym = fault_unless(decimal_word(line, 1).good, 2, head);
+    fault_unless(decimal_word(line, 0).good, 1, ym)
+}
+
+fn change_fault(line: &[u8]) -> u64
+    ensures { λ r. ⌜ r ≡ changeFault (now (line .entry)) ⌝ }
+{
+    let more = fault_unless(reading::word(line, 6).len() == 0, 7, 0);
+    let x = decimal_word(line, 5);
+    let named = read_change(line, x.value);
+    let number = fault_unless(x.good, 6, more);
+    fault_unless(named.good, 5, number)
+}
+
+// The first fault: 1 to 6 the word at that place, 7 a word too many, 8 too few, 0 none.
+fn line_fault(line: &[u8]) -> u64
+    ensures { λ r. ⌜ r ≡ faultOf (now (line .entry)) ⌝ }
+{
+    let other = ration_fault(line, change_fault(line));
+    fault_unless(0 < reading::word(line, 5).len(), 8, other)
+}
+
+fn ration_in(line: &[u8]) -> Ration
+    ensures { λ r. ⌜ r ≡ rationIn (now (line .entry)) ⌝ }
+{
     let ge = decimal_word(line, 0);
     let ym = decimal_word(line, 1);
     let head = decimal_word(line, 2);
     let days = read_days(line);
-    let x = decimal_word(line, 5);
-    let named = read_change(line, x.value);
-    let more = reading::word(line, 6).len();
-    if ge.good & ym.good & head.good & days.good & named.good & x.good & (more == 0) {
-        let ration = Ration {
-            ge: ge.value,
-            ym: ym.value,
-            head: head.value,
-            days: days.value as u16,
-        };
-        let change = named.change;
-        return Asked::Estimate(ration, change);
+    Ration {
+        ge: ge.value,
+        ym: ym.value,
+        head: head.value,
+        days: days.value as u16,
     }
-    Asked::Wrong
+}
+
+fn change_in(line: &[u8]) -> Named
+    ensures { λ r. ⌜ r ≡ changeIn (now (line .entry)) ⌝ }
+{
+    let x = decimal_word(line, 5);
+    read_change(line, x.value)
+}
+
+// GE Ym head days CHANGE X, on a line of at most 1,023 bytes.
+pub fn read_line(line: &[u8]) -> Asked
+    ensures { λ r. ⌜ r ≡ askedOf (now (line .entry)) ⌝ }
+{
+    if 1024 <= line.len() {
+        return Asked::Wrong(9);
+    }
+    if reading::word(line, 0).len() == 0 {
+        return Asked::Nothing;
+    }
+    let fault = line_fault(line);
+    if fault != 0 {
+        return Asked::Wrong(fault);
+    }
+    let ration = ration_in(line);
+    let named = change_in(line);
+    let change = named.change;
+    Asked::Estimate(ration, change)
 }
 
 // Thousandths of x, to the nearest, where x can be shown.
