@@ -1,2 +1,3 @@
-mod Showing
 mod Asking
+mod Showing
+mod Tellings

@@ -56,7 +56,7 @@ wrongNumber place line =
 unfoldable pub faultText : ℕ → List ℕ → List ℕ
 faultText fault line =
     pick (eqb fault 9) (ascii "the line is too long: at most 1023 bytes before its #")
-    (pick (eqb fault 8) (ascii "expected " ++ columns)
+    (pick (eqb fault 8) (ascii "expected GE Ym head days CHANGE X")
     (pick (eqb fault 7) (ascii "one word too many: " ++ quoted (nthWord 6 line))
     (pick (eqb fault 5) (quoted (nthWord 4 line) ++ ascii " is no change; expected feed, ym or head") (wrongNumber (fault - 1) line))))
 
@@ -82,9 +82,12 @@ changedPlace (Head x) = 2
 abbrev pub outPlace : ℕ → Ration → Change → ℕ
 outPlace code r change = pick (eqb code 15) (changedPlace change) (outOfRation r)
 
+abbrev pub changedWord : ℕ → List ℕ
+changedWord code = pick (eqb code 15) (ascii "the changed ") []
+
 abbrev pub outText : ℕ → Ration → Change → List ℕ
 outText code r change =
-    pick (eqb code 15) (ascii "the changed ") []
+    changedWord code
     ++ (nthWord (outPlace code r change) columns ++ (ascii " is out of its range" ++ expected (rowOf (outPlace code r change) change)))
 
 unfoldable pub refusedText : ℕ → ℕ → Ration → Change → List ℕ
@@ -93,6 +96,58 @@ refusedText number code r change =
 
 -- ---- the two texts of a line
 
--- without a change: feed times 1
-abbrev pub kgBefore : Ration → List ℕ
-kgBefore r = []
+-- the slip, and beside it the kg of the ration with feed times 1
+abbrev pub slipText : Ration → Change → List ℕ
+slipText r change = slipLine (whatIf r change) (whatIf r (Feed (double 1 1)) .kg)
+
+-- the slip answers with 0
+abbrev pub answeredBy : Ration → Change → Bool
+answeredBy r change = eqb (whatIf r change .code) 0
+
+abbrev pub refusalText : ℕ → Ration → Change → List ℕ
+refusalText number r change = pick (answeredBy r change) [] (refusedText number (whatIf r change .code) r change)
+
+abbrev pub answerBy : Asked → List ℕ
+answerBy Nothing = []
+answerBy (Estimate r change) = slipText r change
+answerBy (Wrong fault) = []
+
+-- what standard output is told of the line
+unfoldable pub answerText : List ℕ → List ℕ
+answerText line = answerBy (askedOf line)
+
+abbrev pub remarkBy : ℕ → List ℕ → Asked → List ℕ
+remarkBy number line Nothing = []
+remarkBy number line (Estimate r change) = refusalText number r change
+remarkBy number line (Wrong fault) = unreadText number fault line
+
+-- what standard error is told of the line with this number
+unfoldable pub remarkText : ℕ → List ℕ → List ℕ
+remarkText number line = remarkBy number line (askedOf line)
+
+-- ---- the end
+
+abbrev pub withSlip : Counts → Bool → Counts
+withSlip c true = record { answered = oneMore (c .answered); refused = c .refused; unread = c .unread }
+withSlip c false = record { answered = c .answered; refused = oneMore (c .refused); unread = c .unread }
+
+abbrev pub oneUnread : Counts → Counts
+oneUnread c = record { answered = c .answered; refused = c .refused; unread = oneMore (c .unread) }
+
+abbrev pub countedBy : Counts → Asked → Counts
+countedBy c Nothing = c
+countedBy c (Estimate r change) = withSlip c (answeredBy r change)
+countedBy c (Wrong fault) = oneUnread c
+
+-- the counts with this line
+unfoldable pub countedOf : Counts → List ℕ → Counts
+countedOf c line = countedBy c (askedOf line)
+
+-- the last line of standard error
+abbrev pub countsText : Counts → List ℕ
+countsText c =
+    decimal (c .answered) ++ (ascii " answered, " ++ (decimal (c .refused) ++ (ascii " refused, " ++ (decimal (c .unread) ++ ascii " not read\n"))))
+
+-- the status byte: 0 where each line was answered and the Bool says that nothing failed, else 1
+abbrev pub statusOf : Counts → Bool → ℕ
+statusOf c done = pick ((done && eqb (c .refused) 0) && eqb (c .unread) 0) 48 49

@@ -1,4 +1,11 @@
 // The what-if slip as text: a typed line read as a ration and a change, and a slip put on a line.
+mod telling;
+
+pub use telling::counted;
+pub use telling::say_answer;
+pub use telling::say_counts;
+pub use telling::say_remark;
+pub use telling::status;
 ghost use mathlib.Core.Path.{_≡_};
 ghost use Prim.Native.Nat.{_+_, _≤_};
 ghost use lib.ListN.{length};
@@ -16,7 +23,14 @@ use slip::Slip;
 pub enum Asked {
     Nothing,
     Estimate(Ration, Change),
-    Wrong(u64),
+    Wrong(usize),
+}
+
+// Lines so far that were answered, refused and not read.
+pub struct Counts {
+    pub answered: u64,
+    pub refused: u64,
+    pub unread: u64,
 }
 
 // A change by its name; with another name it is not good.
@@ -75,13 +89,13 @@ fn read_change(line: &[u8], x: f64) -> Named
 }
 
 // The fault where a test fails, else the other.
-fn fault_unless(good: bool, fault: u64, other: u64) -> u64
+pub(crate) fn fault_unless(good: bool, fault: usize, other: usize) -> usize
     ensures { λ r. ⌜ r ≡ unless good fault other ⌝ }
 {
     if good { other } else { fault }
 }
 
-fn ration_fault(line: &[u8], other: u64) -> u64
+fn ration_fault(line: &[u8], other: usize) -> usize
     ensures { λ r. ⌜ r ≡ rationFault (now (line .entry)) other ⌝ }
 {
     let days = fault_unless(read_days(line).good, 4, other);
@@ -90,7 +104,7 @@ fn ration_fault(line: &[u8], other: u64) -> u64
     fault_unless(decimal_word(line, 0).good, 1, ym)
 }
 
-fn change_fault(line: &[u8]) -> u64
+fn change_fault(line: &[u8]) -> usize
     ensures { λ r. ⌜ r ≡ changeFault (now (line .entry)) ⌝ }
 {
     let more = fault_unless(reading::word(line, 6).len() == 0, 7, 0);
@@ -101,7 +115,7 @@ fn change_fault(line: &[u8]) -> u64
 }
 
 // The first fault: 1 to 6 the word at that place, 7 a word too many, 8 too few, 0 none.
-fn line_fault(line: &[u8]) -> u64
+fn line_fault(line: &[u8]) -> usize
     ensures { λ r. ⌜ r ≡ faultOf (now (line .entry)) ⌝ }
 {
     let other = ration_fault(line, change_fault(line));
@@ -123,7 +137,7 @@ fn ration_in(line: &[u8]) -> Ration
     }
 }
 
-fn change_in(line: &[u8]) -> Named
+pub(crate) fn change_in(line: &[u8]) -> Named
     ensures { λ r. ⌜ r ≡ changeIn (now (line .entry)) ⌝ }
 {
     let x = decimal_word(line, 5);

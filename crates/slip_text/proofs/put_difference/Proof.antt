@@ -22,7 +22,7 @@ less c =
     let test = minus .before .before .before .before .before in
     let a = test .before .before .before .before .before .before .args in (
       put-less (a .after) (a .before) (test .before .before .before .before .in-grams .ensures) (test .before .before .before .in-grams2 .ensures) (test .if1 .left)
-      (minus .before .before .if2 .taken) (and-then (minus .put-byte2 .ensures) (put .0)),
+          (minus .before .before .if2 .taken) (and-then (minus .put-byte2 .ensures) (put .0)),
       omega (arith, minus .put-byte2 .ensures .next, put .1),
     )
 
@@ -32,7 +32,7 @@ more c =
     let test = c .before .before .before .before .before .before .before .before .before in
     let a = test .before .before .before .before .before .before .args in (
       put-more (a .after) (a .before) (test .before .before .before .before .in-grams .ensures) (test .before .before .before .in-grams2 .ensures) (test .if1 .left)
-      (c .before .before .before .before .before .before .if2 .left) (put .0),
+          (c .before .before .before .before .before .before .if2 .left) (put .0),
       omega (arith, put .1),
     )
 

@@ -1,0 +1,19 @@
+-- A piece of the table. Assumes nothing.
+use Rattle.slip_text.specs.Told.{ranges}
+use Rattle.text.specs.Said.{Said}
+use Rattle.text.proofs.Sayings.{then-said}
+use borrow.Author.Needs.{needs}
+use Rattle.slip_text.proofs.telling.say_expected.Statement.{statement}
+use Rattle.slip_text.proofs.telling.say_expected.Tie as tie
+
+pub say-expected-spec : {M : Type 1} → statement M
+unfolding ranges
+say-expected-spec =
+    tie.close
+    (tie.spec
+    (λ c. search needs)
+    (λ c κs. search needs)
+    (λ c κs. search needs)
+    (λ c κs. search needs)
+    (λ c. search needs)
+    (λ c. then-said (c .before .before .before .before .before .before .before .before .before .before .before .before .before .pre) (c .before .before .before .before .before .before .before .before .say .ensures) (rw (c .before .before .before .part .ensures) at (c .before .before .say2 .ensures))))

@@ -1,0 +1,20 @@
+-- The parts, one behind the other. Assumes nothing.
+use Rattle.text.proofs.Sayings.{then-said}
+use Rattle.slip_text.proofs.Tellings.{behind}
+use borrow.Author.Needs.{needs}
+use Rattle.slip_text.proofs.telling.say_out.Statement.{statement}
+use Rattle.slip_text.proofs.telling.say_out.Tie as tie
+
+pub say-out-spec : {M : Type 1} → statement M
+say-out-spec =
+    tie.close
+    (tie.spec
+    (λ c κs. search needs)
+    (λ c κs. search needs)
+    (λ c κs. search needs)
+    (λ c κs. search needs)
+    (λ c. search needs)
+    (λ c κs. search needs)
+    (λ c κs. search needs)
+    (λ c. search needs)
+    (λ c. let e1 = c .before .before .before .before .before .before .before .before .before .before .before .before .before .before .before .say-changed .ensures in let e2 = rw (c .before .before .before .before .before .before .before .before .before .before .before .before .before .before .before .before .before .before .out-place .ensures) at (c .before .before .before .before .before .before .before .before .before .before .before .say-column .ensures) in let e3 = c .before .before .before .before .before .before .say .ensures in let e4 = rw (c .before .before .before .before .before .before .before .before .before .before .before .before .before .before .before .before .before .row-of .ensures, c .before .before .before .before .before .before .before .before .before .before .before .before .before .before .before .before .before .before .out-place .ensures) at (c .before .before .say-expected .ensures) in then-said (c .before .before .before .before .before .before .before .before .before .before .before .before .before .before .before .before .before .before .before .before .pre) e1 (then-said (behind e1) e2 (then-said (behind e2) e3 e4))))
