@@ -34,10 +34,12 @@ module _ (number : ℕ) (r : Ration) (change : Change) {s : Slip} (e : s ≡ wha
   pub no-refusal : {xs : List ℕ} → s .code ≡ 0 → Said xs xs 0 (refusalText number r change) 0
   no-refusal {xs} z = rw (← e, eq-eqb (s .code) 0 z) (said-nothing xs 0 (omega arith))
 
-  pub refusal : {xs zs : List ℕ} {q : ℕ} → (s .code ≡ 0 → ⊥) → Said xs zs 0 (refusedText number (s .code) r change) q → Said xs zs 0 (refusalText number r change) q
+  pub refusal : {xs zs : List ℕ} {q : ℕ} → (s .code ≡ 0 → ⊥)
+      → Said xs zs 0 (refusedText number (s .code) r change) q → Said xs zs 0 (refusalText number r change) q
   refusal n p = rw (← e, ne-eqb (s .code) 0 n) p
 
-  pub slip-said : {b : Slip} {xs zs : List ℕ} {q : ℕ} → b ≡ whatIf r (Feed (double 1 1)) → Said xs zs 0 (slipLine s (b .kg)) q → Said xs zs 0 (slipText r change) q
+  pub slip-said : {b : Slip} {xs zs : List ℕ} {q : ℕ} → b ≡ whatIf r (Feed (double 1 1))
+      → Said xs zs 0 (slipLine s (b .kg)) q → Said xs zs 0 (slipText r change) q
   slip-said f p = rw (← e, ← f) p
 
 -- a is what the line asks

@@ -1,4 +1,4 @@
--- Document 01's what-if slip on the screen: code, the ration's GE, Ym, head and days, the kg to the gram, the kg before the change and the difference.
+-- Document 01's what-if slip on the screen: code, the ration's GE, Ym, head and days, the kg to the gram, the kg before and the difference.
 use mathlib.Core.Bool.{Bool, true, false, _&&_}
 use mathlib.Core.List.{List, [], _∷_, _++_}
 use Prim.Native.Nat.{ℕ, _-_}

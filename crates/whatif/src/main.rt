@@ -1,4 +1,4 @@
-// Reads `GE Ym head days CHANGE X` lines on standard input and prints the what-if slip of each; what is not read or refused is told on standard error.
+// Reads `GE Ym head days CHANGE X` lines on standard input and prints the what-if slip of each; standard error has what is not read or refused.
 use libc::STDERR_FILENO;
 use libc::STDIN_FILENO;
 use libc::STDOUT_FILENO;

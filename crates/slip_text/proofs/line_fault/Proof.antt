@@ -11,4 +11,8 @@ line-fault-spec =
     (λ c κs. search needs)
     (λ c κs. search needs)
     (λ c κs. search needs)
-    (λ c. rw (c .fault-unless .ensures, c .before .before .ration-fault .ensures, c .before .before .before .change-fault .ensures, c .before .word .ensures)))
+    (λ c.
+    let word = c .before in
+    let ration-fault = word .before in
+    let change-fault = ration-fault .before in
+    rw (c .fault-unless .ensures, ration-fault .ration-fault .ensures, change-fault .change-fault .ensures, word .word .ensures)))

@@ -14,12 +14,13 @@ dashes c =
 
 both : tie.Need-returns-2
 both c =
-    let kg = c .before .before .before .before .before .before .before .before .before .before .put-spaced-shown .ensures in
-    let space = c .before .before .before .before .before .before .put-byte .ensures in
+    let space = c .before .before .before .before .before .before in
+    let kg = space .before .before .before .before in
+    let test = kg .before .before in
     let put = c .before .before .put-difference .ensures in
-    let a = c .before .before .before .before .before .before .before .before .before .before .before .before .before .before .before .args in (
-      put-both (a .s) (a .before) (c .before .before .before .before .before .before .before .before .before .before .before .before .if1 .left) (and-then (kg .0) (and-then space (put .0))),
-      omega (arith, kg .1, space .next, put .1),
+    let a = test .before .before .before .args in (
+      put-both (a .s) (a .before) (test .if1 .left) (and-then (kg .put-spaced-shown .ensures .0) (and-then (space .put-byte .ensures) (put .0))),
+      omega (arith, kg .put-spaced-shown .ensures .1, space .put-byte .ensures .next, put .1),
     )
 
 pub put-compared-spec : {M : Type 1} → statement M

@@ -10,8 +10,9 @@ none : tie.Need-returns
 none c =
     let put = c .before .before .put-byte .ensures in
     let test = c .before .before .before .before in
-    let a = test .before .before .before .before .before .before .args in (
-      put-none (a .after) (a .before) (test .before .before .before .before .in-grams .ensures) (test .before .before .before .in-grams2 .ensures) (test .if1 .taken) put,
+    let second = test .before .before .before in
+    let a = second .before .before .before .args in (
+      put-none (a .after) (a .before) (second .before .in-grams .ensures) (second .in-grams2 .ensures) (test .if1 .taken) put,
       omega (arith, put .next),
     )
 
@@ -20,8 +21,9 @@ less c =
     let put = c .before .before .put-thousandths .ensures in
     let minus = c .before .before .before .before .before .before .before .before in
     let test = minus .before .before .before .before .before in
-    let a = test .before .before .before .before .before .before .args in (
-      put-less (a .after) (a .before) (test .before .before .before .before .in-grams .ensures) (test .before .before .before .in-grams2 .ensures) (test .if1 .left)
+    let second = test .before .before .before in
+    let a = second .before .before .before .args in (
+      put-less (a .after) (a .before) (second .before .in-grams .ensures) (second .in-grams2 .ensures) (test .if1 .left)
           (minus .before .before .if2 .taken) (and-then (minus .put-byte2 .ensures) (put .0)),
       omega (arith, minus .put-byte2 .ensures .next, put .1),
     )
@@ -30,8 +32,9 @@ more : tie.Need-returns-3
 more c =
     let put = c .before .before .put-thousandths2 .ensures in
     let test = c .before .before .before .before .before .before .before .before .before in
-    let a = test .before .before .before .before .before .before .args in (
-      put-more (a .after) (a .before) (test .before .before .before .before .in-grams .ensures) (test .before .before .before .in-grams2 .ensures) (test .if1 .left)
+    let second = test .before .before .before in
+    let a = second .before .before .before .args in (
+      put-more (a .after) (a .before) (second .before .in-grams .ensures) (second .in-grams2 .ensures) (test .if1 .left)
           (c .before .before .before .before .before .before .if2 .left) (put .0),
       omega (arith, put .1),
     )

@@ -7,13 +7,14 @@ use Rattle.slip_text.proofs.put_slip.Tie as tie
 
 returns : tie.Need-returns
 returns c =
+    let compared = c .before .before .before .before .before .before in
+    let kg = compared .before .before .before .before in
+    let ration = kg .before .before .before .before in
+    let code = ration .before .before .before .before .put-decimal .ensures in
     let newline = c .before .before .put-byte .ensures in
-    let both = c .before .before .before .before .before .before .put-compared .ensures in
-    let kg = c .before .before .before .before .before .before .before .before .before .before .put-spaced-shown .ensures in
-    let ration = c .before .before .before .before .before .before .before .before .before .before .before .before .before .before .put-ration .ensures in
-    let code = c .before .before .before .before .before .before .before .before .before .before .before .before .before .before .before .before .before .before .put-decimal .ensures in (
-      and-then (code .0) (and-then (ration .0) (and-then (kg .0) (and-then (both .0) newline))),
-      omega (arith, code .1, ration .1, kg .1, both .1, newline .next),
+    let both = compared .put-compared .ensures in (
+      and-then (code .0) (and-then (ration .put-ration .ensures .0) (and-then (kg .put-spaced-shown .ensures .0) (and-then (both .0) newline))),
+      omega (arith, code .1, ration .put-ration .ensures .1, kg .put-spaced-shown .ensures .1, both .1, newline .next),
     )
 
 pub put-slip-spec : {M : Type 1} → statement M

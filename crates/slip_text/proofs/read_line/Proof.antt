@@ -12,9 +12,22 @@ read-line-spec =
     (λ c κs. search needs)
     (λ c. no-word (c .before .before .before .before .args .line .now) (c .before .before .if1 .left) (c .before .word .ensures) (c .if2 .taken))
     (λ c κs. search needs)
-    (λ c. wrong (c .before .before .before .before .before .before .args .line .now) (c .before .before .before .before .if1 .left) (c .before .before .before .word .ensures) (c .before .before .if2 .left) (c .before .line-fault .ensures) (c .if3 .taken))
+    (λ c.
+    let line-fault = c .before in
+    let if2 = line-fault .before in
+    let word = if2 .before in
+    let if1 = word .before in
+    let start = if1 .before .before in
+    wrong (start .args .line .now) (if1 .if1 .left) (word .word .ensures) (if2 .if2 .left) (line-fault .line-fault .ensures) (c .if3 .taken))
     (λ c κs. search needs)
     (λ c κs. search needs)
     (λ c.
-    estimate (c .before .before .before .before .before .before .before .before .args .line .now) (c .before .before .before .before .before .before .if1 .left) (c .before .before .before .before .before .word .ensures) (c .before .before .before .before .if2 .left) (c .before .before .before .line-fault .ensures) (c .before .before .if3 .left)
-    (c .before .ration-in .ensures) (c .change-in .ensures)))
+    let ration-in = c .before in
+    let if3 = ration-in .before in
+    let line-fault = if3 .before in
+    let if2 = line-fault .before in
+    let word = if2 .before in
+    let if1 = word .before in
+    let start = if1 .before .before in
+    estimate (start .args .line .now) (if1 .if1 .left) (word .word .ensures) (if2 .if2 .left) (line-fault .line-fault .ensures) (if3 .if3 .left)
+    (ration-in .ration-in .ensures) (c .change-in .ensures)))

@@ -15,7 +15,9 @@ abbrev μ-loop : tie.MeasureT-loop
 μ-loop line₀ part w₀ i₀ steps₀ line w i steps = steps
 
 -- what a step took lies in what was left
-ahead : (c : tie.After-step Inv-loop μ-loop) → c .before .before .before .before .loop .i + c .step .result .taken ≤ length (c .before .before .before .before .before .before .before .args .part .now)
+ahead : (c : tie.After-step Inv-loop μ-loop)
+    → c .before .before .before .before .loop .i + c .step .result .taken
+    ≤ length (c .before .before .before .before .before .before .before .args .part .now)
 ahead c =
     let l = c .before .before .before .before in
     let part = l .before .before .before .args .part .now in

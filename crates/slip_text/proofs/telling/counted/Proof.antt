@@ -15,6 +15,20 @@ counted-spec =
     (λ c κs. search needs)
     (λ c. search needs)
     (λ c κs. search needs)
-    (λ c. counted-by (c .before .before .before .before .args .line .now) (c .before .before .read-line .ensures) (c .enum-told .given .1) (c .before .before .before .before .args .counts) (search needs))
-    (λ c. counted-by (c .before .before .before .before .before .before .before .args .line .now) (c .before .before .before .before .before .read-line .ensures) (c .before .before .before .asked .given .1) (c .before .before .before .before .before .before .before .args .counts) (rw (c .with-slip .ensures, c .before .is-answered .ensures)))
-    (λ c. counted-by (c .before .before .before .before .before .args .line .now) (c .before .before .before .read-line .ensures) (c .before .enum-told2 .given .1) (c .before .before .before .before .before .args .counts) (rw (c .one-more .ensures))))
+    (λ c.
+    let read-line = c .before .before in
+    let start = read-line .before .before in
+    counted-by (start .args .line .now) (read-line .read-line .ensures) (c .enum-told .given .1) (start .args .counts) (search needs))
+    (λ c.
+    let is-answered = c .before in
+    let asked = is-answered .before .before in
+    let read-line = asked .before .before in
+    let start = read-line .before .before in
+    counted-by (start .args .line .now) (read-line .read-line .ensures) (asked .asked .given .1) (start .args .counts)
+    (rw (c .with-slip .ensures, is-answered .is-answered .ensures)))
+    (λ c.
+    let enum-told2 = c .before in
+    let read-line = enum-told2 .before .before in
+    let start = read-line .before .before in
+    counted-by (start .args .line .now) (read-line .read-line .ensures) (enum-told2 .enum-told2 .given .1) (start .args .counts)
+    (rw (c .one-more .ensures))))

@@ -16,4 +16,12 @@ out-of-ration-spec =
     (λ c κs. search needs)
     (λ c κs. search needs)
     (λ c κs. search needs)
-    (λ c. rw (c .fault-unless4 .ensures, c .before .before .fault-unless3 .ensures, c .before .before .before .before .fault-unless2 .ensures, c .before .before .before .before .before .before .fault-unless .ensures, c .before .in-range3 .ensures, c .before .before .before .in-range2 .ensures, c .before .before .before .before .before .in-range .ensures)))
+    (λ c.
+    let in-range3 = c .before in
+    let fault-unless3 = in-range3 .before in
+    let in-range2 = fault-unless3 .before in
+    let fault-unless2 = in-range2 .before in
+    let in-range = fault-unless2 .before in
+    let fault-unless = in-range .before in
+    rw
+    (c .fault-unless4 .ensures, fault-unless3 .fault-unless3 .ensures, fault-unless2 .fault-unless2 .ensures, fault-unless .fault-unless .ensures, in-range3 .in-range3 .ensures, in-range2 .in-range2 .ensures, in-range .in-range .ensures)))

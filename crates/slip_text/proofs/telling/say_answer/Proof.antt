@@ -14,7 +14,18 @@ say-answer-spec =
     (λ c. search needs)
     (λ c κs. search needs)
     (λ c. search needs)
-    (λ c. answer-by (c .before .before .before .before .before .args .line .now) (c .before .before .read-line .ensures) (c .enum-told .given .1) (said-nothing _ 0 (omega arith)))
+    (λ c.
+    let read-line = c .before .before in
+    let start = read-line .before .before .before in
+    answer-by (start .args .line .now) (read-line .read-line .ensures) (c .enum-told .given .1) (said-nothing _ 0 (omega arith)))
     (λ c. search needs)
-    (λ c. answer-by (c .before .before .before .before .before .before .before .before .before .before .args .line .now) (c .before .before .before .before .before .before .before .read-line .ensures) (c .before .before .before .before .before .asked .given .1) (c .before .before .say-slip .ensures))
-    (λ c. answer-by (c .before .before .before .before .before .args .line .now) (c .before .before .read-line .ensures) (c .enum-told2 .given .1) (said-nothing _ 0 (omega arith))))
+    (λ c.
+    let say-slip = c .before .before in
+    let asked = say-slip .before .before .before in
+    let read-line = asked .before .before in
+    let start = read-line .before .before .before in
+    answer-by (start .args .line .now) (read-line .read-line .ensures) (asked .asked .given .1) (say-slip .say-slip .ensures))
+    (λ c.
+    let read-line = c .before .before in
+    let start = read-line .before .before .before in
+    answer-by (start .args .line .now) (read-line .read-line .ensures) (c .enum-told2 .given .1) (said-nothing _ 0 (omega arith))))

@@ -12,5 +12,9 @@ say-changed-spec =
     (λ c. search needs)
     (λ c κs. search needs)
     (λ c. search needs)
-    (λ c. rw (eq-eqb (c .before .before .before .before .before .before .before .args .code) 15 (c .before .before .before .before .before .if1 .taken)) (c .before .before .say .ensures))
+    (λ c.
+    let say = c .before .before in
+    let if1 = say .before .before .before in
+    let start = if1 .before .before in
+    rw (eq-eqb (start .args .code) 15 (if1 .if1 .taken)) (say .say .ensures))
     (λ c. rw (ne-eqb (c .before .before .args .code) 15 (c .if1 .left)) (said-nothing _ _ (c .before .before .pre))))

@@ -16,4 +16,9 @@ say-expected-spec =
     (λ c κs. search needs)
     (λ c κs. search needs)
     (λ c. search needs)
-    (λ c. then-said (c .before .before .before .before .before .before .before .before .before .before .before .before .before .pre) (c .before .before .before .before .before .before .before .before .say .ensures) (rw (c .before .before .before .part .ensures) at (c .before .before .say2 .ensures))))
+    (λ c.
+    let say2 = c .before .before in
+    let part = say2 .before in
+    let say = part .before .before .before .before .before in
+    let start = say .before .before .before .before .before in
+    then-said (start .pre) (say .say .ensures) (rw (part .part .ensures) at (say2 .say2 .ensures))))

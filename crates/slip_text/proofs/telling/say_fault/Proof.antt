@@ -15,24 +15,77 @@ say-fault-spec =
     (λ c. search needs)
     (λ c κs. search needs)
     (λ c. search needs)
-    (λ c. rw (eq-eqb (c .before .before .before .before .before .before .before .before .args .fault) 9 (c .before .before .before .before .before .if1 .taken)) (c .before .before .say .ensures))
+    (λ c.
+    let say = c .before .before in
+    let if1 = say .before .before .before in
+    let start = if1 .before .before .before in
+    rw (eq-eqb (start .args .fault) 9 (if1 .if1 .taken)) (say .say .ensures))
     (λ c. search needs)
     (λ c κs. search needs)
     (λ c. search needs)
-    (λ c. rw (ne-eqb (c .before .before .before .before .before .before .before .before .before .args .fault) 9 (c .before .before .before .before .before .before .if1 .left), eq-eqb (c .before .before .before .before .before .before .before .before .before .args .fault) 8 (c .before .before .before .before .before .if2 .taken)) (c .before .before .say2 .ensures))
+    (λ c.
+    let say2 = c .before .before in
+    let if2 = say2 .before .before .before in
+    let if1 = if2 .before in
+    let start = if1 .before .before .before in
+    rw (ne-eqb (start .args .fault) 9 (if1 .if1 .left), eq-eqb (start .args .fault) 8 (if2 .if2 .taken)) (say2 .say2 .ensures))
     (λ c. search needs)
     (λ c κs. search needs)
     (λ c κs. search needs)
     (λ c κs. search needs)
     (λ c. search needs)
-    (λ c. rw (ne-eqb (c .before .before .before .before .before .before .before .before .before .before .before .before .before .before .before .args .fault) 9 (c .before .before .before .before .before .before .before .before .before .before .before .before .if1 .left), ne-eqb (c .before .before .before .before .before .before .before .before .before .before .before .before .before .before .before .args .fault) 8 (c .before .before .before .before .before .before .before .before .before .before .before .if2 .left), eq-eqb (c .before .before .before .before .before .before .before .before .before .before .before .before .before .before .before .args .fault) 7 (c .before .before .before .before .before .before .before .before .before .before .if3 .taken)) (then-said (c .before .before .before .before .before .before .before .before .before .before .before .before .before .before .before .pre) (c .before .before .before .before .before .before .before .say3 .ensures) (rw (c .before .before .before .word .ensures) at (c .before .before .say-quoted .ensures))))
+    (λ c.
+    let say-quoted = c .before .before in
+    let word = say-quoted .before in
+    let say3 = word .before .before .before .before in
+    let if3 = say3 .before .before .before in
+    let if2 = if3 .before in
+    let if1 = if2 .before in
+    let start = if1 .before .before .before in
+    rw (
+      ne-eqb (start .args .fault) 9 (if1 .if1 .left),
+      ne-eqb (start .args .fault) 8 (if2 .if2 .left),
+      eq-eqb (start .args .fault) 7
+          (if3 .if3 .taken),
+    ) (then-said (start .pre) (say3 .say3 .ensures) (rw (word .word .ensures) at (say-quoted .say-quoted .ensures))))
     (λ c κs. search needs)
     (λ c κs. search needs)
     (λ c. search needs)
     (λ c κs. search needs)
     (λ c. search needs)
-    (λ c. rw (ne-eqb (c .before .before .before .before .before .before .before .before .before .before .before .before .before .before .before .before .args .fault) 9 (c .before .before .before .before .before .before .before .before .before .before .before .before .before .if1 .left), ne-eqb (c .before .before .before .before .before .before .before .before .before .before .before .before .before .before .before .before .args .fault) 8 (c .before .before .before .before .before .before .before .before .before .before .before .before .if2 .left), ne-eqb (c .before .before .before .before .before .before .before .before .before .before .before .before .before .before .before .before .args .fault) 7 (c .before .before .before .before .before .before .before .before .before .before .before .if3 .left), eq-eqb (c .before .before .before .before .before .before .before .before .before .before .before .before .before .before .before .before .args .fault) 5 (c .before .before .before .before .before .before .before .before .before .before .if4 .taken)) (then-said (c .before .before .before .before .before .before .before .before .before .before .before .before .before .before .before .before .pre) (rw (c .before .before .before .before .before .before .before .before .word2 .ensures) at (c .before .before .before .before .before .before .before .say-quoted2 .ensures)) (c .before .before .say4 .ensures)))
+    (λ c.
+    let say4 = c .before .before in
+    let say-quoted2 = say4 .before .before .before .before .before in
+    let word2 = say-quoted2 .before in
+    let if4 = word2 .before .before in
+    let if3 = if4 .before in
+    let if2 = if3 .before in
+    let if1 = if2 .before in
+    let start = if1 .before .before .before in
+    rw (
+      ne-eqb (start .args .fault) 9 (if1 .if1 .left),
+      ne-eqb (start .args .fault) 8 (if2 .if2 .left),
+      ne-eqb (start .args .fault) 7
+          (if3 .if3 .left),
+      eq-eqb (start .args .fault) 5 (if4 .if4 .taken),
+    )
+    (then-said (start .pre) (rw (word2 .word2 .ensures) at (say-quoted2 .say-quoted2 .ensures)) (say4 .say4 .ensures)))
     (λ c κs. search needs)
     (λ c κs. search needs)
     (λ c. search needs)
-    (λ c. rw (ne-eqb (c .before .before .before .before .before .before .before .before .before .before .before .args .fault) 9 (c .before .before .before .before .before .before .before .before .if1 .left), ne-eqb (c .before .before .before .before .before .before .before .before .before .before .before .args .fault) 8 (c .before .before .before .before .before .before .before .if2 .left), ne-eqb (c .before .before .before .before .before .before .before .before .before .before .before .args .fault) 7 (c .before .before .before .before .before .before .if3 .left), ne-eqb (c .before .before .before .before .before .before .before .before .before .before .before .args .fault) 5 (c .before .before .before .before .before .if4 .left)) (rw (c .before .before .before .place-of .ensures) at (c .before .before .say-wrong-number .ensures))))
+    (λ c.
+    let say-wrong-number = c .before .before in
+    let place-of = say-wrong-number .before in
+    let if4 = place-of .before .before in
+    let if3 = if4 .before in
+    let if2 = if3 .before in
+    let if1 = if2 .before in
+    let start = if1 .before .before .before in
+    rw (
+      ne-eqb (start .args .fault) 9 (if1 .if1 .left),
+      ne-eqb (start .args .fault) 8 (if2 .if2 .left),
+      ne-eqb (start .args .fault) 7
+          (if3 .if3 .left),
+      ne-eqb (start .args .fault) 5 (if4 .if4 .left),
+    )
+    (rw (place-of .place-of .ensures) at (say-wrong-number .say-wrong-number .ensures))))

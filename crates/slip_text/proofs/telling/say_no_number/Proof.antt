@@ -11,8 +11,16 @@ say-no-number-spec =
     (λ c. search needs)
     (λ c κs. search needs)
     (λ c. search needs)
-    (λ c. rw (eq-eqb (c .before .before .before .before .before .before .before .args .place) 3 (c .before .before .before .before .before .if1 .taken)) (c .before .before .say .ensures))
+    (λ c.
+    let say = c .before .before in
+    let if1 = say .before .before .before in
+    let start = if1 .before .before in
+    rw (eq-eqb (start .args .place) 3 (if1 .if1 .taken)) (say .say .ensures))
     (λ c. search needs)
     (λ c κs. search needs)
     (λ c. search needs)
-    (λ c. rw (ne-eqb (c .before .before .before .before .before .before .before .args .place) 3 (c .before .before .before .before .before .if1 .left)) (c .before .before .say2 .ensures)))
+    (λ c.
+    let say2 = c .before .before in
+    let if1 = say2 .before .before .before in
+    let start = if1 .before .before in
+    rw (ne-eqb (start .args .place) 3 (if1 .if1 .left)) (say2 .say2 .ensures)))

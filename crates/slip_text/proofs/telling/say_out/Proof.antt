@@ -17,4 +17,16 @@ say-out-spec =
     (λ c κs. search needs)
     (λ c κs. search needs)
     (λ c. search needs)
-    (λ c. let e1 = c .before .before .before .before .before .before .before .before .before .before .before .before .before .before .before .say-changed .ensures in let e2 = rw (c .before .before .before .before .before .before .before .before .before .before .before .before .before .before .before .before .before .before .out-place .ensures) at (c .before .before .before .before .before .before .before .before .before .before .before .say-column .ensures) in let e3 = c .before .before .before .before .before .before .say .ensures in let e4 = rw (c .before .before .before .before .before .before .before .before .before .before .before .before .before .before .before .before .before .row-of .ensures, c .before .before .before .before .before .before .before .before .before .before .before .before .before .before .before .before .before .before .out-place .ensures) at (c .before .before .say-expected .ensures) in then-said (c .before .before .before .before .before .before .before .before .before .before .before .before .before .before .before .before .before .before .before .before .pre) e1 (then-said (behind e1) e2 (then-said (behind e2) e3 e4))))
+    (λ c.
+    let say-expected = c .before .before in
+    let say = say-expected .before .before .before .before in
+    let say-column = say .before .before .before .before .before in
+    let say-changed = say-column .before .before .before .before in
+    let row-of = say-changed .before .before in
+    let out-place = row-of .before in
+    let start = out-place .before .before in
+    let e1 = say-changed .say-changed .ensures in
+    let e2 = rw (out-place .out-place .ensures) at (say-column .say-column .ensures) in
+    let e3 = say .say .ensures in
+    let e4 = rw (row-of .row-of .ensures, out-place .out-place .ensures) at (say-expected .say-expected .ensures) in
+    then-said (start .pre) e1 (then-said (behind e1) e2 (then-said (behind e2) e3 e4))))

@@ -15,4 +15,12 @@ say-quoted-spec =
     (λ c. search needs)
     (λ c κs. search needs)
     (λ c. search needs)
-    (λ c. let e1 = c .before .before .before .before .before .before .before .before .before .before .before .say .ensures in let e2 = c .before .before .before .before .before .before .before .say-shown .ensures in let e3 = c .before .before .say2 .ensures in then-said (c .before .before .before .before .before .before .before .before .before .before .before .before .before .before .before .before .pre) e1 (then-said (behind e1) e2 e3)))
+    (λ c.
+    let say2 = c .before .before in
+    let say-shown = say2 .before .before .before .before .before in
+    let say = say-shown .before .before .before .before in
+    let start = say .before .before .before .before .before in
+    let e1 = say .say .ensures in
+    let e2 = say-shown .say-shown .ensures in
+    let e3 = say2 .say2 .ensures in
+    then-said (start .pre) e1 (then-said (behind e1) e2 e3)))

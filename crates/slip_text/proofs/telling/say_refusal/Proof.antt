@@ -9,7 +9,16 @@ say-refusal-spec =
     tie.close
     (tie.spec
     (λ c κs. search needs)
-    (λ c. no-refusal (c .before .before .before .before .args .number) (c .before .before .before .before .args .ration) (c .before .before .before .before .args .change) (c .before .before .what-if .ensures .exact) (c .if1 .taken))
+    (λ c.
+    let what-if = c .before .before in
+    let start = what-if .before .before in
+    no-refusal (start .args .number) (start .args .ration) (start .args .change) (what-if .what-if .ensures .exact) (c .if1 .taken))
     (λ c κs. search needs)
     (λ c. search needs)
-    (λ c. refusal (c .before .before .before .before .before .before .before .before .args .number) (c .before .before .before .before .before .before .before .before .args .ration) (c .before .before .before .before .before .before .before .before .args .change) (c .before .before .before .before .before .before .what-if .ensures .exact) (c .before .before .before .before .if1 .left) (c .before .before .say-refused .ensures)))
+    (λ c.
+    let say-refused = c .before .before in
+    let if1 = say-refused .before .before in
+    let what-if = if1 .before .before in
+    let start = what-if .before .before in
+    refusal (start .args .number) (start .args .ration) (start .args .change) (what-if .what-if .ensures .exact) (if1 .if1 .left)
+    (say-refused .say-refused .ensures)))

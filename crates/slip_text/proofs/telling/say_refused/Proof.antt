@@ -21,4 +21,18 @@ say-refused-spec =
     (λ c. search needs)
     (λ c κs. search needs)
     (λ c. search needs)
-    (λ c. let e1 = c .before .before .before .before .before .before .before .before .before .before .before .before .before .before .before .before .before .before .before .before .before .before .before .before .before .say-start .ensures in let e2 = c .before .before .before .before .before .before .before .before .before .before .before .before .before .before .before .before .before .before .before .before .say .ensures in let e3 = c .before .before .before .before .before .before .before .before .before .before .before .before .before .before .before .before .say-number .ensures in let e4 = c .before .before .before .before .before .before .before .before .before .before .before .say2 .ensures in let e5 = c .before .before .before .before .before .before .before .say-out .ensures in let e6 = c .before .before .say3 .ensures in then-said (c .before .before .before .before .before .before .before .before .before .before .before .before .before .before .before .before .before .before .before .before .before .before .before .before .before .before .before .before .pre) e1 (then-said (behind e1) e2 (then-said (behind e2) e3 (then-said (behind e3) e4 (then-said (behind e4) e5 e6))))))
+    (λ c.
+    let say3 = c .before .before in
+    let say-out = say3 .before .before .before .before .before in
+    let say2 = say-out .before .before .before .before in
+    let say-number = say2 .before .before .before .before .before in
+    let say = say-number .before .before .before .before in
+    let say-start = say .before .before .before .before .before in
+    let start = say-start .before .before .before in
+    let e1 = say-start .say-start .ensures in
+    let e2 = say .say .ensures in
+    let e3 = say-number .say-number .ensures in
+    let e4 = say2 .say2 .ensures in
+    let e5 = say-out .say-out .ensures in
+    let e6 = say3 .say3 .ensures in
+    then-said (start .pre) e1 (then-said (behind e1) e2 (then-said (behind e2) e3 (then-said (behind e3) e4 (then-said (behind e4) e5 e6))))))

@@ -15,8 +15,24 @@ say-remark-spec =
     (λ c κs. search needs)
     (λ c. search needs)
     (λ c κs. search needs)
-    (λ c. remark-by (c .before .before .before .before .before .args .line .now) (c .before .before .read-line .ensures) (c .enum-told .given .1) (c .before .before .before .before .before .args .number) (said-nothing _ 0 (omega arith)))
+    (λ c.
+    let read-line = c .before .before in
+    let start = read-line .before .before .before in
+    remark-by (start .args .line .now) (read-line .read-line .ensures) (c .enum-told .given .1) (start .args .number)
+    (said-nothing _ 0 (omega arith)))
     (λ c. search needs)
-    (λ c. remark-by (c .before .before .before .before .before .before .before .before .before .before .args .line .now) (c .before .before .before .before .before .before .before .read-line .ensures) (c .before .before .before .before .before .asked .given .1) (c .before .before .before .before .before .before .before .before .before .before .args .number) (c .before .before .say-refusal .ensures))
+    (λ c.
+    let say-refusal = c .before .before in
+    let asked = say-refusal .before .before .before in
+    let read-line = asked .before .before in
+    let start = read-line .before .before .before in
+    remark-by (start .args .line .now) (read-line .read-line .ensures) (asked .asked .given .1) (start .args .number)
+    (say-refusal .say-refusal .ensures))
     (λ c. search needs)
-    (λ c. remark-by (c .before .before .before .before .before .before .before .before .before .before .args .line .now) (c .before .before .before .before .before .before .before .read-line .ensures) (c .before .before .before .before .before .asked2 .given .1) (c .before .before .before .before .before .before .before .before .before .before .args .number) (c .before .before .say-unread .ensures)))
+    (λ c.
+    let say-unread = c .before .before in
+    let asked2 = say-unread .before .before .before in
+    let read-line = asked2 .before .before in
+    let start = read-line .before .before .before in
+    remark-by (start .args .line .now) (read-line .read-line .ensures) (asked2 .asked2 .given .1) (start .args .number)
+    (say-unread .say-unread .ensures)))

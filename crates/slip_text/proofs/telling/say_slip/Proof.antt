@@ -21,4 +21,13 @@ say-slip-spec =
     (λ c κs. search needs)
     (λ c κs. search needs)
     (λ c. search needs)
-    (λ c. let line = c .before .before .before .first-of .ensures ∙ text-at-start (c .before .before .before .before .before .before .before .put-slip .ensures .0) in let a = c .before .before .before .before .before .before .before .before .before .before .before .before .args in slip-said 0 (a .ration) (a .change) (c .before .before .before .before .before .before .before .before .before .before .what-if .ensures .exact) (c .before .before .before .before .before .before .before .before .before .what-if2 .ensures .exact) (rw line at (c .before .before .say .ensures))))
+    (λ c.
+    let say = c .before .before in
+    let first-of = say .before in
+    let put-slip = first-of .before .before .before .before in
+    let what-if2 = put-slip .before .before in
+    let what-if = what-if2 .before in
+    let start = what-if .before .before in
+    let line = first-of .first-of .ensures ∙ text-at-start (put-slip .put-slip .ensures .0) in
+    let a = start .args in
+    slip-said 0 (a .ration) (a .change) (what-if .what-if .ensures .exact) (what-if2 .what-if2 .ensures .exact) (rw line at (say .say .ensures))))

@@ -12,4 +12,8 @@ say-start-spec =
     (λ c κs. search needs)
     (λ c κs. search needs)
     (λ c. search needs)
-    (λ c. then-said (c .before .before .before .before .before .before .before .before .before .before .pre) (c .before .before .before .before .before .before .say .ensures) (c .before .before .say-number .ensures)))
+    (λ c.
+    let say-number = c .before .before in
+    let say = say-number .before .before .before .before in
+    let start = say .before .before .before .before in
+    then-said (start .pre) (say .say .ensures) (say-number .say-number .ensures)))

@@ -16,4 +16,14 @@ say-unread-spec =
     (λ c. search needs)
     (λ c κs. search needs)
     (λ c. search needs)
-    (λ c. let e1 = c .before .before .before .before .before .before .before .before .before .before .before .before .before .before .before .before .say-start .ensures in let e2 = c .before .before .before .before .before .before .before .before .before .before .before .say .ensures in let e3 = c .before .before .before .before .before .before .before .say-fault .ensures in let e4 = c .before .before .say2 .ensures in then-said (c .before .before .before .before .before .before .before .before .before .before .before .before .before .before .before .before .before .before .before .before .pre) e1 (then-said (behind e1) e2 (then-said (behind e2) e3 e4))))
+    (λ c.
+    let say2 = c .before .before in
+    let say-fault = say2 .before .before .before .before .before in
+    let say = say-fault .before .before .before .before in
+    let say-start = say .before .before .before .before .before in
+    let start = say-start .before .before .before .before in
+    let e1 = say-start .say-start .ensures in
+    let e2 = say .say .ensures in
+    let e3 = say-fault .say-fault .ensures in
+    let e4 = say2 .say2 .ensures in
+    then-said (start .pre) e1 (then-said (behind e1) e2 (then-said (behind e2) e3 e4))))
