@@ -1,3 +1,4 @@
 mod Asking
+mod Examples
 mod Showing
 mod Tellings

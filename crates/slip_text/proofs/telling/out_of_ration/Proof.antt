@@ -17,11 +17,15 @@ out-of-ration-spec =
     (λ c κs. search needs)
     (λ c κs. search needs)
     (λ c.
-    let in-range3 = c .before in
-    let fault-unless3 = in-range3 .before in
-    let in-range2 = fault-unless3 .before in
-    let fault-unless2 = in-range2 .before in
-    let in-range = fault-unless2 .before in
-    let fault-unless = in-range .before in
-    rw
-    (c .fault-unless4 .ensures, fault-unless3 .fault-unless3 .ensures, fault-unless2 .fault-unless2 .ensures, fault-unless .fault-unless .ensures, in-range3 .in-range3 .ensures, in-range2 .in-range2 .ensures, in-range .in-range .ensures)))
+    let ym = c .before .before in
+    let head = ym .before .before in
+    let days = head .before .before in
+    rw (
+      c .fault-unless4 .ensures,
+      ym .fault-unless3 .ensures,
+      head .fault-unless2 .ensures,
+      days .fault-unless .ensures,
+      c .before .in-range3 .ensures,
+      ym .before .in-range2 .ensures,
+      head .before .in-range .ensures,
+    )))
