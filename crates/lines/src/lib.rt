@@ -34,7 +34,6 @@ impl Cut {
         }
     }
 
-    // The number stays at u64's last: no text has so many lines.
     pub fn next(self) -> Cut
         ensures { λ r. ⌜ r ≡ nextOf self ⌝ }
     {
@@ -46,7 +45,8 @@ impl Cut {
     }
 }
 
-fn one_more(number: u64) -> u64
+// The next number: a count stays at u64's last.
+pub fn one_more(number: u64) -> u64
     ensures { λ r. ⌜ r ≡ oneMore number ⌝ }
 {
     if number < u64::MAX {

@@ -1,2 +1,4 @@
-mod Lines
+mod Asking
+mod Examples
 mod Showing
+mod Tellings

@@ -1,4 +1,11 @@
 // The what-if slip as text: a typed line read as a ration and a change, and a slip put on a line.
+mod telling;
+
+pub use telling::counted;
+pub use telling::say_answer;
+pub use telling::say_counts;
+pub use telling::say_remark;
+pub use telling::status;
 ghost use mathlib.Core.Path.{_≡_};
 ghost use Prim.Native.Nat.{_+_, _≤_};
 ghost use lib.ListN.{length};
@@ -6,23 +13,36 @@ ghost use mathlib.Core.List.{_∷_, []};
 ghost use Rattle.text.specs.Decimal.{decimal, Put};
 ghost use Rattle.reading.specs.Words.{nthWord};
 ghost use Rattle.reading.specs.Numbers.{decimalOf};
-ghost use Rattle.slip_text.specs.Asked.{changeNamed, daysOf, askedOf};
-ghost use Rattle.slip_text.specs.Shown.{shown, spacedShown, rationText, slipLine};
+ghost use Rattle.slip_text.specs.Asked.{changeNamed, daysOf, unless, rationFault, changeFault, faultOf, rationIn, changeIn, askedOf};
+ghost use Rattle.slip_text.specs.Shown.{gramsOf, shown, spacedShown, rationText, difference, compared, slipLine};
 use slip::Change;
 use slip::Ration;
 use slip::Slip;
 
-// What a line asks: nothing where it has no word.
+// What a line asks: nothing where it has no word; where something is wrong, what.
 pub enum Asked {
     Nothing,
     Estimate(Ration, Change),
-    Wrong,
+    Wrong(usize),
+}
+
+// Lines so far that were answered, refused and not read.
+pub struct Counts {
+    pub answered: u64,
+    pub refused: u64,
+    pub unread: u64,
 }
 
 // A change by its name; with another name it is not good.
 struct Named {
     good: bool,
     change: Change,
+}
+
+// Thousandths; not good where there is no such number to show.
+struct Grams {
+    good: bool,
+    value: u64,
 }
 
 fn decimal_word(line: &[u8], n: usize) -> reading::Double
@@ -68,31 +88,97 @@ fn read_change(line: &[u8], x: f64) -> Named
     }
 }
 
-// GE Ym head days CHANGE X
-pub fn read_line(line: &[u8]) -> Asked
-    ensures { λ r. ⌜ r ≡ askedOf (now (line .entry)) ⌝ }
+// The fault where a test fails, else the other.
+pub(crate) fn fault_unless(good: bool, fault: usize, other: usize) -> usize
+    ensures { λ r. ⌜ r ≡ unless good fault other ⌝ }
 {
-    if reading::word(line, 0).len() == 0 {
-        return Asked::Nothing;
-    }
+    if good { other } else { fault }
+}
+
+fn ration_fault(line: &[u8], other: usize) -> usize
+    ensures { λ r. ⌜ r ≡ rationFault (now (line .entry)) other ⌝ }
+{
+    let days = fault_unless(read_days(line).good, 4, other);
+    let head = fault_unless(decimal_word(line, 2).good, 3, days);
+    let ym = fault_unless(decimal_word(line, 1).good, 2, head);
+    fault_unless(decimal_word(line, 0).good, 1, ym)
+}
+
+fn change_fault(line: &[u8]) -> usize
+    ensures { λ r. ⌜ r ≡ changeFault (now (line .entry)) ⌝ }
+{
+    let more = fault_unless(reading::word(line, 6).len() == 0, 7, 0);
+    let x = decimal_word(line, 5);
+    let named = read_change(line, x.value);
+    let number = fault_unless(x.good, 6, more);
+    fault_unless(named.good, 5, number)
+}
+
+// The first fault: 1 to 6 the word at that place, 7 a word too many, 8 too few, 0 none.
+fn line_fault(line: &[u8]) -> usize
+    ensures { λ r. ⌜ r ≡ faultOf (now (line .entry)) ⌝ }
+{
+    let other = ration_fault(line, change_fault(line));
+    fault_unless(0 < reading::word(line, 5).len(), 8, other)
+}
+
+fn ration_in(line: &[u8]) -> Ration
+    ensures { λ r. ⌜ r ≡ rationIn (now (line .entry)) ⌝ }
+{
     let ge = decimal_word(line, 0);
     let ym = decimal_word(line, 1);
     let head = decimal_word(line, 2);
     let days = read_days(line);
-    let x = decimal_word(line, 5);
-    let named = read_change(line, x.value);
-    let more = reading::word(line, 6).len();
-    if ge.good & ym.good & head.good & days.good & named.good & x.good & (more == 0) {
-        let ration = Ration {
-            ge: ge.value,
-            ym: ym.value,
-            head: head.value,
-            days: days.value as u16,
-        };
-        let change = named.change;
-        return Asked::Estimate(ration, change);
+    Ration {
+        ge: ge.value,
+        ym: ym.value,
+        head: head.value,
+        days: days.value as u16,
     }
-    Asked::Wrong
+}
+
+pub(crate) fn change_in(line: &[u8]) -> Named
+    ensures { λ r. ⌜ r ≡ changeIn (now (line .entry)) ⌝ }
+{
+    let x = decimal_word(line, 5);
+    read_change(line, x.value)
+}
+
+// GE Ym head days CHANGE X, on a line of at most 1,023 bytes.
+pub fn read_line(line: &[u8]) -> Asked
+    ensures { λ r. ⌜ r ≡ askedOf (now (line .entry)) ⌝ }
+{
+    if 1024 <= line.len() {
+        return Asked::Wrong(9);
+    }
+    if reading::word(line, 0).len() == 0 {
+        return Asked::Nothing;
+    }
+    let fault = line_fault(line);
+    if fault != 0 {
+        return Asked::Wrong(fault);
+    }
+    let ration = ration_in(line);
+    let named = change_in(line);
+    let change = named.change;
+    Asked::Estimate(ration, change)
+}
+
+// Thousandths of x, to the nearest, where x can be shown.
+fn in_grams(x: f64) -> Grams
+    ensures { λ r. ⌜ r ≡ gramsOf x ⌝ }
+{
+    let y = x * 1000.0 + 0.5;
+    if (-1.0 < y) & (y < 1000000000000000.0) {
+        return Grams {
+            good: true,
+            value: std::num::truncating_f64_to_u64(y),
+        };
+    }
+    Grams {
+        good: false,
+        value: 0,
+    }
 }
 
 // Three decimals, or a dash.
@@ -101,9 +187,9 @@ fn put_shown(out: &mut [u8], at: usize, x: f64) -> usize
     ensures { λ r. ⌜ Put (now (out .entry)) (now (out .exit)) at (shown x) r ⌝ }
     ensures { λ r. ⌜ r ≤ at + 24 ⌝ }
 {
-    let y = x * 1000.0 + 0.5;
-    if (-1.0 < y) & (y < 1000000000000000.0) {
-        return text::put_thousandths(out, at, std::num::truncating_f64_to_u64(y));
+    let g = in_grams(x);
+    if g.good {
+        return text::put_thousandths(out, at, g.value);
     }
     text::put_byte(out, at, b'-')
 }
@@ -129,15 +215,48 @@ fn put_ration(out: &mut [u8], at: usize, r: Ration) -> usize
     text::put_decimal(out, after, r.days as u64)
 }
 
-// One line of at most 142 bytes.
-pub fn put_slip(out: &mut [u8], at: usize, s: Slip) -> usize
-    requires { ⌜ at + 142 ≤ length (now out) ⌝ }
-    ensures { λ r. ⌜ Put (now (out .entry)) (now (out .exit)) at (slipLine s) r ⌝ }
-    ensures { λ r. ⌜ r ≤ at + 142 ⌝ }
+// After less before, from the numbers as they are shown, so that the columns add up.
+fn put_difference(out: &mut [u8], at: usize, after: f64, before: f64) -> usize
+    requires { ⌜ at + 25 ≤ length (now out) ⌝ }
+    ensures { λ r. ⌜ Put (now (out .entry)) (now (out .exit)) at (difference after before) r ⌝ }
+    ensures { λ r. ⌜ r ≤ at + 25 ⌝ }
+{
+    let a = in_grams(after);
+    let b = in_grams(before);
+    if !(a.good & b.good) {
+        return text::put_byte(out, at, b'-');
+    }
+    if a.value < b.value {
+        let minus = text::put_byte(out, at, b'-');
+        return text::put_thousandths(out, minus, b.value - a.value);
+    }
+    text::put_thousandths(out, at, a.value - b.value)
+}
+
+// The kg before the change and the difference; a refused slip has dashes.
+fn put_compared(out: &mut [u8], at: usize, s: Slip, before: f64) -> usize
+    requires { ⌜ at + 51 ≤ length (now out) ⌝ }
+    ensures { λ r. ⌜ Put (now (out .entry)) (now (out .exit)) at (compared s before) r ⌝ }
+    ensures { λ r. ⌜ r ≤ at + 51 ⌝ }
+{
+    if s.code != 0 {
+        return text::put_text(out, at, b" - -");
+    }
+    let kg = put_spaced_shown(out, at, before);
+    let space = text::put_byte(out, kg, b' ');
+    put_difference(out, space, s.kg, before)
+}
+
+// One line of at most 193 bytes: the slip, and beside it the kg before the change.
+pub fn put_slip(out: &mut [u8], at: usize, s: Slip, before: f64) -> usize
+    requires { ⌜ at + 193 ≤ length (now out) ⌝ }
+    ensures { λ r. ⌜ Put (now (out .entry)) (now (out .exit)) at (slipLine s before) r ⌝ }
+    ensures { λ r. ⌜ r ≤ at + 193 ⌝ }
 {
     let ration = s.ration;
     let code = text::put_decimal(out, at, s.code as u64);
     let days = put_ration(out, code, ration);
     let kg = put_spaced_shown(out, days, s.kg);
-    text::put_byte(out, kg, b'\n')
+    let both = put_compared(out, kg, s, before);
+    text::put_byte(out, both, b'\n')
 }

@@ -1,3 +1,4 @@
+pub mod Parts
 pub mod Remarks
 pub mod Text
 pub mod Typist

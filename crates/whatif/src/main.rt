@@ -1,122 +1,193 @@
-// Reads `GE Ym head days CHANGE X` lines on standard input and prints the what-if slip of each.
+// Reads `GE Ym head days CHANGE X` lines on standard input and prints the what-if slip of each; standard error has what is not read or refused.
+use libc::STDERR_FILENO;
 use libc::STDIN_FILENO;
 use libc::STDOUT_FILENO;
-use slip::Slip;
-use slip_text::Asked;
+use lines::Cut;
+use slip_text::Counts;
+ghost use Prim.Native.Nat.{_≤_};
+ghost use lib.ListN.{length};
 
-// How many bytes of the unfinished line are in, and its number.
-struct Typed {
-    len: usize,
-    number: u64,
-}
+// Where a caller that gives an argument, the word `status`, wants the status byte.
+const STATUS_FILENO: i32 = 3;
 
-struct Turned {
-    typed: Typed,
+// The line being read, the counts, whether no read and no write has failed, and whether more may come.
+struct Work {
+    cut: Cut,
+    counts: Counts,
+    read: bool,
+    written: bool,
+    told: bool,
     more: bool,
 }
 
-fn say(text: &[u8]) {
-    io::write_all(STDOUT_FILENO, text);
+struct Stepped {
+    work: Work,
+    taken: usize,
 }
 
-fn print_slip(s: Slip) {
-    let mut out = [0u8; 160];
-    let n = slip_text::put_slip(&mut out, 0, s);
-    say(&out[..n]);
-}
-
-fn say_expected(number: u64) {
-    say(b"line ");
-    io::print_decimal(STDOUT_FILENO, number);
-    say(
-        b": expected GE Ym head days CHANGE X: decimals of up to 15 digits as 12.5, whole days up to 65535, CHANGE feed, ym or head\n",
-    );
-}
-
-// A line that fills the buffer may have been cut, so it is not read.
-fn answer(line: &[u8], t: Typed) {
-    let len = t.len;
-    if line.len() <= len {
-        say_expected(t.number);
-        return;
+// Where slips can't go out nothing more is tried.
+fn send(text: &[u8], mut w: Work) -> Work {
+    if io::write_all(STDOUT_FILENO, text) {
+        return w;
     }
-    let asked = slip_text::read_line(&line[..len]);
-    match asked {
-        Asked::Nothing => {}
-        Asked::Estimate(ration, change) => print_slip(slip::what_if(ration, change)),
-        Asked::Wrong => say_expected(t.number),
-    }
+    os::fail(b"standard output");
+    w.written = false;
+    w.more = false;
+    w
 }
 
-fn take_byte(line: &mut [u8], t: Typed, b: u8) -> Typed {
-    let len = t.len;
-    if b == b'\n' {
-        answer(line, t);
-        return Typed {
-            len: 0,
-            number: std::num::wrapping_add_u64(t.number, 1),
+fn tell(text: &[u8], mut w: Work) -> Work {
+    if !io::write_all(STDERR_FILENO, text) {
+        w.told = false;
+    }
+    w
+}
+
+fn answer(typed: &[u8], w: Work) -> Work {
+    let mut out = [0u8; 256];
+    let n = slip_text::say_answer(&mut out, typed);
+    send(&out[..n], w)
+}
+
+fn remark(typed: &[u8], w: Work) -> Work {
+    let mut out = [0u8; 256];
+    let cut = w.cut;
+    let n = slip_text::say_remark(&mut out, cut.number, typed);
+    tell(&out[..n], w)
+}
+
+fn count(typed: &[u8], mut w: Work) -> Work {
+    let counts = slip_text::counted(w.counts, typed);
+    w.counts = counts;
+    w
+}
+
+// A slip that did not go out is not counted.
+fn end_line(line: &[u8], w: Work) -> Work {
+    let typed = lines::whole(line, w.cut);
+    let answered = answer(typed, w);
+    if !answered.written {
+        return answered;
+    }
+    count(typed, remark(typed, answered))
+}
+
+fn next_line(mut w: Work) -> Work {
+    let cut = w.cut;
+    let next = cut.next();
+    w.cut = next;
+    w
+}
+
+fn step(line: &mut [u8], rest: &[u8], mut w: Work) -> Stepped
+    ensures { λ r. ⌜ r .taken ≤ length (now (rest .entry)) ⌝ }
+{
+    let cutting = lines::cut_line(line, w.cut, rest);
+    let cut = cutting.cut;
+    w.cut = cut;
+    if !cutting.ended {
+        return Stepped {
+            work: w,
+            taken: cutting.taken,
         };
     }
-    if len < line.len() {
-        line[len] = b;
-        return Typed {
-            len: len + 1,
-            number: t.number,
-        };
+    let next = next_line(end_line(line, w));
+    Stepped {
+        work: next,
+        taken: cutting.taken,
     }
-    t
 }
 
-fn take_part(line: &mut [u8], part: &[u8], t: Typed) -> Typed {
-    let mut typed = t;
+// A proved loop has to end: the steps count down from a number that no part uses up, since each takes a byte.
+fn take_part(line: &mut [u8], part: &[u8], from: Work) -> Work {
+    let mut w = from;
     let mut i = 0;
-    while i < part.len() {
-        typed = take_byte(line, typed, part[i]);
-        i += 1;
+    let mut steps = part.len();
+    while steps > 0 {
+        steps -= 1;
+        let done = step(line, &part[i..], w);
+        w = done.work;
+        i += done.taken;
+        if i == part.len() {
+            return w;
+        }
+        if !w.written {
+            return w;
+        }
     }
-    typed
+    w
 }
 
-// Reads once. At the end of the input, or where a read fails, there is no more.
-fn turn(line: &mut [u8], t: Typed) -> Turned {
+// Reads once. At the end of the input, or where a read or a write fails, there is no more.
+fn turn(line: &mut [u8], mut w: Work) -> Work {
     let mut part = io::buffer();
     let got = libc::read(STDIN_FILENO, &mut part);
     if got < 0 {
         os::fail(b"standard input");
-        return Turned {
-            typed: t,
-            more: false,
-        };
+        w.read = false;
     }
-    if got == 0 {
-        return Turned {
-            typed: t,
-            more: false,
-        };
+    if got <= 0 {
+        w.more = false;
+        return w;
     }
     let n = io::count(got, &part);
-    let typed = take_part(line, &part[..n], t);
-    Turned { typed, more: true }
+    take_part(line, &part[..n], w)
 }
 
-// A proved loop has to end, and nothing says that the input does: the turns count down from a number that no run uses up.
-fn run(line: &mut [u8], t: Typed) -> Typed {
-    let mut typed = t;
+// Nothing says that the input ends: the turns count down from a number that no run uses up.
+fn run(line: &mut [u8], from: Work) -> Work {
+    let mut w = from;
     let mut turns = u64::MAX;
     while turns > 0 {
-        turns -= 1;
-        let done = turn(line, typed);
-        typed = done.typed;
-        if !done.more {
-            return typed;
+        if !w.more {
+            return w;
         }
+        turns -= 1;
+        w = turn(line, w);
     }
-    typed
+    w
+}
+
+// The line behind the last line feed. Where a read failed it may have been cut, so it is not read.
+fn finish(line: &[u8], w: Work) -> Work {
+    if w.read & w.written {
+        return end_line(line, w);
+    }
+    w
+}
+
+fn tell_counts(w: Work) -> Work {
+    let mut out = [0u8; 128];
+    let n = slip_text::say_counts(&mut out, w.counts);
+    tell(&out[..n], w)
+}
+
+fn tell_status(w: Work) {
+    if os::arg_count() == 2 {
+        let status = slip_text::status(w.counts, w.read & w.written & w.told);
+        io::write_all(STATUS_FILENO, &[status]);
+    }
 }
 
 fn main() {
-    say(b"estimate only, put in no book: answer, GE, Ym, head, days, kg CH4\n");
-    let mut line = [0u8; 256];
-    let last = run(&mut line, Typed { len: 0, number: 1 });
-    answer(&line, last);
+    let mut line = [0u8; 1027];
+    let start = Work {
+        cut: Cut::new(),
+        counts: Counts {
+            answered: 0,
+            refused: 0,
+            unread: 0,
+        },
+        read: true,
+        written: true,
+        told: true,
+        more: true,
+    };
+    let headed = tell(
+        b"estimate only, put in no book: answer, GE, Ym, head, days, kg CH4, kg before, difference\n",
+        start,
+    );
+    let last = run(&mut line, headed);
+    let done = finish(&line, last);
+    tell_status(tell_counts(done));
 }

@@ -1,3 +1,4 @@
+-- The turns count down. Assumes nothing.
 use mathlib.Core.Path.{_≡_}
 use lib.ListN.{length}
 use borrow.Author.Needs.{needs}
@@ -5,10 +6,10 @@ use Rattle.whatif.proofs.run.Statement.{statement}
 use Rattle.whatif.proofs.run.Tie as tie
 
 abbrev Inv-loop : tie.InvT-loop
-Inv-loop line₀ typed₀ turns₀ line typed turns = length line ≡ length line₀
+Inv-loop line₀ w₀ turns₀ line w turns = length line ≡ length line₀
 
 abbrev μ-loop : tie.MeasureT-loop
-μ-loop line₀ typed₀ turns₀ line typed turns = turns
+μ-loop line₀ w₀ turns₀ line w turns = turns
 
 pub run-spec : {M : Type 1} → statement M
 run-spec =
@@ -18,9 +19,9 @@ run-spec =
     μ-loop
     (λ c. search needs)
     (λ c. search needs)
+    (λ c. search needs)
+    (λ c. search needs)
     (λ c κs. search needs)
-    (λ c. search needs)
-    (λ c. search needs)
     (λ c. search needs)
     (λ c. search needs)
     (λ c. search needs)

@@ -1,12 +1,12 @@
+-- What was put is in the buffer. Assumes nothing.
 use mathlib.Core.Path.{sym}
 use lib.Seq.{length-take-le}
-use native.Mathlib.Omega.{arith}
 use borrow.Author.Needs.{needs}
-use Rattle.whatif.proofs.print_slip.Statement.{statement}
-use Rattle.whatif.proofs.print_slip.Tie as tie
+use Rattle.whatif.proofs.tell_counts.Statement.{statement}
+use Rattle.whatif.proofs.tell_counts.Tie as tie
 
-pub print-slip-spec : {M : Type 1} → statement M
-print-slip-spec =
+pub tell-counts-spec : {M : Type 1} → statement M
+tell-counts-spec =
     tie.close
     (tie.spec
     (λ c. search needs)

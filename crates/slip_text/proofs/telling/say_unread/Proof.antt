@@ -1,0 +1,29 @@
+-- The parts, one behind the other. Assumes nothing.
+use Rattle.text.proofs.Sayings.{then-said}
+use Rattle.slip_text.proofs.Tellings.{behind}
+use borrow.Author.Needs.{needs}
+use Rattle.slip_text.proofs.telling.say_unread.Statement.{statement}
+use Rattle.slip_text.proofs.telling.say_unread.Tie as tie
+
+pub say-unread-spec : {M : Type 1} → statement M
+say-unread-spec =
+    tie.close
+    (tie.spec
+    (λ c κs. search needs)
+    (λ c. search needs)
+    (λ c κs. search needs)
+    (λ c κs. search needs)
+    (λ c. search needs)
+    (λ c κs. search needs)
+    (λ c. search needs)
+    (λ c.
+    let say2 = c .before .before in
+    let say-fault = say2 .before .before .before .before .before in
+    let say = say-fault .before .before .before .before in
+    let say-start = say .before .before .before .before .before in
+    let start = say-start .before .before .before .before in
+    let e1 = say-start .say-start .ensures in
+    let e2 = say .say .ensures in
+    let e3 = say-fault .say-fault .ensures in
+    let e4 = say2 .say2 .ensures in
+    then-said (start .pre) e1 (then-said (behind e1) e2 (then-said (behind e2) e3 e4))))

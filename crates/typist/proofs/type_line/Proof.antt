@@ -1,0 +1,17 @@
+-- What became of the line, and then its remark. Assumes nothing.
+use borrow.Author.Needs.{needs}
+use Rattle.typist.proofs.Fates.{line-done}
+use Rattle.typist.proofs.type_line.Statement.{statement}
+use Rattle.typist.proofs.type_line.Tie as tie
+
+pub type-line-spec : {M : Type 1} → statement M
+type-line-spec =
+    tie.close
+    (tie.spec
+    (λ c κs. search needs)
+    (λ c κs. search needs)
+    (λ c. search needs)
+    (λ c. search needs)
+    (λ c.
+    let p = c .before .before .before .before .before .before .before in
+    line-done _ (p .enter .ensures .0) (p .enter .ensures .1) (c .before .before .say-remark .ensures)))

@@ -1,0 +1,60 @@
+-- A typed text that arrives in parts: what one call over a part does. A call goes up to the end of a line, or of the part where no line ends in it.
+use Prim.Native.Nat.{ℕ}
+use mathlib.Core.List.{List, [], _++_}
+use lib.ListN.{length, take, drop}
+use Rattle.codec.specs.Codec.{pick}
+use Rattle.lines.specs.declared.Cut.{Cut}
+use Rattle.lines.specs.declared.Cutting.{Cutting}
+use Rattle.lines.specs.Lines.{nextOf, cuttingOf, cutIn, unmarked}
+use Rattle.typist.specs.declared.Typist.{Typist}
+use Rattle.typist.specs.declared.Typing.{Typing}
+use Rattle.typist.specs.Typist.{Turn, turn}
+use Rattle.typist.specs.Remarks.{remarkText}
+
+-- what a line does: the typist behind it, the bytes written and what is said
+pub record Line : Type 0 where
+  pub typist : Typist
+  pub bytes : List ℕ
+  pub remark : List ℕ
+
+abbrev pub byTurn : Turn → Typist → ℕ → List ℕ → Line
+byTurn x t n xs = record { typist = x .typist; bytes = x .bytes; remark = remarkText (x .fate) t n xs }
+
+-- line n with the text xs, for a buffer of room bytes
+abbrev pub lineBy : Typist → ℕ → List ℕ → ℕ → Line
+lineBy t n xs room = byTurn (turn t n xs room) t n xs
+
+-- what a call does: the typist and the line being read behind it, how many bytes of the part are taken, the bytes written and what is said
+pub record Call : Type 0 where
+  pub typing : Typing
+  pub taken : ℕ
+  pub bytes : List ℕ
+  pub remark : List ℕ
+
+-- the line being read goes on
+abbrev pub goesOn : Typist → Cutting → Call
+goesOn t c = record { typing = record { typist = t; cut = c .cut }; taken = c .taken; bytes = []; remark = [] }
+
+-- the line being read has ended
+abbrev pub hasEnded : Line → Cutting → Call
+hasEnded l c = record { typing = record { typist = l .typist; cut = nextOf (c .cut) }; taken = c .taken; bytes = l .bytes; remark = l .remark }
+
+-- the text of the line in the buffer
+abbrev pub inBuffer : List ℕ → Cut → List ℕ
+inBuffer line cut = unmarked (cut .number) (take (cut .len) line)
+
+abbrev pub byCutting : Cutting → Typist → List ℕ → ℕ → Call
+byCutting c t line room = pick (c .ended) (hasEnded (lineBy t (c .cut .number) (inBuffer line (c .cut)) room) c) (goesOn t c)
+
+-- a call over a part, with the buffer line for the line being read and a buffer of room bytes for a record
+unfoldable pub callOf : Typing → List ℕ → List ℕ → ℕ → Call
+callOf typing line part room =
+    byCutting (cuttingOf (length line) (typing .cut) part) (typing .typist) (cutIn line (typing .cut) part) room
+
+-- at the end of the text, the line being read ends too
+abbrev pub lastOf : Typing → List ℕ → ℕ → Line
+lastOf typing line room = lineBy (typing .typist) (typing .cut .number) (inBuffer line (typing .cut)) room
+
+-- a buffer with the bytes at its start; those past them stay
+abbrev pub laidIn : List ℕ → List ℕ → List ℕ
+laidIn bytes out = bytes ++ drop (length bytes) out
