@@ -1,4 +1,4 @@
-//! The typed book, read as REQUESTS.md says: a text's lines one after the other, the bytes they write and what is said of them.
+//! The typed book: a text's lines one after the other, the bytes that they write and what is said of them.
 
 use crate::state::{Heading, Refusal, State, CLOSED, OPEN};
 use crate::words::{class_name, kind_name, sentence, shown, spoken_of, KINDS};
