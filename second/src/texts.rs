@@ -43,7 +43,7 @@ const OTHER_KINDS: [&[u8]; 9] = [
 ];
 
 /// Words that are no numbers.
-const NO_NUMBERS: [&[u8]; 20] = [
+const NO_NUMBERS: [&[u8]; 21] = [
     b".5",
     b"5.",
     b".",
@@ -62,6 +62,7 @@ const NO_NUMBERS: [&[u8]; 20] = [
     b"\xff\xfe\x80",
     b"1\x0c2",
     b"12a",
+    b"!~\x7f\x1f",
     b"a-word-of-more-than-24-bytes-in-all",
     b"exactly-24-bytes-of-word",
 ];
