@@ -15,12 +15,17 @@ mod slip;
 mod slips;
 mod state;
 mod states;
+mod texts;
 mod trial;
+mod typed;
+mod words;
 mod writer;
 mod writes;
 
 #[cfg(test)]
 mod tests;
+#[cfg(test)]
+mod typed_tests;
 #[cfg(test)]
 mod writer_tests;
 
@@ -32,6 +37,8 @@ const USAGE: &str = "usage:
   second cases SEED COUNT [FIRST]    fresh trial cases, from the index FIRST on
   second answers                     reads cases, writes what they should give
   second desk SEED COUNT             books for the C host, with what they should give
+  second typed                       reads a typed text, writes its book and says what the writer says
+  second text SEED INDEX             a typed text by chance
 ";
 
 fn main() {
@@ -44,6 +51,8 @@ fn main() {
         ["cases", seed, count, first] => fresh(seed, count, first),
         ["answers"] => answers(),
         ["desk", seed, count] => desk_books(seed, count),
+        ["typed"] => enter_typed(),
+        ["text", seed, index] => some_text(seed, index),
         _ => Err(USAGE.to_string()),
     };
     if let Err(fault) = done {
@@ -54,6 +63,12 @@ fn main() {
 
 fn whole_number(text: &str) -> Result<u64, String> {
     text.parse().map_err(|e| format!("{text:?}: {e}"))
+}
+
+/// Writes bytes and nothing else.
+fn write_bytes(bytes: &[u8]) -> Result<(), String> {
+    let mut out = io::stdout().lock();
+    out.write_all(bytes).and_then(|()| out.flush()).map_err(|e| e.to_string())
 }
 
 /// Writes text after text, and tells of the first that can't be written.
@@ -103,4 +118,22 @@ fn desk_books(seed: &str, count: &str) -> Result<(), String> {
     let mut dice = dice::Dice::of_case(seed, count);
     let long_books = [desk::long_book(4_094), desk::long_book(4_095), desk::many_groups(4_094)];
     write_all(long_books.into_iter().map(|book| desk::book_text(&mut dice, &book)))
+}
+
+/// The book is on standard output, what is said on standard error; the status is 1 unless all was well.
+fn enter_typed() -> Result<(), String> {
+    let mut text = Vec::new();
+    io::stdin().read_to_end(&mut text).map_err(|e| e.to_string())?;
+    let entered = typed::enter(&text);
+    write_bytes(&entered.book)?;
+    eprint!("{}", entered.said);
+    if !entered.right {
+        std::process::exit(1);
+    }
+    Ok(())
+}
+
+fn some_text(seed: &str, index: &str) -> Result<(), String> {
+    let (seed, index) = (whole_number(seed)?, whole_number(index)?);
+    write_bytes(&texts::text(seed, index))
 }

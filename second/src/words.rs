@@ -1,0 +1,119 @@
+//! The typed book's words: names of kinds, fields and classes, what is expected of a field, and the sentence of each refusal.
+
+/// How people name a field: its name, the decimals of the unit that they say, and what is expected of it.
+pub struct Spoken {
+    pub name: &'static str,
+    pub decimals: usize,
+    pub expected: &'static str,
+}
+
+const fn spoken(name: &'static str, decimals: usize, expected: &'static str) -> Spoken {
+    Spoken { name, decimals, expected }
+}
+
+pub const KINDS: [&str; 8] =
+    ["farm", "heading", "enteric", "cattle", "pig", "energy", "soil", "close"];
+
+const CLASSES: [&str; 4] = ["milking", "dry", "heifer", "pig"];
+
+const DAYS: Spoken = spoken("days", 0, "1 to 366");
+
+const FARM: [Spoken; 3] = [
+    spoken("farm number", 0, "0 to 4294967295"),
+    spoken("year", 0, "1900 to 2200"),
+    spoken("warming set", 0, "1 or 2"),
+];
+const HEADING: [Spoken; 3] = [
+    spoken("group", 0, "1 to 65535"),
+    spoken("class", 0, "1 to 4 (milking, dry, heifer, pig)"),
+    spoken("head", 0, "0 to 20000"),
+];
+const ENTERIC: [Spoken; 3] = [
+    DAYS,
+    spoken("GE", 2, "0 to 1000.00 MJ per head and day"),
+    spoken("Ym", 2, "0 to 20.00 per cent"),
+];
+const CATTLE: [Spoken; 9] = [
+    DAYS,
+    spoken("feed", 2, "0 to 50.00 kg per head and day"),
+    spoken("protein", 2, "0 to 40.00 per cent"),
+    spoken("milk", 2, "0 to 80.00 kg per head and day"),
+    spoken("milk protein", 2, "0 to 8.00 per cent"),
+    spoken("gain", 0, "0 to 3000 g per head and day"),
+    spoken("solid share", 2, "0 to 100.00 per cent"),
+    spoken("liquid share", 2, "0 to 100.00 per cent"),
+    spoken("pasture share", 2, "0 to 100.00 per cent"),
+];
+const PIG: [Spoken; 12] = [
+    DAYS,
+    spoken("feed", 2, "0 to 10.00 kg per head and day"),
+    spoken("VS excretion", 4, "0 to 0.5000"),
+    spoken("VS factor", 3, "0 to 2.000"),
+    spoken("MCF", 3, "0 to 1.000"),
+    spoken("protein", 2, "0 to 40.00 per cent"),
+    spoken("N factor", 3, "0 to 2.000"),
+    spoken("direct EF", 5, "0 to 0.10000"),
+    spoken("volatilised part", 3, "0 to 1.000"),
+    spoken("volatilised EF", 5, "0 to 0.10000"),
+    spoken("leached part", 3, "0 to 1.000"),
+    spoken("leached EF", 5, "0 to 0.10000"),
+];
+const ENERGY: [Spoken; 3] = [
+    spoken("source", 0, "1 to 8"),
+    spoken("amount", 1, "0 to 1000000.0 units"),
+    spoken("factor", 0, "0 to 10000000 g CO2 per unit"),
+];
+const SOIL: [Spoken; 1] = [spoken("area", 2, "0 to 100000.00 ha")];
+const CLOSE: [Spoken; 1] = [spoken("records before it", 0, "0 to 65535")];
+
+/// The fields of a kind, in order; a kind that the book has not has none.
+pub fn spoken_of(kind: u64) -> &'static [Spoken] {
+    match kind {
+        1 => &FARM,
+        2 => &HEADING,
+        3 => &ENTERIC,
+        4 => &CATTLE,
+        5 => &PIG,
+        6 => &ENERGY,
+        7 => &SOIL,
+        8 => &CLOSE,
+        _ => &[],
+    }
+}
+
+pub fn kind_name(kind: u64) -> &'static str {
+    match kind {
+        1..=8 => KINDS[kind as usize - 1],
+        _ => "record",
+    }
+}
+
+/// The name of a class 1..4.
+pub fn class_name(class: u8) -> &'static str {
+    CLASSES[usize::from(class) - 1]
+}
+
+/// The sentence of a number that the writer can give to a typed line; 4 and 7 have longer ones.
+pub fn sentence(code: u8) -> &'static str {
+    match code {
+        3 => "no such kind of record: kinds are 1 to 8",
+        5 => "the book has 4096 records, and no more go in",
+        6 => concat!(
+            "out of its place: a book begins with its one farm record; ",
+            "enteric and cattle stand under a heading of class 1 to 3, pig under one of class 4"
+        ),
+        8 => "the group number must be above that of the heading before",
+        9 => "more than 366 days of this kind under the heading",
+        10 => "cattle shares must be 100.00 per cent together; a pig's volatilised and leached parts at most 1.000",
+        11 => "more nitrogen in milk and gain than in the feed",
+        12 => "the close counts other records than there are before it; left out, the count is filled in",
+        22 => "the book is closed already",
+        _ => panic!("the number {code} is given to no typed line"),
+    }
+}
+
+/// A word as a message shows it: its first 24 bytes, and a question mark for each that is not to be seen.
+pub fn shown(word: &[u8]) -> String {
+    let show = |&byte: &u8| if (33..=126).contains(&byte) { char::from(byte) } else { '?' };
+    word.iter().take(24).map(show).collect()
+}
