@@ -16,16 +16,10 @@ use Rattle.typed.specs.declared.Line.{Line}
 use Rattle.typed.specs.declared.Said.{Said}
 use Rattle.typed.specs.declared.Said.the-variants as said
 use Rattle.typed.specs.Line.{lineOf, writeEntry}
-use Rattle.text.specs.Said.{Said}
-use Rattle.lines.specs.declared.Cutting.{Cutting}
-use Rattle.lines.specs.Lines.{cuttingOf, cutIn}
 use Rattle.typist.specs.declared.Typist.{Typist}
-use Rattle.typist.specs.declared.Typing.{Typing}
 use Rattle.typist.specs.declared.Fate.the-variants.{Nothing, Unread, Withheld, Without}
 use Rattle.typist.specs.declared.Entered.{Entered}
 use Rattle.typist.specs.Typist.{inGroup, notRead, withholding, unheaded, Turn, byAnswer, byWrite, withheld, headless, recordTurn, bySaid, turn, enteredOf, enteredBy, laid}
-use Rattle.typist.specs.Remarks.{remarkText}
-use Rattle.typist.specs.Parts.{byTurn, lineBy, goesOn, hasEnded, inBuffer, byCutting, callOf, laidIn}
 
 module _ (t : Typist) (n : ℕ) (e : Entry) (room : ℕ) where
   pub is-withheld : withheld t e ≡ true → recordTurn t n e room ≡ record { typist = withholding t; fate = Withheld; bytes = [] }
@@ -90,27 +84,3 @@ module _ (t : Typist) (n : ℕ) (xs : List ℕ) (room : ℕ) {line : Line} (e : 
   pub says-record : line .said ≡ said.Record → (out : List ℕ) {out′ : List ℕ} {r : Entered}
       → (r ≡ enteredOf (recordTurn t n (line .entry) room)) × (out′ ≡ laid (recordTurn t n (line .entry) room) out) → (r ≡ enteredOf (turn t n xs room)) × (out′ ≡ laid (turn t n xs room) out)
   says-record f out p = let h = sym (by-said said.Record f) in (p .0 ∙ ap enteredOf h, p .1 ∙ ap (λ (x : Turn). laid x out) h)
-
--- e and out′ are what the turn x gives; then x's remark is said
-pub line-done : {t : Typist} {n : ℕ} {xs out out′ before after : List ℕ} {told : ℕ} (x : Turn) {e : Entered} → e ≡ enteredOf x → out′ ≡ laid x out
-    → Said before after 0 (remarkText (e .fate) t n xs) told
-    → (e .typist ≡ byTurn x t n xs .typist) × (e .written ≡ length (byTurn x t n xs .bytes)) × (out′ ≡ laidIn (byTurn x t n xs .bytes) out)
-        × Said before after 0 (byTurn x t n xs .remark) told
-line-done x p q s =
-    (ap (λ (y : Entered). y .typist) p, ap (λ (y : Entered). y .written) p, q, rw (ap (λ (y : Entered). y .fate) p) at s)
-
--- ---- a call over a part
-
-module _ (g : Typing) (line part : List ℕ) (room : ℕ) {c : Cutting} (e : c ≡ cuttingOf (length line) (g .cut) part) where
-  by-cutting : callOf g line part room ≡ byCutting c (g .typist) (cutIn line (g .cut) part) room
-  unfolding callOf
-  by-cutting = rw (← e)
-
-  -- no line ends in the part
-  pub line-open : c .ended ≡ false → callOf g line part room ≡ goesOn (g .typist) c
-  line-open f = by-cutting ∙ rw f
-
-  -- one ends
-  pub line-ended : c .ended ≡ true
-      → callOf g line part room ≡ hasEnded (lineBy (g .typist) (c .cut .number) (inBuffer (cutIn line (g .cut) part) (c .cut)) room) c
-  line-ended f = by-cutting ∙ rw f

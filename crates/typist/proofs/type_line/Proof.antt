@@ -1,6 +1,7 @@
 -- What became of the line, and then its remark. Assumes nothing.
+use lib.ListN.{length}
 use borrow.Author.Needs.{needs}
-use Rattle.typist.proofs.Fates.{line-done}
+use Rattle.typist.proofs.Calls.{line-typed}
 use Rattle.typist.proofs.type_line.Statement.{statement}
 use Rattle.typist.proofs.type_line.Tie as tie
 
@@ -14,4 +15,5 @@ type-line-spec =
     (λ c. search needs)
     (λ c.
     let p = c .before .before .before .before .before .before .before in
-    line-done _ (p .enter .ensures .0) (p .enter .ensures .1) (c .before .before .say-remark .ensures)))
+    let args = p .before .before .before .before .before .args in
+    line-typed (args .t) (args .number) (args .text .now) (length (args .out .now)) (args .out .now) (p .enter .ensures .0) (p .enter .ensures .1) (c .before .before .say-remark .ensures)))
