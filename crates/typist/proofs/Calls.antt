@@ -5,7 +5,7 @@ use native.Mathlib.Omega.{arith}
 use mathlib.Core.Path.{_≡_, refl, sym, ap, _∙_}
 use mathlib.Core.List.{List}
 use mathlib.Core.Bool.{true, false}
-use lib.ListN.{length}
+use lib.ListN.{length, drop, length-append, length-drop}
 use Rattle.text.specs.Said.{Said}
 use Rattle.text.proofs.Sayings.{said-none}
 use Rattle.lines.specs.declared.Cut.{Cut}
@@ -77,3 +77,7 @@ pub line-typed : (t : Typist) (n : ℕ) (xs : List ℕ) (room : ℕ) (out : List
     → (e .typist ≡ lineBy t n xs room .typist)
         × ((e .written ≡ length (lineBy t n xs room .bytes)) × ((out′ ≡ laidIn (lineBy t n xs room .bytes) out) × Said before after 0 (lineBy t n xs room .remark) told))
 line-typed t n xs room out p q s = line-done t n xs (turn t n xs room) out p q s
+
+-- what is laid at a buffer's start fits it
+pub written-fits : (bytes out : List ℕ) {out′ : List ℕ} → out′ ≡ laidIn bytes out → length out′ ≡ length out → length bytes ≤ length out
+written-fits bytes out e l = omega (arith, l, ap length e, length-append bytes (drop (length bytes) out), length-drop (length bytes) out)

@@ -1,6 +1,6 @@
 // A book typed line by line: what becomes of each line, and what the person who types is told.
 mod enter;
-mod remarks;
+pub mod remarks;
 
 use account::Refusal;
 use book::State;

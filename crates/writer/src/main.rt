@@ -6,22 +6,40 @@ use libc::STDOUT_FILENO;
 use lines::Cut;
 use typist::Typing;
 use typist::Typist;
+ghost use Prim.Native.Nat.{_≤_};
+ghost use mathlib.Core.Path.{_≡_};
+ghost use lib.ListN.{length};
 
-// The typist and the line being read, whether more may come, and whether all was read and written.
+// Where a caller that gives an argument, the word `status`, wants the status byte.
+const STATUS_FILENO: i32 = 3;
+
+// The typist and the line being read, how many bytes the last call took, whether more may come, and whether all was read and written.
 struct Work {
     typing: Typing,
+    taken: usize,
     more: bool,
     good: bool,
 }
 
-fn stopped(mut w: Work, good: bool) -> Work {
+fn stopped(mut w: Work, good: bool) -> Work
+    ensures { λ r. ⌜ r .taken ≡ w .taken ⌝ }
+{
     w.more = false;
     w.good = good;
     w
 }
 
+fn up_to(s: &[u8], n: usize) -> &[u8] {
+    if n <= s.len() {
+        return &s[..n];
+    }
+    s
+}
+
 // Where the bytes can't go out the book would lack a record: nothing more is tried.
-fn send(record: &[u8], remark: &[u8], w: Work) -> Work {
+fn send(record: &[u8], remark: &[u8], w: Work) -> Work
+    ensures { λ r. ⌜ r .taken ≡ w .taken ⌝ }
+{
     io::write_all(STDERR_FILENO, remark);
     if io::write_all(STDOUT_FILENO, record) {
         return w;
@@ -30,21 +48,30 @@ fn send(record: &[u8], remark: &[u8], w: Work) -> Work {
     stopped(w, false)
 }
 
-// A part, line after line. A proved loop has to end: the calls count down from a number that no part uses up, since each takes a byte.
-fn take_part(line: &mut [u8], part: &[u8], from: Work) -> Work {
+// Up to the end of a line, or of what is left of the part.
+fn take_line(line: &mut [u8], rest: &[u8], from: Work) -> Work
+    ensures { λ r. ⌜ r .taken ≤ length (now (rest .entry)) ⌝ }
+{
     let mut out = [0u8; 28];
     let mut remarks = [0u8; 1024];
+    let typing = from.typing;
+    let r = typist::type_part(typing, line, rest, &mut out, &mut remarks);
+    let next = r.typing;
+    let mut w = from;
+    w.typing = next;
+    w.taken = r.taken;
+    send(up_to(&out, r.written), up_to(&remarks, r.told), w)
+}
+
+// A part, line after line. A proved loop has to end: the calls count down from a number that no part uses up, since each takes a byte.
+fn take_part(line: &mut [u8], part: &[u8], from: Work) -> Work {
     let mut w = from;
     let mut i = 0;
     let mut calls = part.len();
     while calls > 0 {
         calls -= 1;
-        let typing = w.typing;
-        let r = typist::type_part(typing, line, &part[i..], &mut out, &mut remarks);
-        let next = r.typing;
-        w.typing = next;
-        w = send(&out[..r.written], &remarks[..r.told], w);
-        i += r.taken;
+        w = take_line(line, &part[i..], w);
+        i += w.taken;
         if !w.more {
             return w;
         }
@@ -95,24 +122,24 @@ fn last_line(line: &[u8], w: Work) -> Work {
     let cut = typing.cut;
     let l = typist::type_last(typing, line, &mut out, &mut remarks);
     let typist = l.typist;
-    let mut next = w;
-    next.typing = Typing {
+    let moved = Typing {
         typist: typist,
         cut: cut,
     };
-    send(&out[..l.written], &remarks[..l.told], next)
+    let mut next = w;
+    next.typing = moved;
+    send(up_to(&out, l.written), up_to(&remarks, l.told), next)
 }
 
-// The status goes to descriptor 3 where the program is started with an argument: the kit gives it none of its own.
 fn say_end(w: Work) {
     let mut text = [0u8; 1024];
     let typing = w.typing;
     let t = typing.typist;
-    let n = typist::say_verdict(&mut text, t, w.good);
-    io::write_all(STDERR_FILENO, &text[..n]);
+    let n = typist::remarks::say_verdict(&mut text, t, w.good);
+    io::write_all(STDERR_FILENO, up_to(&text, n));
     if os::arg_count() == 2 {
-        let status = [typist::status(t, w.good)];
-        io::write_all(3, &status);
+        let status = [typist::remarks::status(t, w.good)];
+        io::write_all(STATUS_FILENO, &status);
     }
 }
 
@@ -127,6 +154,7 @@ fn main() {
         &mut line,
         Work {
             typing: typing,
+            taken: 0,
             more: true,
             good: true,
         },
