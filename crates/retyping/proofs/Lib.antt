@@ -1,0 +1,5 @@
+pub mod Words
+pub mod Decimals
+pub mod Tables
+pub mod Record
+pub mod Retyped
