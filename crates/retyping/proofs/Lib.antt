@@ -2,4 +2,6 @@ pub mod Words
 pub mod Decimals
 pub mod Tables
 pub mod Record
-pub mod Retyped
+pub mod SameBytes
+pub mod Steps
+pub mod Book
