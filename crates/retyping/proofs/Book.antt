@@ -19,13 +19,18 @@ use Rattle.account.specs.Line.{joined}
 use Rattle.account.specs.Range.{Fair}
 use Rattle.account.proofs.Tests.{and-l, and-r, lt-or-ge}
 use Rattle.account.proofs.Keeps.{fair-none, fair-judge}
-use Rattle.book.specs.State.{noRecordYet}
+use Rattle.book.specs.declared.State.{State}
+use Rattle.book.specs.State.{inRange, holding, noRecordYet}
+use Rattle.book.proofs.RangeLaws.{range-test, range-idle}
 use Rattle.book.specs.Front.{Front, unfinished, badLength, whole, need, front}
 use Rattle.book.proofs.RecordLaws.{record-whole}
 use Rattle.promises.specs.Headings.{beginsWith, recordsBy, recordsOf}
 use Rattle.typist.specs.Text.{typedText, bytesTyped}
-use Rattle.retyping.specs.Typed.{textTyped, Accepted, AllAccepted, SameBytes}
-use Rattle.retyping.specs.Book.{acceptedOf, acceptedIn}
+use Rattle.writing.proofs.Answers.{Ready}
+use Rattle.retyping.specs.Typed.{lineTyped, textTyped, Accepted, AllAccepted, SameBytes}
+use Rattle.retyping.specs.Book.{acceptedOf, acceptedIn, lengthBy, wholeLength, readOf, isReady, accepts}
+use Rattle.retyping.specs.Book.{Retyping, oneTyped, retypedBy}
+use Rattle.retyping.proofs.Steps.{Lies, lies, state-at, one-is, one-more, one-stops}
 use Rattle.retyping.proofs.SameBytes.{retyped}
 
 -- ---- the records of some bytes are whole records of bytes
@@ -83,6 +88,15 @@ all-accepted a (r ∷ rs) s =
 
 -- ---- and begin the bytes
 
+none-typed : (s : State) (xs : List ℕ) → retypedBy 0 s xs .text ≡ []
+unfolding retypedBy
+none-typed s xs = refl
+
+-- no whole record lies at the front
+no-length : (xs : List ℕ) (f : Front) → front xs ≡ f → lengthBy f xs ≡ 0 → wholeLength xs ≡ 0
+unfolding wholeLength
+no-length xs f e z = rw e z
+
 begins : (n : ℕ) (a : Account) (xs : List ℕ) → take (length (joined (acceptedOf a (recordsBy n xs)))) xs ≡ joined (acceptedOf a (recordsBy n xs))
 unfolding recordsBy acceptedOf
 begins zero a xs = refl
@@ -102,6 +116,81 @@ begins (suc n) a xs = by-front (front xs) (recordsBy n (drop (need xs) xs)) (λ 
         ∙ take-append-add r (drop (need xs) xs) (length (joined (acceptedOf next rs)))
         ∙ ap (λ (l : List ℕ). r ++ l) (h next)))
         (λ t. rw t)
+
+-- ---- the code types those
+
+and-false : (b : Bool) → (b && false) ≡ false
+and-false true = refl
+and-false false = refl
+
+no-record : (s : State) (xs : List ℕ) → wholeLength xs ≡ 0 → accepts s (wholeLength xs) (readOf s (wholeLength xs) xs .state) ≡ false
+unfolding accepts
+no-record s xs z = rw z (and-false (isReady s))
+
+-- n bytes are a record, and the book is open or not
+accepts-is : (a : Account) → Fair a → (xs : List ℕ) (n : ℕ) → Lies xs n → (n ≡ 0 → ⊥)
+    → accepts (holding a []) n (readOf (holding a []) n xs .state) ≡ passes a (take n xs)
+unfolding accepts
+accepts-is a f xs n l z =
+    by-test (ltb (a .stage) 2)
+    (λ t. let y : Ready (holding a []) = record { range = range-idle a f; early = ltb-true _ _ t; none = refl } in
+    rw (state-at (holding a []) xs n y l z, range-test (holding a []) (y .range), ne-eqb n 0 z, t))
+    (λ t. rw (t, and-false (inRange (holding a []))))
+
+one-not : (s : State) (xs : List ℕ) (n : ℕ) → accepts s (wholeLength xs) (readOf s (wholeLength xs) xs .state) ≡ false
+    → retypedBy (suc n) s xs .text ≡ []
+one-not s xs n h =
+    let e = one-is s xs (wholeLength xs) refl false h in
+    ap (λ (x : Retyping). x .text) (one-stops n s xs (ap (λ (x : Retyping). x .more) e) ∙ e)
+
+module _ (a : Account) (f : Fair a) (xs : List ℕ) (n : ℕ) (e : front xs ≡ whole) where
+  long : wholeLength xs ≡ need xs
+  unfolding wholeLength
+  long = rw e
+
+  some : wholeLength xs ≡ 0 → ⊥
+  some z = omega (arith, long)
+
+  same-test : accepts (holding a []) (wholeLength xs) (readOf (holding a []) (wholeLength xs) xs .state) ≡ passes a (take (need xs) xs)
+  same-test = accepts-is a f xs (wholeLength xs) (lies xs some) some ∙ ap (λ (m : ℕ). passes a (take m xs)) long
+
+  one-typed : passes a (take (need xs) xs) ≡ true
+      → retypedBy (suc n) (holding a []) xs .text
+      ≡ lineTyped (kindOf (take (need xs) xs)) (valuesOf (take (need xs) xs))
+      ++ retypedBy n (holding (judge a (take (need xs) xs) .account) []) (drop (need xs) xs) .text
+  one-typed t =
+      let s = holding a [] in
+      let y : Ready s = record { range = range-idle a f; early = ltb-true _ _ (and-l (ltb (a .stage) 2) _ t); none = refl } in
+      let o = one-is s xs (wholeLength xs) refl true (same-test ∙ t) in
+      let state : oneTyped s xs .state ≡ holding (judge a (take (need xs) xs) .account) [] =
+      ap (λ (x : Retyping). x .state) o ∙ state-at s xs (wholeLength xs) y (lies xs some) some
+      ∙ ap (λ (m : ℕ). holding (judge a (take m xs) .account) []) long in
+      let taken : oneTyped s xs .taken ≡ need xs = ap (λ (x : Retyping). x .taken) o ∙ long in
+      let text : oneTyped s xs .text ≡ lineTyped (kindOf (take (need xs) xs)) (valuesOf (take (need xs) xs)) =
+      ap (λ (x : Retyping). x .text) o ∙ ap (λ (m : ℕ). lineTyped (kindOf (take m xs)) (valuesOf (take m xs))) long in
+      ap (λ (x : Retyping). x .text) (one-more n s xs (ap (λ (x : Retyping). x .more) o)) ∙ rw (state, taken, text)
+
+pub typed-by : (n : ℕ) (a : Account) (xs : List ℕ) → Fair a → retypedBy n (holding a []) xs .text ≡ textTyped (acceptedOf a (recordsBy n xs))
+unfolding recordsBy acceptedOf textTyped
+typed-by zero a xs f = none-typed (holding a []) xs
+typed-by (suc n) a xs f = by-front (front xs) refl (λ b g. typed-by n b (drop (need xs) xs) g)
+  where
+    by-front : (x : Front) → front xs ≡ x
+        → ((b : Account) → Fair b → retypedBy n (holding b []) (drop (need xs) xs) .text ≡ textTyped (acceptedOf b (recordsBy n (drop (need xs) xs))))
+        → retypedBy (suc n) (holding a []) xs .text ≡ textTyped (acceptedOf a (beginsWith x xs (recordsBy n (drop (need xs) xs))))
+    by-front unfinished e h = one-not (holding a []) xs n (no-record (holding a []) xs (no-length xs unfinished e refl))
+    by-front badLength e h = one-not (holding a []) xs n (no-record (holding a []) xs (no-length xs badLength e refl))
+    by-front whole e h =
+        let r = take (need xs) xs in
+        by-test (passes a r)
+        (λ t. rw t (one-typed a f xs n e t ∙ ap (λ (l : List ℕ). lineTyped (kindOf r) (valuesOf r) ++ l)
+        (h (judge a r .account) (fair-judge a r f (ltb-true _ _ (and-l (ltb (a .stage) 2) _ t))))))
+        (λ t. rw t (one-not (holding a []) xs n (same-test a f xs n e ∙ t)))
+
+-- what the code types of a book, in as many turns as it has bytes and one more, is the text of its accepted records
+pub book-typed : (xs : List ℕ) → retypedBy (suc (length xs)) noRecordYet xs .text ≡ textTyped (acceptedIn xs)
+unfolding recordsOf
+book-typed xs = typed-by (suc (length xs)) noRecord xs fair-none
 
 -- the theorem: the text of a book's accepted records, typed again, gives the bytes that the book begins with, and no line fails
 module _ (xs : List ℕ) (b : Bytes xs) where

@@ -40,7 +40,8 @@ use Rattle.typist.specs.declared.Fate.the-variants.{Wrote}
 use Rattle.typist.specs.Typist.{Turn, writtenAs, byWrite, inGroup, withheld, headless, recordTurn, turn}
 use Rattle.typist.proofs.Fates.{is-judged, by-said}
 use Rattle.retyping.proofs.Words.{Word, first-is, past-is, none-in-word}
-use Rattle.retyping.proofs.Decimals.{Small, decimal-some, decimal-amount, spaced-ends, first-spaced, next-spaced, no-more-spaced, none-in-spaced, spaced-length}
+use Rattle.retyping.proofs.Decimals.{Small, decimal-some, decimal-amount, spaced-ends, first-spaced}
+use Rattle.retyping.proofs.Decimals.{next-spaced, no-more-spaced, none-in-spaced, spaced-length}
 use Rattle.retyping.proofs.Tables.{name-word, name-some, name-short, kind-back, fields-narrow, fields-some, fields-few}
 
 -- ---- the values read back
@@ -195,7 +196,8 @@ module _ (s : State) (y : Ready s) (r : List ℕ) (w : WholeRecord r) (b : Bytes
       let v = valuesOf r in
       by-said t n (typedLine k v) 28 (sym (says k v (of .least) (of .most) (of .count) small)) said.Record refl
       ∙ goes-on t c n (entry k v) 28
-      ∙ ap (byWrite t n (entry k v)) (ap (λ (x : State). writeEntry x (entry k v) 28) e ∙ written k v (of .least) (of .most) (of .count) small s 28 ∙ again)
+      ∙ ap (byWrite t n (entry k v)) (ap (λ (x : State). writeEntry x (entry k v) 28) e
+      ∙ written k v (of .least) (of .most) (of .count) small s 28 ∙ again)
 
   -- its line is kept whole, and has no line feed in it
   pub line-whole : (n : ℕ) → unmarked n (kept (typedLine (kindOf r) (valuesOf r))) ≡ typedLine (kindOf r) (valuesOf r)

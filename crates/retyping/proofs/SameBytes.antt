@@ -70,7 +70,8 @@ text-is k v rest = simp append-assoc
 abbrev behind : Typist → List ℕ → Account → Typist
 behind t r next = writtenAs t (entry (kindOf r) (valuesOf r)) (holding next [])
 
-module _ (a : Account) (f : Fair a) (r : List ℕ) (q : Accepted a r) (t : Typist) (c : Clean t) (e : t .state ≡ holding a []) (n : ℕ) (rest : List ℕ) where
+module _ (a : Account) (f : Fair a) (r : List ℕ) (q : Accepted a r)
+    (t : Typist) (c : Clean t) (e : t .state ≡ holding a []) (n : ℕ) (rest : List ℕ) where
   state-ready : Ready (holding a [])
   state-ready = record { range = range-idle a f; early = q .early; none = refl }
 
@@ -81,7 +82,8 @@ module _ (a : Account) (f : Fair a) (r : List ℕ) (q : Accepted a r) (t : Typis
       ∙ record-again (holding a []) state-ready r (q .whole) (q .bytes) (q .taken) t c e n
 
   from-is : from t n (lineTyped (kindOf r) (valuesOf r) ++ rest)
-      ≡ after (record { typist = behind t r (judge a r .account); fate = Wrote (kindOf r); bytes = r }) (from (behind t r (judge a r .account)) (oneMore n) rest)
+      ≡ after (record { typist = behind t r (judge a r .account); fate = Wrote (kindOf r); bytes = r })
+      (from (behind t r (judge a r .account)) (oneMore n) rest)
   from-is =
       ap (from t n) (text-is (kindOf r) (valuesOf r) rest)
       ∙ line-then t n (typedLine (kindOf r) (valuesOf r)) rest _

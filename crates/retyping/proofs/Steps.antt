@@ -37,7 +37,8 @@ use Rattle.writing.proofs.ReaderLaws.{call-one}
 use Rattle.retyping.specs.declared.Retyped.{Retyped}
 use Rattle.retyping.specs.Typed.{lineTyped}
 use Rattle.retyping.proofs.Tables.{name-short, fields-some, fields-few}
-use Rattle.retyping.specs.Book.{lengthBy, wholeLength, piece, readOf, isReady, accepts, Retyping, typedIf, oneTyped, andThen, nothingYet, retypedBy, Retypes, Typable, inTwelve, refusedText, endText}
+use Rattle.retyping.specs.Book.{lengthBy, wholeLength, readOf, isReady, accepts, Retyping, typedIf, oneTyped}
+use Rattle.retyping.specs.Book.{andThen, nothingYet, retypedBy, Retypes, Typable, inTwelve, refusedText, endText}
 
 -- ---- the length of the record at the front
 
@@ -113,12 +114,22 @@ is-ready s e =
       none = eqb-true _ _ (and-r (ltb (s .account .stage) 2) (eqb (s .count) 0) t);
     }
 
+-- the state that the reader reaches behind the n bytes of a record
+pub state-at : (s : State) (xs : List ℕ) (n : ℕ) → Ready s → Lies xs n → (n ≡ 0 → ⊥)
+    → readOf s n xs .state ≡ holding (judge (s .account) (take n xs) .account) []
+state-at s xs n y l z =
+    rw (ne-eqb n 0 z) (ap (λ (c : Call). c .state) (call-one s y (take n xs) (record-whole xs n (l .is) (l .long)) 100 (omega arith)))
+
 taken-at : (s : State) (xs : List ℕ) (n : ℕ) → Ready s → Lies xs n → (n ≡ 0 → ⊥) → (readOf s n xs .state .account .stage ≡ 3 → ⊥) → Taken s xs n
 taken-at s xs n y l z h =
-    let w = record-whole xs n (l .is) (l .long) in
-    let one = call-one s y (take n xs) w 100 (omega arith) in
-    let state : readOf s n xs .state ≡ holding (judge (s .account) (take n xs) .account) [] = rw (ne-eqb n 0 z) (ap (λ (c : Call). c .state) one) in
-    record { ready = y; lies = l; whole = w; state = state; taken = λ e. h (ap (λ (x : State). x .account .stage) state ∙ e) }
+    let state = state-at s xs n y l z in
+    record {
+      ready = y;
+      lies = l;
+      whole = record-whole xs n (l .is) (l .long);
+      state = state;
+      taken = λ e. h (ap (λ (x : State). x .account .stage) state ∙ e);
+    }
 
 pub is-taken : (s : State) (xs : List ℕ) → accepts s (wholeLength xs) (readOf s (wholeLength xs) xs .state) ≡ true → Taken s xs (wholeLength xs)
 unfolding accepts
@@ -137,14 +148,16 @@ unfolding judge
 no-refusal a r h = go (eqb (first (refusals a r)) 0) _ refl h
   where
     go : (b : Bool) (f : ℕ) → eqb (first (refusals a r)) 0 ≡ b
-        → (pick b (accepted a (kindOf r) (valuesOf r)) (record { account = refused a (first (refusals a r)) f; lines = [] }) .account .stage ≡ 3 → ⊥) → first (refusals a r) ≡ 0
+        → (pick b (accepted a (kindOf r) (valuesOf r)) (record { account = refused a (first (refusals a r)) f; lines = [] }) .account .stage ≡ 3 → ⊥)
+        → first (refusals a r) ≡ 0
     go true f e n = eqb-true _ _ e
     go false f e n = absurd (n refl)
 
 pub typable : (a : Account) (r : List ℕ) → Whole r → (judge a r .account .stage ≡ 3 → ⊥) → Typable r
 typable a r w h =
     let t = first-clear (refusals a r)
-    (omega arith, (omega arith, (omega arith, (omega arith, (omega arith, (omega arith, (omega arith, (omega arith, (omega arith, (omega arith, (omega arith, tt)))))))))))
+    (omega arith, (omega arith, (omega arith, (omega arith, (omega arith,
+    (omega arith, (omega arith, (omega arith, (omega arith, (omega arith, (omega arith, tt)))))))))))
     (no-refusal a r h) in
     let k = kindOf r in
     let eight : leb 1 k && leb k 8 ≡ true = not-false _ (t .1 .0 (omega arith)) in
@@ -157,13 +170,14 @@ typable a r w h =
 
 -- ---- one record
 
-one-is : (s : State) (xs : List ℕ) (n : ℕ) → n ≡ wholeLength xs → (b : Bool) → accepts s n (readOf s n xs .state) ≡ b
+pub one-is : (s : State) (xs : List ℕ) (n : ℕ) → n ≡ wholeLength xs → (b : Bool) → accepts s n (readOf s n xs .state) ≡ b
     → oneTyped s xs ≡ typedIf b (readOf s n xs) n (take n xs)
 unfolding oneTyped
 one-is s xs n e b h = rw (← e, h)
 
 -- f is what the reader says to the n bytes of the record, and b whether they are accepted
-module _ (s : State) (xs : List ℕ) {n : ℕ} (e : n ≡ wholeLength xs) {f : Fed} (g : f ≡ fedOf (readOf s n xs)) {b : Bool} (h : b ≡ accepts s n (f .state)) where
+module _ (s : State) (xs : List ℕ) {n : ℕ} (e : n ≡ wholeLength xs) {f : Fed} (g : f ≡ fedOf (readOf s n xs))
+    {b : Bool} (h : b ≡ accepts s n (f .state)) where
   told : accepts s n (readOf s n xs .state) ≡ b
   told = ap (λ (x : Fed). accepts s n (x .state)) (sym g) ∙ sym h
 
@@ -202,14 +216,22 @@ as-it-is s x = rw zero-add
 
 pub going-none : (s : State) (xs out : List ℕ) → 52200 ≤ length out → Going s xs out out s 0 0 200
 going-none s xs out h =
-    record { so-far = []; put = none out 0 (omega arith); inside = omega arith; room = omega arith; size = h; same = refl; is = as-it-is s (retypedBy 200 s xs) }
+    record {
+      so-far = [];
+      put = none out 0 (omega arith);
+      inside = omega arith;
+      room = omega arith;
+      size = h;
+      same = refl;
+      is = as-it-is s (retypedBy 200 s xs);
+    }
 
-one-more : (m : ℕ) (s : State) (xs : List ℕ) → oneTyped s xs .more ≡ true
+pub one-more : (m : ℕ) (s : State) (xs : List ℕ) → oneTyped s xs .more ≡ true
     → retypedBy (suc m) s xs ≡ andThen (oneTyped s xs) (retypedBy m (oneTyped s xs .state) (drop (oneTyped s xs .taken) xs))
 unfolding retypedBy
 one-more m s xs t = rw t
 
-one-stops : (m : ℕ) (s : State) (xs : List ℕ) → oneTyped s xs .more ≡ false → retypedBy (suc m) s xs ≡ oneTyped s xs
+pub one-stops : (m : ℕ) (s : State) (xs : List ℕ) → oneTyped s xs .more ≡ false → retypedBy (suc m) s xs ≡ oneTyped s xs
 unfolding retypedBy
 one-stops m s xs t = rw t
 
@@ -242,7 +264,8 @@ module _ {s₀ : State} {xs out₀ out : List ℕ} {s : State} {at last left : �
     unfolding before
     going-stop f =
         let q : oneTyped s rest .more ≡ false = sym (t .more) ∙ f in
-        let i : retypedBy left s (drop at xs) ≡ oneTyped s rest = rw (← p) (ap (λ (n : ℕ). retypedBy n s rest) less ∙ one-stops (left - 1) s rest q) in
+        let i : retypedBy left s (drop at xs) ≡ oneTyped s rest =
+        rw (← p) (ap (λ (n : ℕ). retypedBy n s rest) less ∙ one-stops (left - 1) s rest q) in
         rw (g .is ∙ ap (andThen before) i)
         (record { state = t .state; taken = ap (λ (n : ℕ). at + n) (t .taken); more = sym q; put = and-then (g .put) (t .put) })
 
@@ -253,7 +276,8 @@ module _ {s₀ : State} {xs out₀ out : List ℕ} {s : State} {at last left : �
         let q : oneTyped s rest .more ≡ true = sym (t .more) ∙ f in
         let one = oneTyped s rest in
         let others = retypedBy (left - 1) (one .state) (drop (one .taken) rest) in
-        let i : retypedBy left s (drop at xs) ≡ andThen one others = rw (← p) (ap (λ (n : ℕ). retypedBy n s rest) less ∙ one-more (left - 1) s rest q) in
+        let i : retypedBy left s (drop at xs) ≡ andThen one others =
+        rw (← p) (ap (λ (n : ℕ). retypedBy n s rest) less ∙ one-more (left - 1) s rest q) in
         let l = ap length p ∙ length-drop at xs in
         let d : drop (one .taken) rest ≡ drop (at + one .taken) xs = ap (drop (one .taken)) p ∙ drop-drop (one .taken) at xs in
         record {
@@ -297,7 +321,8 @@ module _ (r : List ℕ) (t : Typable r) {kind : ℕ} (b : kind ≡ valAt r 3 1) 
   kind-byte = b ∙ sym (one-byte r 3 (getD r 3 0) refl)
 
   -- its name is put whole
-  pub name-put : {out out′ : List ℕ} {at last : ℕ} → at + 261 ≤ length out → Said out out′ at (kindName kind) last → Put out out′ at (kindName (kindOf r)) last
+  pub name-put : {out out′ : List ℕ} {at last : ℕ} → at + 261 ≤ length out → Said out out′ at (kindName kind) last
+      → Put out out′ at (kindName (kindOf r)) last
   name-put {out} {out′} {at} h s =
       let l : length (kindName (kindOf r)) ≤ length out - at = omega (arith, name-short (kindOf r) (t .least) (t .most)) in
       rw (take-all (length out - at) (kindName (kindOf r)) l) at (rw kind-byte at (s .put))

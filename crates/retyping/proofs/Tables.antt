@@ -48,7 +48,8 @@ unfolding isWord
 is-word [] e = tt
 is-word (b ∷ s) e =
     let t = and-l (leb 48 b && leb b 122) (isWord s) e in
-    ((leb-true 48 b (and-l (leb 48 b) (leb b 122) t), leb-true b 122 (and-r (leb 48 b) (leb b 122) t)), is-word s (and-r (leb 48 b && leb b 122) (isWord s) e))
+    ((leb-true 48 b (and-l (leb 48 b) (leb b 122) t), leb-true b 122 (and-r (leb 48 b) (leb b 122) t)),
+    is-word s (and-r (leb 48 b && leb b 122) (isWord s) e))
 
 -- the name is a short word
 wordTest : ℕ → Bool

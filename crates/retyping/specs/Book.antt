@@ -74,7 +74,9 @@ typedIf false c n r = record { state = c .state; taken = c .taken; text = []; mo
 
 -- the first record of xs
 unfoldable pub oneTyped : State → List ℕ → Retyping
-oneTyped s xs = typedIf (accepts s (wholeLength xs) (readOf s (wholeLength xs) xs .state)) (readOf s (wholeLength xs) xs) (wholeLength xs) (take (wholeLength xs) xs)
+oneTyped s xs =
+    let n = wholeLength xs in
+    typedIf (accepts s n (readOf s n xs .state)) (readOf s n xs) n (take n xs)
 
 -- some records, and then others behind them
 abbrev pub andThen : Retyping → Retyping → Retyping

@@ -22,7 +22,8 @@ ghost use Rattle.text.specs.Said.{Said};
 ghost use Rattle.account.specs.Judge.{kindOf, valuesOf};
 ghost use Rattle.book.specs.Call.{fedOf};
 ghost use Rattle.retyping.specs.Typed.{lineTyped};
-ghost use Rattle.retyping.specs.Book.{wholeLength, readOf, isReady, accepts, oneTyped, retypedBy, Retypes, Typable, inTwelve, refusedText, endText, statusByte};
+ghost use Rattle.retyping.specs.Book.{wholeLength, readOf, isReady, accepts, oneTyped, retypedBy, Retypes, Typable, inTwelve};
+ghost use Rattle.retyping.specs.Book.{refusedText, endText, statusByte};
 
 // The state behind some records of a book, the bytes taken, the end of the text in the buffer, and whether all of them were accepted.
 pub struct Retyped {

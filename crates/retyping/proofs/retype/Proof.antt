@@ -24,19 +24,33 @@ retype-spec =
     (λ c. going-none _ _ _ (c .before .before .pre))
     (λ c κs. c .before .loop .inv .inside)
     (λ c κs. let i = c .before .before .before .loop .inv in omega (arith, i .room, i .size))
-    (λ c. let l = c .before .before .before .before .before .before .before .before in omega (arith, c .before .before .before .before .next-record .ensures .1 .1, ap length (c .before .before .before .before .before .before .rest-of .ensures), length-drop (l .loop .at) (c .before .before .before .before .before .before .before .before .before .before .before .args .book .now), l .loop .inv .inside))
+    (λ c.
+    let c4 = c .before .before .before .before in
+    let c6 = c4 .before .before in
+    let c8 = c6 .before .before in
+    let c11 = c8 .before .before .before in
+    let l = c8 in omega (arith, c4 .next-record .ensures .1 .1, ap length (c6 .rest-of .ensures), length-drop (l .loop .at) (c11 .args .book .now),
+    l .loop .inv .inside))
     (λ c. search needs)
     (λ c.
-    let l = c .before .before .before .before .before .before .before .before .before .before in
-    let t = c .before .before .before .before .before .before .next-record .ensures in
-    let p = c .before .before .before .before .before .before .before .before .rest-of .ensures in (
-      going-stop (l .loop .inv) (c .before .before .before .before .before .before .before .before .before .loop-test .taken) p (t .0) (not-true _ (c .if1 .taken)),
-      omega (arith, t .1 .1, ap length p, length-drop (l .loop .at) (c .before .before .before .before .before .before .before .before .before .before .before .before .before .args .book .now), l .loop .inv .inside),
-    ))
+    let c6 = c .before .before .before .before .before .before in
+    let c8 = c6 .before .before in
+    let c9 = c8 .before in
+    let c10 = c9 .before in
+    let c13 = c10 .before .before .before in
+    let l = c10 in
+    let t = c6 .next-record .ensures in
+    let p = c8 .rest-of .ensures in
+    (going-stop (l .loop .inv) (c9 .loop-test .taken) p (t .0) (not-true _ (c .if1 .taken)),
+    omega (arith, t .1 .1, ap length p, length-drop (l .loop .at) (c13 .args .book .now), l .loop .inv .inside)))
     (λ c. omega arith)
     (λ c. omega arith)
     (λ c.
-    let t = c .before .before .before .before .before .before .next-record .ensures in
-    going-on (c .before .before .before .before .before .before .before .before .before .before .loop .inv) (c .before .before .before .before .before .before .before .before .before .loop-test .taken) (c .before .before .before .before .before .before .before .before .rest-of .ensures) (t .0) (not-false _ (c .if1 .left)) (t .1 .0) (t .1 .1))
+    let c6 = c .before .before .before .before .before .before in
+    let c8 = c6 .before .before in
+    let c9 = c8 .before in
+    let c10 = c9 .before in
+    let t = c6 .next-record .ensures in
+    going-on (c10 .loop .inv) (c9 .loop-test .taken) (c8 .rest-of .ensures) (t .0) (not-false _ (c .if1 .left)) (t .1 .0) (t .1 .1))
     (λ c. search needs)
     (λ c. (going-end (c .before .loop .inv) (omega arith), c .before .loop .inv .inside)))

@@ -15,7 +15,9 @@ say-refusal-spec =
     (λ c. search needs)
     (λ c. search needs)
     (λ c. search needs)
-    (λ c κs. fits (c .before .before .before .before .before .before .say .ensures))
+    (λ c κs.
+    let c6 = c .before .before .before .before .before .before in
+    fits (c6 .say .ensures))
     (λ c. search needs)
     (λ c κs. fits (c .before .before .before .before .say-three .ensures))
     (λ c. search needs)
@@ -24,8 +26,13 @@ say-refusal-spec =
     (λ c κs. fits (c .before .before .before .before .say-sentence .ensures))
     (λ c. search needs)
     (λ c.
-    let e1 = c .before .before .before .before .before .before .before .before .before .before .before .before .before .before .before .before .before .before .before .before .before .before .before .before .say .ensures in
-    let e2 = c .before .before .before .before .before .before .before .before .before .before .before .before .before .before .before .before .before .say-three .ensures in
-    let e3 = c .before .before .before .before .before .before .before .before .before .before .before .before .say2 .ensures in
-    let e4 = c .before .before .before .before .before .before .before .say-sentence .ensures in
-    then-said (omega arith) e1 (then-said (fits e1) e2 (then-said (fits e2) e3 (then-said (fits e3) e4 (c .before .before .say3 .ensures))))))
+    let c2 = c .before .before in
+    let c7 = c2 .before .before .before .before .before in
+    let c12 = c7 .before .before .before .before .before in
+    let c17 = c12 .before .before .before .before .before in
+    let c24 = c17 .before .before .before .before .before .before .before in
+    let e1 = c24 .say .ensures in
+    let e2 = c17 .say-three .ensures in
+    let e3 = c12 .say2 .ensures in
+    let e4 = c7 .say-sentence .ensures in
+    then-said (omega arith) e1 (then-said (fits e1) e2 (then-said (fits e2) e3 (then-said (fits e3) e4 (c2 .say3 .ensures))))))
