@@ -99,7 +99,7 @@ pub none-in-spaced : (b : ℕ) → b < 48 → (b ≡ 32 → ⊥) → (vs : List 
 unfolding spaced
 none-in-spaced b h n [] = has-not b [] (omega arith)
 none-in-spaced b h n (v ∷ vs) =
-    has-behind b (32 ∷ decimal v) (spaced vs) 
+    has-behind b (32 ∷ decimal v) (spaced vs)
     (has-not b (32 ∷ decimal v) (blank-first (decimal v) (absent b (decimal v) (none-in-word b h (decimal v) (decimal-word v)))))
     ∙ none-in-spaced b h n vs
   where

@@ -155,9 +155,22 @@ no-refusal a r h = go (eqb (first (refusals a r)) 0) _ refl h
 
 pub typable : (a : Account) (r : List ℕ) → Whole r → (judge a r .account .stage ≡ 3 → ⊥) → Typable r
 typable a r w h =
-    let t = first-clear (refusals a r)
-    (omega arith, (omega arith, (omega arith, (omega arith, (omega arith,
-    (omega arith, (omega arith, (omega arith, (omega arith, (omega arith, (omega arith, tt)))))))))))
+    let t = first-clear (refusals a r) (
+      omega arith,
+      (
+        omega arith,
+        (
+          omega arith,
+          (
+            omega arith,
+            (
+              omega arith,
+              (omega arith, (omega arith, (omega arith, (omega arith, (omega arith, (omega arith, tt)))))),
+            ),
+          ),
+        ),
+      ),
+    )
     (no-refusal a r h) in
     let k = kindOf r in
     let eight : leb 1 k && leb k 8 ≡ true = not-false _ (t .1 .0 (omega arith)) in

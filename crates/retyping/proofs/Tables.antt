@@ -47,9 +47,10 @@ is-word : (s : List ℕ) → isWord s ≡ true → Word s
 unfolding isWord
 is-word [] e = tt
 is-word (b ∷ s) e =
-    let t = and-l (leb 48 b && leb b 122) (isWord s) e in
-    ((leb-true 48 b (and-l (leb 48 b) (leb b 122) t), leb-true b 122 (and-r (leb 48 b) (leb b 122) t)),
-    is-word s (and-r (leb 48 b && leb b 122) (isWord s) e))
+    let t = and-l (leb 48 b && leb b 122) (isWord s) e in (
+      (leb-true 48 b (and-l (leb 48 b) (leb b 122) t), leb-true b 122 (and-r (leb 48 b) (leb b 122) t)),
+      is-word s (and-r (leb 48 b && leb b 122) (isWord s) e),
+    )
 
 -- the name is a short word
 wordTest : ℕ → Bool

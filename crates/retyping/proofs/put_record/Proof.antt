@@ -81,14 +81,15 @@ put-record-spec =
     let n = c13 .field-count .ensures in
     let p = name-put (s .args .bytes .now) t k (s .pre .1) (c11 .say-kind .ensures) in
     let q = c7 .put-byte .ensures in
-    let w = c2 .put-numbers .ensures in
-    (line-put (s .args .bytes .now) t k p q (values-first (s .args .bytes .now) t k n (c14 .values-of .ensures)) (w .0),
-    omega (
-      arith,
-      w .1,
-      length-take (c13 .field-count .result) (c14 .values-of .result),
-      count-most (s .args .bytes .now) t k n,
-      q .next,
-      p .next,
-      name-short (kindOf (s .args .bytes .now)) (t .least) (t .most),
-    ))))
+    let w = c2 .put-numbers .ensures in (
+      line-put (s .args .bytes .now) t k p q (values-first (s .args .bytes .now) t k n (c14 .values-of .ensures)) (w .0),
+      omega (
+        arith,
+        w .1,
+        length-take (c13 .field-count .result) (c14 .values-of .result),
+        count-most (s .args .bytes .now) t k n,
+        q .next,
+        p .next,
+        name-short (kindOf (s .args .bytes .now)) (t .least) (t .most),
+      ),
+    )))

@@ -29,8 +29,13 @@ retype-spec =
     let c6 = c4 .before .before in
     let c8 = c6 .before .before in
     let c11 = c8 .before .before .before in
-    let l = c8 in omega (arith, c4 .next-record .ensures .1 .1, ap length (c6 .rest-of .ensures), length-drop (l .loop .at) (c11 .args .book .now),
-    l .loop .inv .inside))
+    let l = c8 in omega (
+      arith,
+      c4 .next-record .ensures .1 .1,
+      ap length (c6 .rest-of .ensures),
+      length-drop (l .loop .at) (c11 .args .book .now),
+      l .loop .inv .inside,
+    ))
     (λ c. search needs)
     (λ c.
     let c6 = c .before .before .before .before .before .before in
@@ -40,9 +45,10 @@ retype-spec =
     let c13 = c10 .before .before .before in
     let l = c10 in
     let t = c6 .next-record .ensures in
-    let p = c8 .rest-of .ensures in
-    (going-stop (l .loop .inv) (c9 .loop-test .taken) p (t .0) (not-true _ (c .if1 .taken)),
-    omega (arith, t .1 .1, ap length p, length-drop (l .loop .at) (c13 .args .book .now), l .loop .inv .inside)))
+    let p = c8 .rest-of .ensures in (
+      going-stop (l .loop .inv) (c9 .loop-test .taken) p (t .0) (not-true _ (c .if1 .taken)),
+      omega (arith, t .1 .1, ap length p, length-drop (l .loop .at) (c13 .args .book .now), l .loop .inv .inside),
+    ))
     (λ c. omega arith)
     (λ c. omega arith)
     (λ c.
