@@ -9,9 +9,8 @@ use mathlib.Core.Logic.{⊎-elim}
 use lib.ListN.{length, take, drop, getD, length-append, length-take, take-append-drop, List·getD-eq-default}
 use lib.Seq.{getD-drop, getD-take, take-append-add}
 use lib.Dec.{eqb, ltb}
-use borrow.Author.Tests.{ltb-true, ltb-false, lt-ltb, eqb-false, ne-eqb}
+use borrow.Author.Tests.{ltb-true, eqb-false, ne-eqb}
 use Rattle.text.proofs.Digits.{by-test}
-use Rattle.codec.specs.Codec.{pick}
 use Rattle.codec.proofs.BigEndian.{Bytes}
 use Rattle.account.specs.declared.Account.{Account}
 use Rattle.account.specs.Judge.{Whole, noRecord, kindOf, valuesOf, judge}

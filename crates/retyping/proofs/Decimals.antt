@@ -3,15 +3,13 @@
 use Prim.Native.Nat.{ℕ, zero, suc, _+_, _-_, _*_, _/_, _%_, _^_, _≤_, _<_, min}
 use native.Mathlib.Omega.{arith}
 use mathlib.Core.Path.{_≡_, refl, sym, ap, _∙_}
-use mathlib.Core.Bool.{Bool, true, false}
+use mathlib.Core.Bool.{false}
 use mathlib.Core.List.{List, [], _∷_, _++_}
 use lib.ListN.{length, length-append}
 use lib.Dec.{ltb}
 use borrow.Author.Tests.{ltb-true, ltb-false, le-leb, lt-ltb, ne-eqb}
-use Rattle.reading.specs.declared.Whole.{Whole}
-use Rattle.reading.specs.Numbers.{goesOn}
-use Rattle.reading.specs.Words.{leadingOf, firstWord, pastWord, nthWord}
-use Rattle.reading.specs.Amounts.{isDigit, withDigit, aWhole, numberFrom, numberOf, amountOf}
+use Rattle.reading.specs.Words.{leadingOf, nthWord}
+use Rattle.reading.specs.Amounts.{aWhole, numberFrom, numberOf, amountOf}
 use Rattle.reading.proofs.Amounts.{followed, digits-amount}
 use Rattle.text.specs.Decimal.{digit, decimal, spaced}
 use Rattle.text.proofs.Digits.{by-test, decimal-small, decimal-more, length-small, length-more, length-u64}

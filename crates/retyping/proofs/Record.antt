@@ -2,17 +2,14 @@
 -- Assumes nothing.
 use Prim.Native.Nat.{ℕ, zero, suc, _+_, _-_, _≤_, _<_}
 use native.Mathlib.Omega.{arith}
-use native.Mathlib.Numerals.{add-one}
 use mathlib.Core.Path.{_≡_, refl, sym, ap, _∙_}
 use mathlib.Core.Bool.{Bool, true, false, _&&_, not}
 use mathlib.Core.List.{List, [], _∷_, _++_}
-use lib.ListN.{length, take, getD, replicate, length-append}
+use lib.ListN.{length, take, replicate, length-append}
 use lib.Seq.{take-all, take-append-le}
 use lib.Dec.{eqb}
-use borrow.Author.Tests.{leb-true, lt-leb, ne-eqb, eq-eqb}
-use Rattle.reading.specs.declared.Whole.{Whole}
+use borrow.Author.Tests.{lt-leb, ne-eqb, eq-eqb}
 use Rattle.reading.specs.Words.{nthWord}
-use Rattle.reading.specs.Amounts.{aWhole}
 use Rattle.text.specs.Decimal.{decimal, spaced}
 use Rattle.names.specs.Names.{kindName, decimalsAt}
 use Rattle.lines.specs.Lines.{has, kept, unmarked, isMarked}
@@ -20,24 +17,21 @@ use Rattle.lines.proofs.Bytes.{before-all, has-behind}
 use Rattle.codec.specs.Table.{fields}
 use Rattle.codec.specs.Codec.{pick}
 use Rattle.codec.proofs.BigEndian.{Bytes}
-use Rattle.codec.proofs.Values.{values-length}
-use Rattle.account.specs.declared.Account.{Account}
 use Rattle.account.specs.Judge.{Whole as WholeRecord, kindOf, valuesOf, judge}
 use Rattle.book.specs.declared.State.{State}
 use Rattle.book.specs.State.{holding}
-use Rattle.writing.specs.Write.{Write, write}
+use Rattle.writing.specs.Write.{write}
 use Rattle.writing.specs.declared.Answer.the-variants as answers
 use Rattle.writing.specs.Values.{Of}
 use Rattle.writing.proofs.Answers.{Ready, written-so}
 use Rattle.writing.proofs.RoundTrip.{written-again}
 use Rattle.typed.specs.declared.Entry.{Entry}
-use Rattle.typed.specs.declared.Line.{Line}
 use Rattle.typed.specs.declared.Said.the-variants as said
-use Rattle.typed.specs.Line.{kindOf as kindTyped, Read, valuesFrom, padded, entry, lineOf, completedOf, valuesIn, writeEntry}
+use Rattle.typed.specs.Line.{valuesFrom, entry, lineOf, completedOf, valuesIn, writeEntry}
 use Rattle.typed.proofs.Lines.{kept as entry-kept}
 use Rattle.typist.specs.declared.Typist.{Typist}
 use Rattle.typist.specs.declared.Fate.the-variants.{Wrote}
-use Rattle.typist.specs.Typist.{Turn, writtenAs, byWrite, inGroup, withheld, headless, recordTurn, turn}
+use Rattle.typist.specs.Typist.{writtenAs, byWrite, inGroup, recordTurn, turn}
 use Rattle.typist.proofs.Fates.{is-judged, by-said}
 use Rattle.retyping.proofs.Words.{Word, first-is, past-is, none-in-word}
 use Rattle.retyping.proofs.Decimals.{Small, decimal-some, decimal-amount, spaced-ends, first-spaced}

@@ -1,24 +1,19 @@
 -- Theorem: typing the typed lines of accepted records again gives the same bytes, and no line fails.
 -- Assumes nothing.
-use Prim.Native.Nat.{ℕ, _<_}
-use native.Mathlib.Omega.{arith}
-use mathlib.Core.Path.{_≡_, refl, sym, ap, _∙_}
+use Prim.Native.Nat.{ℕ}
+use mathlib.Core.Path.{_≡_, refl, ap, _∙_}
 use mathlib.Core.Bool.{Bool, true, false, _&&_}
 use mathlib.Core.List.{List, [], _∷_, _++_, map, append-assoc}
 use lib.Dec.{eqb}
 use Rattle.bytes.specs.Bytes.{indexOf}
-use Rattle.text.specs.Decimal.{spaced}
-use Rattle.names.specs.Names.{kindName}
 use Rattle.lines.specs.Lines.{oneMore, kept, linesOf, unmarked}
 use Rattle.lines.specs.Parts.{Numbered, numbered}
 use Rattle.lines.proofs.Pieces.{lines-cut}
 use Rattle.reading.specs.Words.{nthWord, leadingOf}
 use Rattle.account.specs.declared.Account.{Account}
 use Rattle.account.specs.Judge.{noRecord, kindOf, valuesOf, judge}
-use Rattle.account.specs.Line.{joined}
 use Rattle.account.specs.Range.{Fair}
 use Rattle.account.proofs.Keeps.{fair-none, fair-judge}
-use Rattle.book.specs.declared.State.{State}
 use Rattle.book.specs.State.{holding, noRecordYet}
 use Rattle.book.proofs.RangeLaws.{range-idle}
 use Rattle.writing.proofs.Answers.{Ready}
@@ -26,7 +21,7 @@ use Rattle.typed.specs.Line.{entry, lineOf}
 use Rattle.typist.specs.declared.Typist.{Typist}
 use Rattle.typist.specs.declared.Fate.the-variants.{Nothing, Wrote}
 use Rattle.typist.specs.Typist.{beginning, Turn, turn, writtenAs}
-use Rattle.typist.specs.Text.{textLines, lineTurn, Typed, after, typedBy, typedText, bytesTyped}
+use Rattle.typist.specs.Text.{lineTurn, Typed, after, typedBy, typedText, bytesTyped}
 use Rattle.retyping.specs.Typed.{lineTyped, textTyped, Accepted, AllAccepted, accountBehind, SameBytes}
 use Rattle.retyping.proofs.Record.{typedLine, Clean, clean-on, record-again, line-whole, line-one}
 

@@ -1,12 +1,12 @@
 -- Laws of one record and of the loop over records: what the code's parts make together.
 -- Assumes nothing.
-use Prim.Native.Nat.{ℕ, zero, suc, _+_, _-_, _*_, _≤_, _<_}
+use Prim.Native.Nat.{ℕ, suc, _+_, _-_, _*_, _≤_, _<_}
 use native.Mathlib.Omega.{arith}
 use native.Mathlib.Nat.{zero-add, add-zero}
 use mathlib.Core.Path.{_≡_, refl, sym, ap, _∙_}
 use mathlib.Core.Bool.{Bool, true, false, _&&_, not}
 use mathlib.Core.List.{List, [], _∷_, _++_, append-nil, append-assoc}
-use lib.ListN.{length, take, drop, getD, replicate, length-take, length-drop}
+use lib.ListN.{length, take, drop, getD, replicate, length-drop}
 use lib.Seq.{drop-drop, take-all, take-at}
 use lib.Dec.{eqb, leb, ltb}
 use borrow.Author.Tests.{eq-eqb, ne-eqb, eqb-true, eqb-false, ltb-true, leb-true, lt-ltb, le-ltb, not-true, not-false}
@@ -25,10 +25,10 @@ use Rattle.account.proofs.Tests.{and-l, and-r}
 use Rattle.account.proofs.First.{first-clear}
 use Rattle.book.specs.declared.State.{State}
 use Rattle.book.specs.declared.Fed.{Fed}
-use Rattle.book.specs.Front.{Front, unfinished, badLength, whole, bad, need, front}
+use Rattle.book.specs.Front.{Front, unfinished, badLength, whole, need, front}
 use Rattle.book.specs.State.{inRange, holding}
 use Rattle.book.specs.Call.{Call, call, fedOf}
-use Rattle.book.proofs.FrontLaws.{meaning, good-length}
+use Rattle.book.proofs.FrontLaws.{good-length}
 use Rattle.book.proofs.RangeLaws.{range-parts}
 use Rattle.book.proofs.RecordLaws.{record-whole, record-in}
 use Rattle.writing.proofs.Answers.{Ready}

@@ -2,11 +2,11 @@
 -- Assumes nothing.
 use Prim.Native.Nat.{ℕ, zero, suc, _+_, _≤_, _<_}
 use native.Mathlib.Omega.{arith}
-use mathlib.Core.Path.{_≡_, refl, sym, ap, _∙_}
-use mathlib.Core.Bool.{Bool, true, false, _&&_}
+use mathlib.Core.Path.{_≡_, refl}
+use mathlib.Core.Bool.{Bool, true, _&&_}
 use mathlib.Core.Logic.{⊎-elim}
-use mathlib.Core.List.{List, [], _∷_, _++_}
-use lib.ListN.{length, getD}
+use mathlib.Core.List.{List, [], _∷_}
+use lib.ListN.{length}
 use lib.Dec.{leb, eqb}
 use borrow.Author.Tests.{leb-true, eqb-true}
 use Rattle.bytes.specs.Bytes.{indexOf, indexAfter}
@@ -16,7 +16,7 @@ use Rattle.reading.specs.Amounts.{aWhole}
 use Rattle.names.specs.Names.{kindTable, kindName}
 use Rattle.codec.specs.declared.Field.{Field}
 use Rattle.codec.specs.Table.{table, fields}
-use Rattle.codec.specs.Codec.{room, valAt, valuesAt}
+use Rattle.codec.specs.Codec.{room, valuesAt}
 use Rattle.codec.proofs.BigEndian.{Bytes, valAt-lt}
 use Rattle.account.proofs.Tests.{and-l, and-r, lt-or-ge}
 use Rattle.typed.specs.Line.{names, placeFrom, kindOf}

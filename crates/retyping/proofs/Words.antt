@@ -1,17 +1,17 @@
 -- The words of a typed line: a name, and numbers with a blank before each.
 -- Assumes nothing.
-use Prim.Native.Nat.{ℕ, zero, suc, _+_, _≤_, _<_}
+use Prim.Native.Nat.{ℕ, _+_, _≤_, _<_}
 use native.Mathlib.Omega.{arith}
-use mathlib.Core.Path.{_≡_, refl, sym, ap, _∙_}
-use mathlib.Core.Bool.{Bool, true, false}
+use mathlib.Core.Path.{_≡_, refl}
+use mathlib.Core.Bool.{true, false}
 use mathlib.Core.List.{List, [], _∷_, _++_}
-use lib.ListN.{length, take, drop}
+use lib.ListN.{length}
 use lib.Seq.{take-at, drop-at}
 use borrow.Author.Tests.{ne-eqb}
 use Rattle.bytes.specs.Bytes.{indexOf}
-use Rattle.reading.specs.Words.{isBlank, leadingOf, firstWord, pastWord, nthWord}
+use Rattle.reading.specs.Words.{isBlank, leadingOf, firstWord, pastWord}
 use Rattle.lines.specs.Lines.{has}
-use Rattle.lines.proofs.Bytes.{index-other, has-not, has-behind}
+use Rattle.lines.proofs.Bytes.{index-other, has-not}
 
 -- each byte of s is a digit or a letter, or stands between them
 abbrev pub Word : List ℕ → Type 0

@@ -19,7 +19,7 @@ use Rattle.book.specs.State.{inRange}
 use Rattle.book.specs.Call.{Call, call}
 use Rattle.promises.specs.Headings.{recordsOf}
 use Rattle.retyping.specs.declared.Retyped.{Retyped}
-use Rattle.retyping.specs.Typed.{lineTyped, textTyped}
+use Rattle.retyping.specs.Typed.{lineTyped}
 
 -- ---- the text of a book
 

@@ -14,7 +14,7 @@ use text::put_numbers;
 use text::say;
 use text::say_number;
 ghost use mathlib.Core.Path.{_≡_};
-ghost use Prim.Native.Nat.{_+_, _*_, _≤_};
+ghost use Prim.Native.Nat.{_+_, _≤_};
 ghost use lib.ListN.{length, take, drop};
 ghost use mathlib.Core.List.{_∷_, []};
 ghost use Rattle.text.specs.Decimal.{joined, Put};
