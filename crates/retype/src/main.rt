@@ -1,0 +1,148 @@
+// Reads a book on standard input and prints it as typed lines, one for each accepted record. The last word goes to standard error.
+use book::State;
+use libc::STDERR_FILENO;
+use libc::STDIN_FILENO;
+use libc::STDOUT_FILENO;
+ghost use mathlib.Core.Path.{_≡_};
+ghost use Prim.Native.Nat.{_≤_};
+ghost use lib.ListN.{length};
+
+// Where a caller that gives an argument, the word `status`, wants the status byte.
+const STATUS_FILENO: i32 = 3;
+
+// How many bytes of the input were read, and whether no read failed.
+struct Input {
+    len: usize,
+    good: bool,
+}
+
+// The state behind the records that were typed, the bytes taken, whether no write failed, and whether more may come.
+struct Work {
+    state: State,
+    at: usize,
+    written: bool,
+    more: bool,
+}
+
+// A book has at most 4,096 records of at most 28 bytes: what stands behind so many bytes is behind its end.
+fn book_buffer() -> [u8; 131072]
+    ensures { λ r. ⌜ length r ≡ 131072 ⌝ }
+{
+    [0u8; 131072]
+}
+
+fn at_most(a: usize, b: usize) -> usize
+    ensures { λ r. ⌜ (r ≤ a) × (r ≤ b) ⌝ }
+{
+    if a < b { a } else { b }
+}
+
+// Reads up to the input's end, or until the buffer is full. A proved loop has to end: each read takes a byte, or is the last.
+fn read_all(buf: &mut [u8]) -> Input
+    ensures { λ r. ⌜ r .len ≤ length (now (buf .exit)) ⌝ }
+{
+    let mut n = 0;
+    while n < buf.len() {
+        let got = libc::read(STDIN_FILENO, &mut buf[n..]);
+        if got < 0 {
+            os::fail(b"standard input");
+            return Input {
+                len: n,
+                good: false,
+            };
+        }
+        let more = at_most(io::count(got, &buf[n..]), buf.len() - n);
+        if more == 0 {
+            return Input { len: n, good: true };
+        }
+        n += more;
+    }
+    Input { len: n, good: true }
+}
+
+// Where the text can't go out it is told.
+fn send(text: &[u8]) -> bool {
+    if io::write_all(STDOUT_FILENO, text) {
+        return true;
+    }
+    os::fail(b"standard output");
+    false
+}
+
+// The lines of some records, with one write.
+fn turn(mut w: Work, book: &[u8], text: &mut [u8]) -> Work
+    requires { ⌜ 65536 ≤ length (now text) ⌝ }
+    ensures { λ r. ⌜ 65536 ≤ length (now (text .exit)) ⌝ }
+{
+    let at = w.at;
+    if book.len() < at {
+        w.more = false;
+        return w;
+    }
+    let state = w.state;
+    let r = retyping::retype(state, &book[at..], text);
+    let next = r.state;
+    let n = r.written;
+    w.state = next;
+    w.at = at + r.taken;
+    w.more = r.more;
+    if !send(&text[..n]) {
+        w.written = false;
+        w.more = false;
+    }
+    w
+}
+
+// Each turn takes a record, so that there are fewer of them than bytes.
+fn run(from: Work, book: &[u8], text: &mut [u8]) -> Work
+    requires { ⌜ 65536 ≤ length (now text) ⌝ }
+{
+    let mut w = from;
+    let mut turns: usize = 131072;
+    while turns > 0 {
+        if !w.more {
+            return w;
+        }
+        turns -= 1;
+        w = turn(w, book, text);
+    }
+    w
+}
+
+// The last word. Where a read or a write failed there is none: the book was not seen whole, or its lines were not.
+fn end(w: Work, input: Input) {
+    if !input.good {
+        return;
+    }
+    if !w.written {
+        return;
+    }
+    let mut text = [0u8; 512];
+    let state = w.state;
+    let n = retyping::say_end(&mut text, state.account, w.at < input.len);
+    io::write_all(STDERR_FILENO, &text[..n]);
+}
+
+fn tell_status(w: Work, input: Input) {
+    if os::arg_count() == 2 {
+        let state = w.state;
+        let status = retyping::status(state.account, w.at < input.len, input.good, w.written);
+        io::write_all(STATUS_FILENO, &[status]);
+    }
+}
+
+fn main() {
+    let mut book = book_buffer();
+    let mut text = io::large_buffer();
+    let input = read_all(&mut book);
+    let start = Work {
+        state: State::new(),
+        at: 0,
+        written: true,
+        more: true,
+    };
+    let n = input.len;
+    let last = run(start, &book[..n], &mut text);
+    end(last, input);
+    tell_status(last, input);
+}

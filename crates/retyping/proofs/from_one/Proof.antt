@@ -1,0 +1,14 @@
+-- The values one by one, and zeros. Assumes nothing.
+use mathlib.Core.Path.{_≡_}
+use borrow.Author.Needs.{needs}
+use lib.ListN.{length}
+use Rattle.retyping.proofs.Steps.{in-places}
+use Rattle.retyping.proofs.from_one.Statement.{statement}
+use Rattle.retyping.proofs.from_one.Tie as tie
+
+pub from-one-spec : {M : Type 1} → statement M
+from-one-spec =
+    tie.close
+    (tie.spec
+    (λ c. search needs)
+    (λ c. let l : length (c .args .t1) ≡ 1 = search needs in in-places 1 (c .args .t1) l))

@@ -1,0 +1,16 @@
+-- The values one by one, and zeros. Assumes nothing.
+use mathlib.Core.Path.{_≡_}
+use borrow.Author.Needs.{needs}
+use lib.ListN.{length}
+use Rattle.retyping.proofs.Steps.{in-places}
+use Rattle.retyping.proofs.from_three.Statement.{statement}
+use Rattle.retyping.proofs.from_three.Tie as tie
+
+pub from-three-spec : {M : Type 1} → statement M
+from-three-spec =
+    tie.close
+    (tie.spec
+    (λ c. search needs)
+    (λ c. search needs)
+    (λ c. search needs)
+    (λ c. let l : length (c .args .t1) ≡ 3 = search needs in in-places 3 (c .args .t1) l))

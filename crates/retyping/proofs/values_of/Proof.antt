@@ -1,0 +1,68 @@
+-- The kind's own values. Assumes nothing.
+use mathlib.Core.Path.{_≡_, refl}
+use Prim.Native.Nat.{_≤_}
+use native.Mathlib.Omega.{arith}
+use borrow.Author.Needs.{needs}
+use Rattle.codec.specs.Table.{table, size}
+use Rattle.writing.proofs.Listed.{eighth}
+use Rattle.retyping.proofs.Steps.{long-by, values-by, twelve-by}
+use Rattle.retyping.proofs.values_of.Statement.{statement}
+use Rattle.retyping.proofs.values_of.Tie as tie
+
+eight : (c : tie.At-match-rest) → c .before .before .args .kind ≡ 8
+eight c =
+    let r = c .match .rest in
+    let p = c .before .before .pre in
+    let least : 1 ≤ c .before .before .args .kind = omega (arith, p .1, p .0 .least) in
+    let most : c .before .before .args .kind ≤ 8 = omega (arith, p .1, p .0 .most) in
+    eighth _ least most (r .0 .0 .0 .0 .0 .0 .1) (r .0 .0 .0 .0 .0 .1) (r .0 .0 .0 .0 .1) (r .0 .0 .0 .1) (r .0 .0 .1) (r .0 .1) (r .1)
+
+pub values-of-spec : {M : Type 1} → statement M
+unfolding table size
+values-of-spec =
+    tie.close
+    (tie.spec
+    (λ c κs. let s = c .before .before in omega (arith, long-by 1 (c .match .keys1) (s .args .bytes .now) (s .pre .1) 9 refl (s .pre .0)))
+    (λ c κs. search needs)
+    (λ c κs. let s = c .before .before in omega (arith, long-by 2 (c .match .keys2) (s .args .bytes .now) (s .pre .1) 7 refl (s .pre .0)))
+    (λ c κs. search needs)
+    (λ c κs. let s = c .before .before in omega (arith, long-by 3 (c .match .keys3) (s .args .bytes .now) (s .pre .1) 10 refl (s .pre .0)))
+    (λ c κs. search needs)
+    (λ c κs. let s = c .before .before in omega (arith, long-by 4 (c .match .keys4) (s .args .bytes .now) (s .pre .1) 20 refl (s .pre .0)))
+    (λ c κs. search needs)
+    (λ c κs. let s = c .before .before in omega (arith, long-by 5 (c .match .keys5) (s .args .bytes .now) (s .pre .1) 26 refl (s .pre .0)))
+    (λ c κs. let s = c .before .before in omega (arith, long-by 6 (c .match .keys6) (s .args .bytes .now) (s .pre .1) 11 refl (s .pre .0)))
+    (λ c κs. search needs)
+    (λ c κs. let s = c .before .before in omega (arith, long-by 7 (c .match .keys7) (s .args .bytes .now) (s .pre .1) 6 refl (s .pre .0)))
+    (λ c κs. search needs)
+    (λ c κs. let s = c .before .before in omega (arith, long-by 8 (eight c) (s .args .bytes .now) (s .pre .1) 4 refl (s .pre .0)))
+    (λ c κs. search needs)
+    (λ c.
+    let c4 = c .before .before .before .before in
+    let s = c4 in values-by 1 (c .before .before .match .keys1) (s .args .bytes .now) (s .pre .1)
+    (c .before .farm .ensures) (c .from-three .ensures))
+    (λ c.
+    let c4 = c .before .before .before .before in
+    let s = c4 in values-by 2 (c .before .before .match .keys2) (s .args .bytes .now) (s .pre .1)
+    (c .before .heading .ensures) (c .from-three2 .ensures))
+    (λ c.
+    let c4 = c .before .before .before .before in
+    let s = c4 in values-by 3 (c .before .before .match .keys3) (s .args .bytes .now) (s .pre .1)
+    (c .before .enteric .ensures) (c .from-three3 .ensures))
+    (λ c.
+    let c4 = c .before .before .before .before in
+    let s = c4 in values-by 4 (c .before .before .match .keys4) (s .args .bytes .now) (s .pre .1)
+    (c .before .cattle .ensures) (c .from-nine .ensures))
+    (λ c. let s = c .before .before .before in twelve-by (s .args .bytes .now) (c .before .match .keys5) (s .pre .1) (c .pig .ensures))
+    (λ c.
+    let c4 = c .before .before .before .before in
+    let s = c4 in values-by 6 (c .before .before .match .keys6) (s .args .bytes .now) (s .pre .1)
+    (c .before .energy .ensures) (c .from-three4 .ensures))
+    (λ c.
+    let c4 = c .before .before .before .before in
+    let s = c4 in values-by 7 (c .before .before .match .keys7) (s .args .bytes .now) (s .pre .1)
+    (c .before .soil .ensures) (c .from-one .ensures))
+    (λ c.
+    let c4 = c .before .before .before .before in
+    let s = c4 in values-by 8 (eight (c .before .before)) (s .args .bytes .now) (s .pre .1)
+    (c .before .close .ensures) (c .from-one2 .ensures)))

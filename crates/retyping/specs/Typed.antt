@@ -1,0 +1,46 @@
+-- The typed lines of a book, the way back from document 02's W1: "Advisers now type a book into one program". A record is typed as its kind's
+-- name and its values, each a whole number in the book's unit of document 01, with one blank between.
+use Prim.Native.Nat.{ℕ, _<_}
+use mathlib.Core.Path.{_≡_}
+use mathlib.Core.List.{List, [], _∷_, _++_}
+use Rattle.text.specs.Decimal.{spaced}
+use Rattle.names.specs.Names.{kindName}
+use Rattle.codec.proofs.BigEndian.{Bytes}
+use Rattle.account.specs.declared.Account.{Account}
+use Rattle.account.specs.Judge.{Whole, kindOf, valuesOf, judge}
+use Rattle.account.specs.Line.{joined}
+use Rattle.book.specs.State.{holding}
+use Rattle.typist.specs.Text.{Typed, bytesTyped}
+
+-- the line of a record of kind k with the values v, and its line feed
+abbrev pub lineTyped : ℕ → List ℕ → List ℕ
+lineTyped k v = kindName k ++ (spaced v ++ (10 ∷ []))
+
+-- the text of some records: their lines, one after the other
+unfoldable pub textTyped : List (List ℕ) → List ℕ
+textTyped [] = []
+textTyped (r ∷ rs) = lineTyped (kindOf r) (valuesOf r) ++ textTyped rs
+
+-- r is a whole record of bytes that is accepted after the account a, while the book is open
+pub record Accepted (a : Account) (r : List ℕ) : Type 0 where
+  pub early : a .stage < 2
+  pub whole : Whole r
+  pub bytes : Bytes r
+  pub taken : judge a r .account .stage ≡ 3 → ⊥
+
+-- the records rs are accepted one after the other; a close can only be the last of them
+unfoldable pub AllAccepted : Account → List (List ℕ) → Type 0
+AllAccepted a [] = Unit {0}
+AllAccepted a (r ∷ rs) = Accepted a r × AllAccepted (judge a r .account) rs
+
+-- the account behind them
+unfoldable pub accountBehind : Account → List (List ℕ) → Account
+accountBehind a [] = a
+accountBehind a (r ∷ rs) = accountBehind (judge a r .account) rs
+
+-- what typing their text gives: the records' own bytes and the reader's account; no line failed, and none is told of
+pub record SameBytes (a : Account) (rs : List (List ℕ)) (x : Typed) : Type 0 where
+  pub bytes : bytesTyped (x .turns) ≡ joined rs
+  pub state : x .typist .state ≡ holding (accountBehind a rs) []
+  pub failed : x .typist .failed ≡ 0
+  pub told : x .typist .told ≡ 0

@@ -1,0 +1,270 @@
+// A book as typed lines: for each accepted record the line that a person would type for it.
+use account::Account;
+use account::Refusal;
+use book::Fed;
+use book::State;
+use codec::numbers::be8;
+use codec::numbers::be16;
+use codec::read;
+use names::field_count;
+use names::say_kind;
+use names::say_sentence;
+use text::put_byte;
+use text::put_numbers;
+use text::say;
+use text::say_number;
+ghost use mathlib.Core.Path.{_≡_};
+ghost use Prim.Native.Nat.{_+_, _≤_};
+ghost use lib.ListN.{length, take, drop};
+ghost use mathlib.Core.List.{_∷_, []};
+ghost use Rattle.text.specs.Decimal.{joined, Put};
+ghost use Rattle.text.specs.Said.{Said};
+ghost use Rattle.account.specs.Judge.{kindOf, valuesOf};
+ghost use Rattle.book.specs.Call.{fedOf};
+ghost use Rattle.retyping.specs.Typed.{lineTyped};
+ghost use Rattle.retyping.specs.Book.{wholeLength, readOf, isReady, accepts, oneTyped, retypedBy, Retypes, Typable, inTwelve};
+ghost use Rattle.retyping.specs.Book.{refusedText, endText, statusByte};
+
+// The state behind some records of a book, the bytes taken, the end of the text in the buffer, and whether all of them were accepted.
+pub struct Retyped {
+    pub state: State,
+    pub taken: usize,
+    pub written: usize,
+    pub more: bool,
+}
+
+fn first_of(s: &[u8], n: usize) -> &[u8]
+    requires { ⌜ n ≤ length (now s) ⌝ }
+    ensures { λ r. ⌜ now r ≡ take n (now (s .entry)) ⌝ }
+{
+    &s[..n]
+}
+
+fn rest_of(s: &[u8], i: usize) -> &[u8]
+    requires { ⌜ i ≤ length (now s) ⌝ }
+    ensures { λ r. ⌜ now r ≡ drop i (now (s .entry)) ⌝ }
+{
+    &s[i..]
+}
+
+fn from_one(v: [u64; 1]) -> [u64; 12]
+    ensures { λ r. ⌜ r ≡ inTwelve v ⌝ }
+{
+    [v[0], 0, 0, 0, 0, 0, 0, 0, 0, 0, 0, 0]
+}
+
+fn from_three(v: [u64; 3]) -> [u64; 12]
+    ensures { λ r. ⌜ r ≡ inTwelve v ⌝ }
+{
+    [v[0], v[1], v[2], 0, 0, 0, 0, 0, 0, 0, 0, 0]
+}
+
+fn from_nine(v: [u64; 9]) -> [u64; 12]
+    ensures { λ r. ⌜ r ≡ inTwelve v ⌝ }
+{
+    [
+        v[0],
+        v[1],
+        v[2],
+        v[3],
+        v[4],
+        v[5],
+        v[6],
+        v[7],
+        v[8],
+        0,
+        0,
+        0,
+    ]
+}
+
+// The values of a record, zeros behind.
+fn values_of(bytes: &[u8], kind: u64) -> [u64; 12]
+    requires { ⌜ Typable (now bytes) × (kind ≡ kindOf (now bytes)) ⌝ }
+    ensures { λ r. ⌜ r ≡ inTwelve (valuesOf (now (bytes .entry))) ⌝ }
+{
+    match kind {
+        1 => from_three(read::farm(bytes, 4)),
+        2 => from_three(read::heading(bytes, 4)),
+        3 => from_three(read::enteric(bytes, 4)),
+        4 => from_nine(read::cattle(bytes, 4)),
+        5 => read::pig(bytes, 4),
+        6 => from_three(read::energy(bytes, 4)),
+        7 => from_one(read::soil(bytes, 4)),
+        _ => from_one(read::close(bytes, 4)),
+    }
+}
+
+// The line that a person types for a record: its kind's name, its values, and the line feed.
+fn put_record(out: &mut [u8], at: usize, bytes: &[u8]) -> usize
+    requires { ⌜ Typable (now bytes) ⌝ }
+    requires { ⌜ at + 261 ≤ length (now out) ⌝ }
+    ensures { λ r. ⌜ Put (now (out .entry)) (now (out .exit)) at (lineTyped (kindOf (now (bytes .entry))) (valuesOf (now (bytes .entry)))) r ⌝ }
+    ensures { λ r. ⌜ r ≤ at + 261 ⌝ }
+{
+    let kind = be8(bytes, 3);
+    let values = values_of(bytes, kind);
+    let n = field_count(kind);
+    let name = say_kind(out, at, kind);
+    let blank = put_byte(out, name, b' ');
+    put_numbers(out, blank, &values[..n])
+}
+
+// The bytes of the record that lies whole at the front; 0 where none does.
+fn record_length(book: &[u8]) -> usize
+    ensures { λ n. ⌜ n ≡ wholeLength (now (book .entry)) ⌝ }
+{
+    if book.len() < 2 {
+        return 0;
+    }
+    let length = be16(book, 0);
+    if length < 4 {
+        return 0;
+    }
+    if 26 < length {
+        return 0;
+    }
+    let n = (length as usize) + 2;
+    if book.len() < n {
+        return 0;
+    }
+    n
+}
+
+// The reader's call on the first n bytes, or on all where n is 0.
+fn read_piece(state: State, book: &[u8], n: usize) -> Fed
+    requires { ⌜ n ≤ length (now book) ⌝ }
+    ensures { λ r. ⌜ r ≡ fedOf (readOf state n (now (book .entry))) ⌝ }
+    ensures { λ r. ⌜ r .taken ≤ length (now (book .entry)) ⌝ }
+{
+    let mut lines = [0u8; 100];
+    if n == 0 {
+        return state.feed(book, &mut lines);
+    }
+    state.feed(first_of(book, n), &mut lines)
+}
+
+fn is_ready(state: State) -> bool
+    ensures { λ r. ⌜ r ≡ isReady state ⌝ }
+{
+    let a = state.account;
+    state.in_range() & ((a.stage < 2) & (state.count == 0))
+}
+
+// Whether the n bytes of a record were accepted, after which the next state comes.
+fn accepted(state: State, n: usize, next: State) -> bool
+    ensures { λ r. ⌜ r ≡ accepts state n next ⌝ }
+{
+    let a = next.account;
+    is_ready(state) & ((n != 0) & (a.stage != 3))
+}
+
+// The line of the first record of book, where it is accepted, from index at on.
+fn next_record(state: State, book: &[u8], out: &mut [u8], at: usize) -> Retyped
+    requires { ⌜ at + 261 ≤ length (now out) ⌝ }
+    ensures { λ r. ⌜ Retypes (oneTyped state (now (book .entry))) (now (out .entry)) (now (out .exit)) at r ⌝ }
+    ensures { λ r. ⌜ (r .written ≤ at + 261) × (r .taken ≤ length (now (book .entry))) ⌝ }
+{
+    let n = record_length(book);
+    let fed = read_piece(state, book, n);
+    let next = fed.state;
+    if !accepted(state, n, next) {
+        return Retyped {
+            state: next,
+            taken: fed.taken,
+            written: at,
+            more: false,
+        };
+    }
+    let end = put_record(out, at, first_of(book, n));
+    Retyped {
+        state: next,
+        taken: n,
+        written: end,
+        more: true,
+    }
+}
+
+// The typed lines of the first 200 records of book, from the start of out, up to one that is not accepted.
+pub fn retype(from: State, book: &[u8], out: &mut [u8]) -> Retyped
+    requires { ⌜ 52200 ≤ length (now out) ⌝ }
+    ensures { λ r. ⌜ Retypes (retypedBy 200 from (now (book .entry))) (now (out .entry)) (now (out .exit)) 0 r ⌝ }
+    ensures { λ r. ⌜ r .taken ≤ length (now (book .entry)) ⌝ }
+{
+    let mut state = from;
+    let mut at = 0;
+    let mut end = 0;
+    let mut left: usize = 200;
+    while left > 0 {
+        let t = next_record(state, rest_of(book, at), out, end);
+        state = t.state;
+        at += t.taken;
+        end = t.written;
+        if !t.more {
+            return Retyped {
+                state: state,
+                taken: at,
+                written: end,
+                more: false,
+            };
+        }
+        left -= 1;
+    }
+    Retyped {
+        state: state,
+        taken: at,
+        written: end,
+        more: true,
+    }
+}
+
+// Three numbers with one blank between.
+fn say_three(out: &mut [u8], at: usize, a: u64, b: u64, c: u64) -> usize
+    requires { ⌜ at ≤ length (now out) ⌝ }
+    ensures { λ r. ⌜ Said (now (out .entry)) (now (out .exit)) at (joined (a ∷ b ∷ c ∷ [])) r ⌝ }
+{
+    let first = say_number(out, at, a);
+    let blank = say(out, first, b" ");
+    let second = say_number(out, blank, b);
+    let next = say(out, second, b" ");
+    say_number(out, next, c)
+}
+
+fn say_refusal(out: &mut [u8], r: Refusal) -> usize
+    ensures { λ n. ⌜ Said (now (out .entry)) (now (out .exit)) 0 (refusedText r) n ⌝ }
+{
+    let word = say(out, 0, b"refused ");
+    let numbers = say_three(out, word, r.code as u64, r.number as u64, r.field as u64);
+    let colon = say(out, numbers, b": ");
+    let end = say_sentence(out, colon, r.code as u64);
+    say(out, end, b"\n")
+}
+
+// The last word, from the start of out: none where the book is closed and nothing stands behind its close.
+pub fn say_end(out: &mut [u8], account: Account, behind: bool) -> usize
+    ensures { λ r. ⌜ Said (now (out .entry)) (now (out .exit)) 0 (endText account behind) r ⌝ }
+{
+    if account.stage == 3 {
+        let refusal = account.refusal;
+        return say_refusal(out, refusal);
+    }
+    if account.stage != 2 {
+        return say(out, 0, b"unfinished\n");
+    }
+    if !behind {
+        return say(out, 0, b"");
+    }
+    let end = say_sentence(out, 0, 18);
+    say(out, end, b"\n")
+}
+
+// The status byte: 0 only where the book is closed with nothing behind it, all of it was read, and everything was written.
+pub fn status(account: Account, behind: bool, read: bool, written: bool) -> u8
+    ensures { λ r. ⌜ r ≡ statusByte account behind read written ⌝ }
+{
+    if ((account.stage == 2) & !behind) & (read & written) {
+        b'0'
+    } else {
+        b'1'
+    }
+}
