@@ -1,8 +1,14 @@
 // Values and bytes of records and lines: the fields are those of specs/Table.antt. What a record means is not known here.
 pub mod numbers; // numbers.rt: big-endian numbers
-pub mod read; // read.rt: the values of a record's fields, a function for each kind
-pub mod ranges; // ranges.rt: the first value out of its range, a function for each kind
-pub mod write; // write.rt: a whole record from its values, a function for each kind
+mod start; // start.rt: what every record and every line begins with
+pub mod farm; // a file for each kind: its values from its bytes, the first value out of its range, its bytes from its values
+pub mod cattle;
+pub mod close;
+pub mod energy;
+pub mod enteric;
+pub mod heading;
+pub mod pig;
+pub mod soil;
 pub mod lines; // lines.rt: a line from its figures
 
 // A field: how many bytes it has, its lowest and its highest value.

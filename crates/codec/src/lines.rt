@@ -1,7 +1,7 @@
 // A line from its figures, held to its row of the table.
 use crate::numbers::put2;
 use crate::numbers::put8;
-use crate::write::start;
+use crate::start::put_start;
 ghost use mathlib.Core.Path.{_≡_};
 ghost use Prim.Native.Nat.{_+_, _≤_};
 ghost use lib.ListN.{length};
@@ -9,7 +9,7 @@ ghost use lib.Seq.{sets};
 ghost use Rattle.codec.specs.Codec.{be, lineBytes, totalBytes};
 
 // The five figures of the line that begins at `at`.
-fn five(out: &mut [u8], at: usize, ch4: u64, n2o: u64, co2: u64, excreted: u64, land: u64)
+fn put_figures(out: &mut [u8], at: usize, ch4: u64, n2o: u64, co2: u64, excreted: u64, land: u64)
     requires { ⌜ at + 46 ≤ length (now out) ⌝ }
     ensures { λ _. ⌜ now (out .exit) ≡ sets (sets (sets (sets (sets (now (out .entry)) (at + 6) (be 8 ch4)) (at + 14) (be 8 n2o)) (at + 22) (be 8 co2)) (at + 30) (be 8 excreted)) (at + 38) (be 8 land) ⌝ }
 {
@@ -35,9 +35,9 @@ pub fn put_line(
     requires { ⌜ at + 46 ≤ length (now out) ⌝ }
     ensures { λ _. ⌜ now (out .exit) ≡ sets (now (out .entry)) at (lineBytes kind group ch4 n2o co2 excreted land) ⌝ }
 {
-    start(out, at, 44, kind as u64);
+    put_start(out, at, 44, kind as u64);
     put2(out, at + 4, group as u64);
-    five(out, at, ch4, n2o, co2, excreted, land);
+    put_figures(out, at, ch4, n2o, co2, excreted, land);
 }
 
 // The line of the close.
@@ -54,8 +54,8 @@ pub fn put_total(
     requires { ⌜ at + 54 ≤ length (now out) ⌝ }
     ensures { λ _. ⌜ now (out .exit) ≡ sets (now (out .entry)) at (totalBytes ch4 n2o co2 excreted land co2e) ⌝ }
 {
-    start(out, at, 52, 8);
+    put_start(out, at, 52, 8);
     put2(out, at + 4, 0);
-    five(out, at, ch4, n2o, co2, excreted, land);
+    put_figures(out, at, ch4, n2o, co2, excreted, land);
     put8(out, at + 46, co2e);
 }

@@ -111,13 +111,13 @@ pub(crate) fn put(out: &mut [u8], kind: u64, v: &[u64])
     ensures { λ _. ⌜ now (out .exit) ≡ sets (now (out .entry)) 0 (recordBytes kind (now (v .entry))) ⌝ }
 {
     match kind {
-        1 => codec::write::farm(out, 0, three(v)),
-        2 => codec::write::heading(out, 0, three(v)),
-        3 => codec::write::enteric(out, 0, three(v)),
-        4 => codec::write::cattle(out, 0, nine(v)),
-        5 => codec::write::pig(out, 0, twelve(v)),
-        6 => codec::write::energy(out, 0, three(v)),
-        7 => codec::write::soil(out, 0, one(v)),
-        _ => codec::write::close(out, 0, one(v)),
+        1 => codec::farm::write(out, 0, three(v)),
+        2 => codec::heading::write(out, 0, three(v)),
+        3 => codec::enteric::write(out, 0, three(v)),
+        4 => codec::cattle::write(out, 0, nine(v)),
+        5 => codec::pig::write(out, 0, twelve(v)),
+        6 => codec::energy::write(out, 0, three(v)),
+        7 => codec::soil::write(out, 0, one(v)),
+        _ => codec::close::write(out, 0, one(v)),
     }
 }
