@@ -7,7 +7,7 @@ use mathlib.Core.List.{List, [], _∷_, _++_}
 use lib.ListN.{getD}
 use lib.Dec.{leb}
 use Rattle.codec.specs.declared.Field.{Field}
-use Rattle.codec.specs.Table.{fields, lengthOf, lineFields, totalFields}
+use Rattle.codec.specs.Table.{fields, lengthOf, lineFields, totalFields, isTotal}
 
 -- the first where the test holds, else the second
 abbrev pub pick : {A : Type 0} → Bool → A → A → A
@@ -58,3 +58,11 @@ lineBytes kind group ch4 n2o co2 excreted land =
 unfoldable pub totalBytes : ℕ → ℕ → ℕ → ℕ → ℕ → ℕ → List ℕ
 totalBytes ch4 n2o co2 excreted land co2e =
     bytesOf totalFields (52 ∷ 1 ∷ 8 ∷ 0 ∷ ch4 ∷ n2o ∷ co2 ∷ excreted ∷ land ∷ co2e ∷ []) 0
+
+-- the bytes of the line at the front of xs
+abbrev pub frontSize : List ℕ → ℕ
+frontSize xs = pick (isTotal xs) 54 46
+
+-- the fields of the line at the front of xs
+abbrev pub frontFields : List ℕ → List Field
+frontFields xs = pick (isTotal xs) totalFields lineFields

@@ -1,8 +1,11 @@
 -- Document 01, "The book" (the table of the eight kinds) and "Lines, calls and state" (the two sorts of line), as data.
 -- Assumes nothing.
-use Prim.Native.Nat.{ℕ, _+_}
+use Prim.Native.Nat.{ℕ, _+_, _≤_}
+use mathlib.Core.Path.{_≡_}
+use mathlib.Core.Bool.{Bool}
 use mathlib.Core.List.{List, [], _∷_}
-use lib.ListN.{getD}
+use lib.Dec.{eqb}
+use lib.ListN.{length, getD}
 use Rattle.codec.specs.declared.Field.{Field}
 
 -- a field: how many bytes it has, its lowest and its highest value
@@ -38,6 +41,12 @@ table =
 -- the fields of a kind, in order
 abbrev pub fields : ℕ → List Field
 fields kind = getD table kind []
+
+-- v are values of kind k, one of the eight: as many as its fields
+pub record Of (k : ℕ) (v : List ℕ) : Type 0 where
+  pub least : 1 ≤ k
+  pub most : k ≤ 8
+  pub count : length v ≡ length (fields k)
 
 -- how many bytes the fields take
 unfoldable pub size : List Field → ℕ
@@ -80,3 +89,7 @@ totalFields =
     ∷ figure
     ∷ figure
     ∷ []
+
+-- the line at the front of some bytes is the close's: its kind is 8
+abbrev pub isTotal : List ℕ → Bool
+isTotal xs = eqb (getD xs 3 0) 8

@@ -1,12 +1,16 @@
-// A line from its figures, held to its row of the table.
+// A line from its figures, and its numbers from its bytes, held to its row of the table.
+use crate::numbers::be8;
+use crate::numbers::be16;
+use crate::numbers::be64;
 use crate::numbers::put2;
 use crate::numbers::put8;
 use crate::start::put_start;
 ghost use mathlib.Core.Path.{_≡_};
 ghost use Prim.Native.Nat.{_+_, _≤_};
-ghost use lib.ListN.{length};
+ghost use lib.ListN.{drop, length};
 ghost use lib.Seq.{sets};
-ghost use Rattle.codec.specs.Codec.{be, lineBytes, totalBytes};
+ghost use Rattle.codec.specs.Table.{lineFields, totalFields};
+ghost use Rattle.codec.specs.Codec.{be, frontSize, lineBytes, totalBytes, valuesAt};
 
 // The five figures of the line that begins at `at`.
 fn put_figures(out: &mut [u8], at: usize, ch4: u64, n2o: u64, co2: u64, excreted: u64, land: u64)
@@ -58,4 +62,45 @@ pub fn put_total(
     put2(out, at + 4, 0);
     put_figures(out, at, ch4, n2o, co2, excreted, land);
     put8(out, at + 46, co2e);
+}
+
+// Kind, group and the five figures.
+pub fn detail_numbers(line: &[u8]) -> [u64; 7]
+    requires { ⌜ 46 ≤ length (now line) ⌝ }
+    ensures { λ r. ⌜ r ≡ drop 2 (valuesAt lineFields (now (line .entry)) 0) ⌝ }
+{
+    [
+        be8(line, 3),
+        be16(line, 4),
+        be64(line, 6),
+        be64(line, 14),
+        be64(line, 22),
+        be64(line, 30),
+        be64(line, 38),
+    ]
+}
+
+// Kind, group, the five sums and CO2e.
+pub fn total_numbers(line: &[u8]) -> [u64; 8]
+    requires { ⌜ 54 ≤ length (now line) ⌝ }
+    ensures { λ r. ⌜ r ≡ drop 2 (valuesAt totalFields (now (line .entry)) 0) ⌝ }
+{
+    [
+        be8(line, 3),
+        be16(line, 4),
+        be64(line, 6),
+        be64(line, 14),
+        be64(line, 22),
+        be64(line, 30),
+        be64(line, 38),
+        be64(line, 46),
+    ]
+}
+
+// The bytes of the line at the front of s.
+pub fn front_size(s: &[u8]) -> usize
+    requires { ⌜ 46 ≤ length (now s) ⌝ }
+    ensures { λ n. ⌜ n ≡ frontSize (now (s .entry)) ⌝ }
+{
+    if s[3] == 8 { 54 } else { 46 }
 }

@@ -1,4 +1,4 @@
-// Big-endian numbers: read from a slice (be8, be16, be32, by their bits), written into one (put1, put2, put4, put8, by their bytes).
+// Big-endian numbers: read from a slice (be8, be16, be32, be64, by their bits), written into one (put1, put2, put4, put8, by their bytes).
 ghost use mathlib.Core.Path.{_≡_};
 ghost use Prim.Native.Nat.{_+_, _*_, _<_, _≤_};
 ghost use lib.ListN.{length, replicate};
@@ -37,6 +37,15 @@ pub fn be32(s: &[u8], at: usize) -> u64
     let c = wide(s[at + 2]);
     let d = wide(s[at + 3]);
     ((a * 256 + b) * 256 + c) * 256 + d
+}
+
+pub fn be64(s: &[u8], at: usize) -> u64
+    requires { ⌜ at + 8 ≤ length (now s) ⌝ }
+    ensures { λ r. ⌜ r ≡ valAt (now (s .entry)) at 8 ⌝ }
+{
+    let high = be32(s, at);
+    let low = be32(s, at + 4);
+    high * 4294967296 + low
 }
 
 pub fn put1(out: &mut [u8], at: usize, v: u64)

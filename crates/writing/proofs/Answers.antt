@@ -10,7 +10,7 @@ use borrow.Author.Tests.{ltb-false, eqb-true, eqb-false, le-ltb, lt-ltb, eq-eqb,
 use lib.ListN.{length}
 use lib.Seq.{sets, sets-eq}
 use lib.Dec.{ltb, eqb}
-use Rattle.codec.specs.Table.{fields, lengthOf}
+use Rattle.codec.specs.Table.{fields, lengthOf, Of}
 use Rattle.codec.specs.Codec.{pick, firstBad, recordBytes}
 use Rattle.codec.proofs.Round.{record-length}
 use Rattle.account.specs.declared.Account.{Account}
@@ -24,7 +24,6 @@ use Rattle.book.proofs.RangeLaws.{range-parts, range-test}
 use Rattle.writing.specs.declared.Answer.{Answer}
 use Rattle.writing.specs.declared.Answer.the-variants.{Wrote, Refused}
 use Rattle.writing.specs.declared.Written.{Written}
-use Rattle.writing.specs.Values.{Of}
 use Rattle.writing.specs.Write.{Write, refusalBy, next, refusals, answerOf, refusing, writing, byAnswer, write, writtenOf, laid}
 
 -- ---- values that the reader would not refuse

@@ -10,7 +10,7 @@ use mathlib.Core.Logic.{⊎-elim}
 use borrow.Author.Tests.{ne-eqb, eqb-true, eqb-false, ltb-true, le-ltb, le-leb, lt-leb}
 use lib.Dec.{ltb, leb, eqb}
 use lib.ListN.{length, replicate, length-replicate}
-use Rattle.codec.specs.Table.{fields, lengthOf}
+use Rattle.codec.specs.Table.{fields, lengthOf, Of}
 use Rattle.codec.specs.Codec.{pick, valAt, recordBytes}
 use Rattle.codec.proofs.Rows.{Fit, fit-kind}
 use Rattle.account.specs.declared.Account.{Account}
@@ -29,7 +29,6 @@ use Rattle.book.proofs.ReadingLaws.{reading-none}
 use Rattle.book.proofs.CallLaws.{done-ended}
 use Rattle.writing.specs.declared.Answer.{Answer}
 use Rattle.writing.specs.declared.Answer.the-variants.{Wrote, Refused}
-use Rattle.writing.specs.Values.{Of}
 use Rattle.writing.specs.Write.{numbers, next, refusals, answerOf, byAnswer, write}
 use Rattle.writing.proofs.Answers.{Ready, written-so, by-13, by-own, by-3, by-4, by-reader, wrote}
 use Rattle.writing.proofs.ReaderLaws.{run-one, call-one, is-kind, judge-is}

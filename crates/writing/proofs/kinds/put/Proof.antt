@@ -2,7 +2,7 @@
 use mathlib.Core.Path.{_≡_, refl}
 use native.Mathlib.Omega.{arith}
 use Rattle.codec.specs.Table.{table, size}
-use Rattle.writing.proofs.Listed.{eighth}
+use Rattle.codec.proofs.Rows.{eighth}
 use Rattle.writing.proofs.ByKind.{counted, fitting, stored}
 use Rattle.writing.proofs.kinds.put.Statement.{statement}
 use Rattle.writing.proofs.kinds.put.Tie as tie

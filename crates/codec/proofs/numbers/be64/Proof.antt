@@ -1,11 +1,12 @@
+-- `codec::numbers::be64` meets its contract: two numbers of four bytes.
+-- Assumes nothing.
 use Prim.Native.Nat.{_+_, _<_}
 use native.Mathlib.Omega.{arith}
 use borrow.Author.Needs.{needs}
 use Rattle.codec.specs.Codec.{room}
-use Rattle.codec.proofs.BigEndian.{Bytes, valAt-lt}
-use Rattle.listing.proofs.Lines.{eight-bytes}
-use Rattle.listing.proofs.be64.Statement.{statement}
-use Rattle.listing.proofs.be64.Tie as tie
+use Rattle.codec.proofs.BigEndian.{Bytes, valAt-lt, eight-bytes}
+use Rattle.codec.proofs.numbers.be64.Statement.{statement}
+use Rattle.codec.proofs.numbers.be64.Tie as tie
 
 bytes : (c : tie.After-shared-slice-known) → Bytes (c .before .args .s .now)
 bytes c i = omega (arith, c .shared-slice-known .given i)

@@ -1,12 +1,13 @@
--- Read off the table, kind by kind. Assumes nothing.
-use Rattle.codec.specs.Table.{table}
-use Rattle.writing.proofs.Listed.{eighth}
-use Rattle.writing.proofs.kinds.values_of.Statement.{statement}
-use Rattle.writing.proofs.kinds.values_of.Tie as tie
+-- `codec::kinds::bytes_of` meets its contract: read off the table, kind by kind.
+-- Assumes nothing.
+use Rattle.codec.specs.Table.{table, size}
+use Rattle.codec.proofs.Rows.{eighth}
+use Rattle.codec.proofs.kinds.bytes_of.Statement.{statement}
+use Rattle.codec.proofs.kinds.bytes_of.Tie as tie
 
-pub values-of-spec : {M : Type 1} → statement M
-unfolding table
-values-of-spec =
+pub bytes-of-spec : {M : Type 1} → statement M
+unfolding table size
+bytes-of-spec =
     tie.close
     (tie.spec
     (λ c. rw (c .match .keys1))
