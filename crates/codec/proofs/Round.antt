@@ -7,12 +7,12 @@ use native.Mathlib.Omega.{arith}
 use lib.ListN.{length, getD, take, drop, length-append, length-drop, take-append-drop}
 use lib.Seq.{sets, take-all, length-take-le, take-add, drop-drop, drop-cons}
 use Rattle.codec.specs.declared.Field.{Field}
-use Rattle.codec.specs.Table.{fields, size, lengthOf, lineFields, totalFields}
+use Rattle.codec.specs.Table.{fields, size, lengthOf, lineFields, totalFields, lineSize, totalSize}
 use Rattle.codec.specs.Codec.{room, valAt, be, valuesAt, bytesOf, firstBad, recordBytes, lineBytes, totalBytes}
 use Rattle.codec.proofs.BigEndian.{Bytes, bytes-append, be-bytes, be-length, valAt-be, be-valAt}
 use Rattle.codec.proofs.Stores.{sets-at}
 use Rattle.codec.proofs.Values.{bytes-length, bytes-bytes}
-use Rattle.codec.proofs.Rows.{Fit, fit-kind, length-most}
+use Rattle.codec.proofs.Rows.{Fit, fit-kind, length-most, sizes}
 
 -- ---- values, bytes, values
 
@@ -115,11 +115,11 @@ record-whole kind vs h =
       kind-is = valAt-be 1 kind (be 2 (lengthOf kind) ++ be 1 1) fs (omega arith);
     }
 
--- a line is 46 bytes, the close's 54
-pub line-length : (kind group ch4 n2o co2 excreted land : ℕ) → length (lineBytes kind group ch4 n2o co2 excreted land) ≡ 46
-unfolding lineBytes lineFields size
-line-length kind group ch4 n2o co2 excreted land = bytes-length lineFields (44 ∷ 1 ∷ kind ∷ group ∷ ch4 ∷ n2o ∷ co2 ∷ excreted ∷ land ∷ []) 0
+-- how many bytes a line has, and the close's
+pub line-length : (kind group ch4 n2o co2 excreted land : ℕ) → length (lineBytes kind group ch4 n2o co2 excreted land) ≡ lineSize
+unfolding lineBytes
+line-length kind group ch4 n2o co2 excreted land = bytes-length lineFields (44 ∷ 1 ∷ kind ∷ group ∷ ch4 ∷ n2o ∷ co2 ∷ excreted ∷ land ∷ []) 0 ∙ sizes .0
 
-pub total-length : (ch4 n2o co2 excreted land co2e : ℕ) → length (totalBytes ch4 n2o co2 excreted land co2e) ≡ 54
-unfolding totalBytes totalFields size
-total-length ch4 n2o co2 excreted land co2e = bytes-length totalFields (52 ∷ 1 ∷ 8 ∷ 0 ∷ ch4 ∷ n2o ∷ co2 ∷ excreted ∷ land ∷ co2e ∷ []) 0
+pub total-length : (ch4 n2o co2 excreted land co2e : ℕ) → length (totalBytes ch4 n2o co2 excreted land co2e) ≡ totalSize
+unfolding totalBytes
+total-length ch4 n2o co2 excreted land co2e = bytes-length totalFields (52 ∷ 1 ∷ 8 ∷ 0 ∷ ch4 ∷ n2o ∷ co2 ∷ excreted ∷ land ∷ co2e ∷ []) 0 ∙ sizes .1

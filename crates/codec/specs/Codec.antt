@@ -7,7 +7,7 @@ use mathlib.Core.List.{List, [], _∷_, _++_}
 use lib.ListN.{getD}
 use lib.Dec.{leb}
 use Rattle.codec.specs.declared.Field.{Field}
-use Rattle.codec.specs.Table.{fields, lengthOf, lineFields, totalFields, isTotal}
+use Rattle.codec.specs.Table.{fields, lengthOf, lineFields, totalFields, lineSize, totalSize, isTotal}
 
 -- the first where the test holds, else the second
 abbrev pub pick : {A : Type 0} → Bool → A → A → A
@@ -61,7 +61,7 @@ totalBytes ch4 n2o co2 excreted land co2e =
 
 -- the bytes of the line at the front of xs
 abbrev pub frontSize : List ℕ → ℕ
-frontSize xs = pick (isTotal xs) 54 46
+frontSize xs = pick (isTotal xs) totalSize lineSize
 
 -- the fields of the line at the front of xs
 abbrev pub frontFields : List ℕ → List Field

@@ -42,10 +42,14 @@ table =
 abbrev pub fields : ℕ → List Field
 fields kind = getD table kind []
 
--- v are values of kind k, one of the eight: as many as its fields
+-- the highest kind
+abbrev pub lastKind : ℕ
+lastKind = 8
+
+-- v are values of kind k, as many as its fields
 pub record Of (k : ℕ) (v : List ℕ) : Type 0 where
   pub least : 1 ≤ k
-  pub most : k ≤ 8
+  pub most : k ≤ lastKind
   pub count : length v ≡ length (fields k)
 
 -- how many bytes the fields take
@@ -56,6 +60,13 @@ size (f ∷ fs) = f .0 + size fs
 -- a record's length, which counts what follows it: version, kind and fields
 abbrev pub lengthOf : ℕ → ℕ
 lengthOf kind = 2 + size (fields kind)
+
+-- the highest length, and the bytes of the longest record, the two of its length among them
+abbrev pub lengthMost : ℕ
+lengthMost = 26
+
+abbrev pub recordMost : ℕ
+recordMost = 2 + lengthMost
 
 -- a figure of a line: grams
 abbrev pub figure : Field
@@ -89,6 +100,16 @@ totalFields =
     ∷ figure
     ∷ figure
     ∷ []
+
+-- the bytes of a line, those of the close's line, and the most that one record gives: a subtotal and the close's line
+abbrev pub lineSize : ℕ
+lineSize = 46
+
+abbrev pub totalSize : ℕ
+totalSize = 54
+
+abbrev pub linesMost : ℕ
+linesMost = lineSize + totalSize
 
 -- the line at the front of some bytes is the close's: its kind is 8
 abbrev pub isTotal : List ℕ → Bool

@@ -2,11 +2,11 @@
 ghost use mathlib.Core.Path.{_≡_};
 ghost use Prim.Native.Nat.{_+_, _≤_};
 ghost use lib.ListN.{length};
-ghost use Rattle.codec.specs.Table.{fields, lengthOf};
+ghost use Rattle.codec.specs.Table.{fields, lastKind, lengthOf};
 
 // How many values a record of the kind has.
 pub fn values_of(kind: u64) -> usize
-    requires { ⌜ (1 ≤ kind) × (kind ≤ 8) ⌝ }
+    requires { ⌜ (1 ≤ kind) × (kind ≤ lastKind) ⌝ }
     ensures { λ r. ⌜ r ≡ length (fields kind) ⌝ }
 {
     match kind {
@@ -23,7 +23,7 @@ pub fn values_of(kind: u64) -> usize
 
 // How many bytes a record of the kind has, the two of its length among them.
 pub fn bytes_of(kind: u64) -> usize
-    requires { ⌜ (1 ≤ kind) × (kind ≤ 8) ⌝ }
+    requires { ⌜ (1 ≤ kind) × (kind ≤ lastKind) ⌝ }
     ensures { λ r. ⌜ r ≡ 2 + lengthOf kind ⌝ }
 {
     match kind {

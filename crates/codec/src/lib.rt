@@ -14,5 +14,20 @@ pub mod soil;
 pub mod kinds; // kinds.rt: how many values and bytes each kind has
 pub mod lines; // lines.rt: a line from its figures, and its numbers from its bytes
 
+// The highest kind.
+pub const LAST_KIND: u64 = 8;
+
+// The highest length of a record, and the bytes of the longest.
+pub const LENGTH_MOST: u64 = 26;
+
+pub const RECORD_MOST: usize = 28;
+
+// The bytes of a line, of the close's line, and the most that one record gives: a subtotal and the close's line.
+pub const LINE_SIZE: usize = 46;
+
+pub const TOTAL_SIZE: usize = 54;
+
+pub const LINES_MOST: usize = 100;
+
 // A field: how many bytes it has, its lowest and its highest value.
 pub struct Field(pub usize, pub u64, pub u64);

@@ -1,4 +1,6 @@
 // A line from its figures, and its numbers from its bytes, held to its row of the table.
+use crate::LINE_SIZE;
+use crate::TOTAL_SIZE;
 use crate::numbers::be8;
 use crate::numbers::be16;
 use crate::numbers::be64;
@@ -9,12 +11,12 @@ ghost use mathlib.Core.Path.{_≡_};
 ghost use Prim.Native.Nat.{_+_, _≤_};
 ghost use lib.ListN.{drop, length};
 ghost use lib.Seq.{sets};
-ghost use Rattle.codec.specs.Table.{lineFields, totalFields};
+ghost use Rattle.codec.specs.Table.{lineFields, lineSize, totalFields, totalSize};
 ghost use Rattle.codec.specs.Codec.{be, frontSize, lineBytes, totalBytes, valuesAt};
 
 // The five figures of the line that begins at `at`.
 fn put_figures(out: &mut [u8], at: usize, ch4: u64, n2o: u64, co2: u64, excreted: u64, land: u64)
-    requires { ⌜ at + 46 ≤ length (now out) ⌝ }
+    requires { ⌜ at + lineSize ≤ length (now out) ⌝ }
     ensures { λ _. ⌜ now (out .exit) ≡ sets (sets (sets (sets (sets (now (out .entry)) (at + 6) (be 8 ch4)) (at + 14) (be 8 n2o)) (at + 22) (be 8 co2)) (at + 30) (be 8 excreted)) (at + 38) (be 8 land) ⌝ }
 {
     put8(out, at + 6, ch4);
@@ -36,7 +38,7 @@ pub fn put_line(
     excreted: u64,
     land: u64,
 )
-    requires { ⌜ at + 46 ≤ length (now out) ⌝ }
+    requires { ⌜ at + lineSize ≤ length (now out) ⌝ }
     ensures { λ _. ⌜ now (out .exit) ≡ sets (now (out .entry)) at (lineBytes kind group ch4 n2o co2 excreted land) ⌝ }
 {
     put_start(out, at, 44, kind as u64);
@@ -55,7 +57,7 @@ pub fn put_total(
     land: u64,
     co2e: u64,
 )
-    requires { ⌜ at + 54 ≤ length (now out) ⌝ }
+    requires { ⌜ at + totalSize ≤ length (now out) ⌝ }
     ensures { λ _. ⌜ now (out .exit) ≡ sets (now (out .entry)) at (totalBytes ch4 n2o co2 excreted land co2e) ⌝ }
 {
     put_start(out, at, 52, 8);
@@ -66,7 +68,7 @@ pub fn put_total(
 
 // Kind, group and the five figures.
 pub fn detail_numbers(line: &[u8]) -> [u64; 7]
-    requires { ⌜ 46 ≤ length (now line) ⌝ }
+    requires { ⌜ lineSize ≤ length (now line) ⌝ }
     ensures { λ r. ⌜ r ≡ drop 2 (valuesAt lineFields (now (line .entry)) 0) ⌝ }
 {
     [
@@ -82,7 +84,7 @@ pub fn detail_numbers(line: &[u8]) -> [u64; 7]
 
 // Kind, group, the five sums and CO2e.
 pub fn total_numbers(line: &[u8]) -> [u64; 8]
-    requires { ⌜ 54 ≤ length (now line) ⌝ }
+    requires { ⌜ totalSize ≤ length (now line) ⌝ }
     ensures { λ r. ⌜ r ≡ drop 2 (valuesAt totalFields (now (line .entry)) 0) ⌝ }
 {
     [
@@ -99,8 +101,8 @@ pub fn total_numbers(line: &[u8]) -> [u64; 8]
 
 // The bytes of the line at the front of s.
 pub fn front_size(s: &[u8]) -> usize
-    requires { ⌜ 46 ≤ length (now s) ⌝ }
+    requires { ⌜ lineSize ≤ length (now s) ⌝ }
     ensures { λ n. ⌜ n ≡ frontSize (now (s .entry)) ⌝ }
 {
-    if s[3] == 8 { 54 } else { 46 }
+    if s[3] == 8 { TOTAL_SIZE } else { LINE_SIZE }
 }

@@ -8,7 +8,7 @@ use borrow.Author.Tests.{ltb-false, lt-ltb, le-ltb, eq-eqb, ne-eqb}
 use lib.ListN.{length, getD, take, drop, length-drop}
 use lib.Seq.{drop-drop, take-append-seam}
 use lib.Dec.{ltb}
-use Rattle.codec.specs.Table.{lineFields, totalFields, isTotal}
+use Rattle.codec.specs.Table.{lineFields, totalFields, lineSize, totalSize, isTotal}
 use Rattle.codec.specs.Codec.{valuesAt, frontSize}
 use Rattle.account.proofs.Tests.{by-test}
 use Rattle.account.specs.declared.Account.{Account}
@@ -19,8 +19,8 @@ use Rattle.text.specs.Decimal.{numbersLine, Put}
 use Rattle.text.proofs.Puts.{none, put-length, and-then}
 use Rattle.listing.specs.Listing.{lineNumbers, textBy, linesText, closedWord, unfinishedWord, refusedWord, endText, Lists}
 
-pub size-least : (xs : List ℕ) → 46 ≤ frontSize xs
-size-least xs = by-test (λ (n : ℕ). 46 ≤ n) (isTotal xs) (λ e. omega arith) (λ e. omega arith)
+pub size-least : (xs : List ℕ) → lineSize ≤ frontSize xs
+size-least xs = by-test (λ (n : ℕ). lineSize ≤ n) (isTotal xs) (λ e. omega arith) (λ e. omega arith)
 
 -- the count of lines that bounds a text does not matter, as long as it is above the count of bytes
 same-text : (n m : ℕ) (xs : List ℕ) → length xs < n → length xs < m → textBy n xs ≡ textBy m xs
@@ -47,7 +47,7 @@ text-some xs h =
 
 -- by the kind of the line record at the front
 module _ (xs : List ℕ) (k : getD xs 3 0 ≡ 8) where
-  pub size-total : frontSize xs ≡ 54
+  pub size-total : frontSize xs ≡ totalSize
   size-total = rw (eq-eqb _ _ k)
 
   pub numbers-total : lineNumbers xs ≡ drop 2 (valuesAt totalFields xs 0)
@@ -55,7 +55,7 @@ module _ (xs : List ℕ) (k : getD xs 3 0 ≡ 8) where
   numbers-total = rw (eq-eqb _ _ k)
 
 module _ (xs : List ℕ) (k : getD xs 3 0 ≡ 8 → ⊥) where
-  pub size-detail : frontSize xs ≡ 46
+  pub size-detail : frontSize xs ≡ lineSize
   size-detail = rw (ne-eqb _ _ k)
 
   pub numbers-detail : lineNumbers xs ≡ drop 2 (valuesAt lineFields xs 0)

@@ -1,6 +1,7 @@
 // The lister's text: a text line per line record, and the last word; what it remarks to a person, and its status.
 use account::Account;
 use book::State;
+use codec::LINE_SIZE;
 use codec::lines::detail_numbers;
 use codec::lines::front_size;
 use codec::lines::total_numbers;
@@ -11,6 +12,7 @@ ghost use mathlib.Core.Path.{_≡_};
 ghost use mathlib.Core.List.{_∷_, []};
 ghost use Prim.Native.Nat.{_+_, _*_, _≤_};
 ghost use lib.ListN.{length, drop};
+ghost use Rattle.codec.specs.Table.{lineSize};
 ghost use Rattle.codec.specs.Codec.{frontSize};
 ghost use Rattle.text.specs.Decimal.{Put, numbersLine};
 ghost use Rattle.text.specs.Said.{Said};
@@ -27,7 +29,7 @@ pub struct Listed {
 
 // The text line of the line record at the front of s.
 fn put_line(out: &mut [u8], at: usize, s: &[u8]) -> usize
-    requires { ⌜ (46 ≤ length (now s)) × (frontSize (now s) ≤ length (now s)) ⌝ }
+    requires { ⌜ (lineSize ≤ length (now s)) × (frontSize (now s) ≤ length (now s)) ⌝ }
     requires { ⌜ at + 4 * frontSize (now s) ≤ length (now out) ⌝ }
     ensures { λ r. ⌜ Put (now (out .entry)) (now (out .exit)) at (numbersLine (lineNumbers (now (s .entry)))) r ⌝ }
     ensures { λ r. ⌜ r ≤ at + 4 * frontSize (now (s .entry)) ⌝ }
@@ -58,7 +60,7 @@ pub fn put_lines(out: &mut [u8], lines: &[u8]) -> usize
     let mut at = 0;
     while i < lines.len() {
         let rest = rest_of(lines, i);
-        if rest.len() < 46 {
+        if rest.len() < LINE_SIZE {
             return at;
         }
         let n = front_size(rest);

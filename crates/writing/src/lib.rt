@@ -3,6 +3,7 @@ mod kinds;
 
 use account::Refusal;
 use book::State;
+use codec::LAST_KIND;
 use codec::kinds::bytes_of;
 use codec::kinds::values_of;
 ghost use mathlib.Core.Path.{_≡_};
@@ -75,7 +76,7 @@ fn answered(state: State, kind: u64, values: &[u64], room: usize) -> Written
     if (a.stage == 2) | (state.count != 0) {
         return refused_by(state, 22);
     }
-    if (kind < 1) | (8 < kind) {
+    if (kind < 1) | (LAST_KIND < kind) {
         return refused_by(state, 3);
     }
     if values.len() != values_of(kind) {
