@@ -6,7 +6,7 @@ use mathlib.Core.List.{List, [], _∷_, map}
 use Prim.Native.Nat.{ℕ, zero, suc, _+_, _<_, _≤_}
 use native.Mathlib.Omega.{arith}
 use lib.Dec.{T, leb, ltb, leb→le, ltb→lt}
-use lib.ListN.{getD}
+use lib.ListN.{length, getD}
 use Rattle.codec.specs.declared.Field.{Field}
 use Rattle.codec.specs.Table.{table, fields, lastKind, size, lengthOf, lengthMost, lineFields, totalFields, lineSize, totalSize}
 use Rattle.codec.specs.Codec.{room, firstBad, pick}
@@ -39,6 +39,11 @@ checked = (tt, tt)
 pub sizes : (size lineFields ≡ lineSize) × (size totalFields ≡ totalSize)
 unfolding lineFields totalFields size
 sizes = (refl, refl)
+
+-- and have as many values
+pub counts : (9 ≡ length lineFields) × (10 ≡ length totalFields)
+unfolding lineFields totalFields
+counts = (refl, refl)
 
 -- document 01's lengths, kinds 1 to 8
 pub lengths : map lengthOf (1 ∷ 2 ∷ 3 ∷ 4 ∷ 5 ∷ 6 ∷ 7 ∷ 8 ∷ []) ≡ 9 ∷ 7 ∷ 10 ∷ 20 ∷ 26 ∷ 11 ∷ 6 ∷ 4 ∷ []

@@ -72,12 +72,17 @@ recordMost = 2 + lengthMost
 abbrev pub figure : Field
 figure = field 8 0 18446744073709551615
 
--- a line of kinds 3 to 7: length, version, kind, group, then CH4, N2O, CO2, excreted N, land N
+-- the kind of a group's subtotal, a line that no record has the kind of
+abbrev pub subtotalKind : ℕ
+subtotalKind = 16
+
+-- a line but the close's: length, version, kind, group, then CH4, N2O, CO2, excreted N, land N
 unfoldable pub lineFields : List Field
 lineFields =
     field 2 44 44
     ∷ field 1 1 1
-    ∷ field 1 3 7
+    -- a detail's kind, 3 to 7, or the subtotal's; no line has one between
+    ∷ field 1 3 subtotalKind
     ∷ field 2 0 65535
     ∷ figure
     ∷ figure

@@ -26,7 +26,7 @@ fn put_figures(out: &mut [u8], at: usize, ch4: u64, n2o: u64, co2: u64, excreted
     put8(out, at + 38, land);
 }
 
-// The line of a record of kinds 3 to 7.
+// The line of a detail or of a subtotal.
 pub fn put_line(
     out: &mut [u8],
     at: usize,
