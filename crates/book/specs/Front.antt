@@ -5,6 +5,7 @@ use mathlib.Core.List.{List}
 use mathlib.Core.Bool.{Bool, _||_}
 use lib.ListN.{length}
 use lib.Dec.{ltb}
+use Rattle.codec.specs.Table.{lengthMost}
 use Rattle.codec.specs.Codec.{pick, valAt}
 
 -- what some bytes are at their front: the beginning of a record, a length that no record has, or a whole record
@@ -19,7 +20,7 @@ need xs = valAt xs 0 2 + 2
 
 -- length outside 4..26
 abbrev pub bad : List ℕ → Bool
-bad xs = ltb (valAt xs 0 2) 4 || ltb 26 (valAt xs 0 2)
+bad xs = ltb (valAt xs 0 2) 4 || ltb lengthMost (valAt xs 0 2)
 
 -- with fewer than two bytes there is no length yet; with two it is judged; a record is whole when its length is fulfilled
 unfoldable pub front : List ℕ → Front

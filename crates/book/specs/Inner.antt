@@ -5,6 +5,7 @@ use mathlib.Core.List.{List, [], _++_}
 use mathlib.Core.Bool.{true, false}
 use lib.ListN.{length, take, drop}
 use lib.Seq.{paste}
+use Rattle.codec.specs.Table.{recordMost}
 use Rattle.codec.specs.Codec.{valAt}
 use Rattle.account.specs.declared.Account.{Account}
 use Rattle.account.specs.Judge.{judge, refused}
@@ -31,8 +32,8 @@ pub record Ready (xs : List ℕ) (n : ℕ) : Type 0 where
 -- k bytes of src stand in rec′ behind the first n of rec, up to goal bytes or the end of src
 pub record Filled (rec rec′ : List ℕ) (n goal : ℕ) (src : List ℕ) (k : ℕ) : Type 0 where
   pub inside : k ≤ length src
-  pub bound : n + k ≤ 28
-  pub array : length rec′ ≡ 28
+  pub bound : n + k ≤ recordMost
+  pub array : length rec′ ≡ recordMost
   pub bytes : rec′ ≡ paste rec n src k
   pub upto : n ≤ goal → n + k ≤ goal
   pub end : n + k < goal → k ≡ length src
@@ -41,7 +42,7 @@ pub record Filled (rec rec′ : List ℕ) (n goal : ℕ) (src : List ℕ) (k : �
 pub record Gathered (held xs rec : List ℕ) (n : ℕ) : Type 0 where
   pub least : length held < n
   pub array : n ≤ length rec
-  pub places : length rec ≡ 28
+  pub places : length rec ≡ recordMost
   pub inside : n - length held ≤ length xs
   pub bytes : take n rec ≡ held ++ take (n - length held) xs
 

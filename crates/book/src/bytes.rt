@@ -1,9 +1,11 @@
 // Bytes moved and looked at, with no regard to what they mean.
+use codec::RECORD_MOST;
 use codec::numbers::be32;
 ghost use mathlib.Core.Path.{_≡_};
 ghost use mathlib.Core.List.{_++_};
 ghost use Prim.Native.Nat.{_-_, _≤_};
 ghost use lib.ListN.{length, take, drop, replicate};
+ghost use Rattle.codec.specs.Table.{recordMost};
 ghost use Rattle.book.specs.State.{zeros};
 ghost use Rattle.book.specs.Inner.{Filled};
 
@@ -52,8 +54,8 @@ pub(crate) fn zeroed(a: [u8; 27], n: usize) -> bool
 }
 
 // Bytes of src from its start go into rec behind n bytes, up to goal bytes or the end of src; how many they are.
-pub(crate) fn fill(rec: &mut [u8; 28], n: usize, goal: usize, src: &[u8]) -> usize
-    requires { ⌜ (n ≤ 28) × (goal ≤ 28) × (length (now rec) ≡ 28) ⌝ }
+pub(crate) fn fill(rec: &mut [u8; RECORD_MOST], n: usize, goal: usize, src: &[u8]) -> usize
+    requires { ⌜ (n ≤ recordMost) × (goal ≤ recordMost) × (length (now rec) ≡ recordMost) ⌝ }
     ensures { λ k. ⌜ Filled (now (rec .entry)) (now (rec .exit)) n goal (now (src .entry)) k ⌝ }
 {
     let mut k = 0;

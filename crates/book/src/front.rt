@@ -1,4 +1,5 @@
 // Where a record ends.
+use codec::LENGTH_MOST;
 use codec::numbers::be16;
 ghost use mathlib.Core.Path.{_≡_};
 ghost use Prim.Native.Nat.{_≤_};
@@ -15,7 +16,7 @@ pub(crate) fn front_of(s: &[u8], n: usize) -> u8
         return 0;
     }
     let length = be16(s, 0);
-    if (length < 4) | (26 < length) {
+    if (length < 4) | (LENGTH_MOST < length) {
         return 1;
     }
     if n < (length as usize) + 2 { 0 } else { 2 }

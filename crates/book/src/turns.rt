@@ -7,11 +7,13 @@ use crate::bytes::rest_of;
 use crate::front::front_of;
 use crate::records::judge_all;
 use account::Account;
+use codec::RECORD_MOST;
 use codec::numbers::be16;
 ghost use mathlib.Core.Path.{_≡_};
 ghost use mathlib.Core.List.{[]};
 ghost use Prim.Native.Nat.{_+_, _-_, _≤_, _<_};
 ghost use lib.ListN.{length, take, drop};
+ghost use Rattle.codec.specs.Table.{lengthMost, recordMost};
 ghost use Rattle.codec.specs.Codec.{pick, valAt};
 ghost use lib.Dec.{eqb};
 ghost use Rattle.book.specs.Front.{front};
@@ -55,7 +57,7 @@ fn idle(account: Account) -> State
 
 // How many bytes of src are held: all of an unfinished record, all but the last of a whole one.
 fn unread(src: &[u8], front: u8) -> usize
-    requires { ⌜ (front ≡ 2 → (2 ≤ length (now src)) × (valAt (now src) 0 2 ≤ 26)) ⌝ }
+    requires { ⌜ (front ≡ 2 → (2 ≤ length (now src)) × (valAt (now src) 0 2 ≤ lengthMost)) ⌝ }
     ensures { λ n. ⌜ n ≡ pick (eqb front 2) (valAt (now (src .entry)) 0 2 + 1) (length (now (src .entry))) ⌝ }
 {
     if front == 2 {
@@ -65,15 +67,15 @@ fn unread(src: &[u8], front: u8) -> usize
 }
 
 impl State {
-    // The bytes held and the next of src, 28 at most: any record that the held bytes begin is whole in them. How many they are.
-    fn gather(self, bytes: &mut [u8; 28], src: &[u8]) -> usize
-        requires { ⌜ InRange self × (0 < length (now src)) × (length (now bytes) ≡ 28) ⌝ }
+    // The bytes held and the next of src, as many as the longest record has at most: any record that the held bytes begin is whole in them. How many they are.
+    fn gather(self, bytes: &mut [u8; RECORD_MOST], src: &[u8]) -> usize
+        requires { ⌜ InRange self × (0 < length (now src)) × (length (now bytes) ≡ recordMost) ⌝ }
         ensures { λ n. ⌜ Gathered (heldOf self) (now (src .entry)) (now (bytes .exit)) n ⌝ }
     {
         let held = self.held;
         let count = self.count;
         fill(bytes, 0, 27, &held);
-        let k = fill(bytes, count, 28, src);
+        let k = fill(bytes, count, RECORD_MOST, src);
         count + k
     }
 
@@ -133,7 +135,7 @@ impl State {
         if self.count == 0 {
             self.turn(rest, out)
         } else {
-            let mut bytes = [0u8; 28];
+            let mut bytes = [0u8; RECORD_MOST];
             let n = self.gather(&mut bytes, rest);
             let src = first_of(&bytes, n);
             self.turn(src, out)

@@ -1,6 +1,6 @@
 -- Laws of a big-endian number: how many bytes it has, and reading what was written.
 -- Assumes nothing.
-use mathlib.Core.Path.{_≡_, refl, _∙_}
+use mathlib.Core.Path.{_≡_, refl, ap, _∙_}
 use mathlib.Core.List.{List, [], _∷_, _++_, append-assoc}
 use Prim.Native.Nat.{ℕ, zero, suc, _+_, _*_, _/_, _%_, _<_, _≤_}
 use native.Mathlib.Omega.{arith}
@@ -66,7 +66,7 @@ unfolding valAt
 valAt-same s t p q zero h = refl
 valAt-same s t p q (suc w) h = rw (valAt-same s t p q w (λ k l. h k (omega arith)), h w (omega arith))
 
--- ---- the sums that be8, be16 and be32 compute
+-- ---- the sums that be8, be16, be32 and be64 compute
 
 module _ (s : List ℕ) (at a : ℕ) (ea : a ≡ getD s at 0) where
   pub one-byte : a ≡ valAt s at 1
@@ -81,3 +81,13 @@ module _ (s : List ℕ) (at a : ℕ) (ea : a ≡ getD s at 0) where
     pub four-bytes : (c d : ℕ) → c ≡ getD s (at + 2) 0 → d ≡ getD s (at + 3) 0 → ((a * 256 + b) * 256 + c) * 256 + d ≡ valAt s at 4
     unfolding valAt
     four-bytes c d ec ed = rw (ea, eb, ec, ed, add-zero) (omega arith)
+
+pub eight-bytes : (s : List ℕ) (at h l : ℕ) → h ≡ valAt s at 4 → l ≡ valAt s (at + 4) 4 → h * 4294967296 + l ≡ valAt s at 8
+unfolding valAt
+eight-bytes s at h l eh el =
+    let byte : (i j : ℕ) → i ≡ j → getD s i 0 ≡ getD s j 0 = λ i j e. ap (λ (n : ℕ). getD s n 0) e in
+    let b4 = byte (at + 4 + 0) (at + 4) (omega arith) in
+    let b5 = byte (at + 4 + 1) (at + 5) (omega arith) in
+    let b6 = byte (at + 4 + 2) (at + 6) (omega arith) in
+    let b7 = byte (at + 4 + 3) (at + 7) (omega arith) in
+    omega arith

@@ -7,12 +7,12 @@ use native.Mathlib.Omega.{arith}
 use lib.ListN.{length, getD, take, drop, length-append, length-drop, take-append-drop}
 use lib.Seq.{sets, take-all, length-take-le, take-add, drop-drop, drop-cons}
 use Rattle.codec.specs.declared.Field.{Field}
-use Rattle.codec.specs.Table.{fields, size, lengthOf, lineFields, totalFields}
-use Rattle.codec.specs.Codec.{room, valAt, be, valuesAt, bytesOf, firstBad, recordBytes, lineBytes, totalBytes}
+use Rattle.codec.specs.Table.{fields, size, lengthOf, lineFields, totalFields, lineSize, totalSize}
+use Rattle.codec.specs.Codec.{room, valAt, be, valuesAt, bytesOf, firstBad, recordBytes, lineValues, lineBytes, totalValues, totalBytes}
 use Rattle.codec.proofs.BigEndian.{Bytes, bytes-append, be-bytes, be-length, valAt-be, be-valAt}
 use Rattle.codec.proofs.Stores.{sets-at}
 use Rattle.codec.proofs.Values.{bytes-length, bytes-bytes}
-use Rattle.codec.proofs.Rows.{Fit, fit-kind, length-most}
+use Rattle.codec.proofs.Rows.{Fit, fit-kind, fit-line, fit-total, length-most, sizes, counts}
 
 -- ---- values, bytes, values
 
@@ -34,6 +34,10 @@ values-bytes (g ∷ fs) vs i p q f h =
 -- between any bytes p and q
 pub values-back : (fs : List Field) (vs p q : List ℕ) → Fit fs vs 0 → length vs ≡ length fs → valuesAt fs (p ++ (bytesOf fs vs 0 ++ q)) (length p) ≡ vs
 values-back fs vs p q f n = values-bytes fs vs 0 p q f (omega arith) ∙ take-all (length fs) vs (omega arith)
+
+-- with nothing before or behind them
+back : (fs : List Field) (vs : List ℕ) → Fit fs vs 0 → length vs ≡ length fs → valuesAt fs (bytesOf fs vs 0) 0 ≡ vs
+back fs vs f n = rw (append-nil (bytesOf fs vs 0)) at (values-back fs vs [] [] f n)
 
 -- in the slice that they were written to
 pub decode-encode : (fs : List Field) (vs l : List ℕ) (at : ℕ) → Fit fs vs 0 → length vs ≡ length fs → at + size fs ≤ length l
@@ -115,11 +119,24 @@ record-whole kind vs h =
       kind-is = valAt-be 1 kind (be 2 (lengthOf kind) ++ be 1 1) fs (omega arith);
     }
 
--- a line is 46 bytes, the close's 54
-pub line-length : (kind group ch4 n2o co2 excreted land : ℕ) → length (lineBytes kind group ch4 n2o co2 excreted land) ≡ 46
-unfolding lineBytes lineFields size
-line-length kind group ch4 n2o co2 excreted land = bytes-length lineFields (44 ∷ 1 ∷ kind ∷ group ∷ ch4 ∷ n2o ∷ co2 ∷ excreted ∷ land ∷ []) 0
+-- a line: how many bytes it has; its values, in the ranges of its row, written and read again
+module _ (kind group ch4 n2o co2 excreted land : ℕ) where
+  pub line-length : length (lineBytes kind group ch4 n2o co2 excreted land) ≡ lineSize
+  unfolding lineBytes
+  line-length = bytes-length lineFields (lineValues kind group ch4 n2o co2 excreted land) 0 ∙ sizes .0
 
-pub total-length : (ch4 n2o co2 excreted land co2e : ℕ) → length (totalBytes ch4 n2o co2 excreted land co2e) ≡ 54
-unfolding totalBytes totalFields size
-total-length ch4 n2o co2 excreted land co2e = bytes-length totalFields (52 ∷ 1 ∷ 8 ∷ 0 ∷ ch4 ∷ n2o ∷ co2 ∷ excreted ∷ land ∷ co2e ∷ []) 0
+  pub line-back : firstBad lineFields (lineValues kind group ch4 n2o co2 excreted land) 0 ≡ 0
+      → valuesAt lineFields (lineBytes kind group ch4 n2o co2 excreted land) 0 ≡ lineValues kind group ch4 n2o co2 excreted land
+  unfolding lineBytes
+  line-back p = back lineFields (lineValues kind group ch4 n2o co2 excreted land) (fit-line (lineValues kind group ch4 n2o co2 excreted land) p) (counts .0)
+
+-- and the close's
+module _ (ch4 n2o co2 excreted land co2e : ℕ) where
+  pub total-length : length (totalBytes ch4 n2o co2 excreted land co2e) ≡ totalSize
+  unfolding totalBytes
+  total-length = bytes-length totalFields (totalValues ch4 n2o co2 excreted land co2e) 0 ∙ sizes .1
+
+  pub total-back : firstBad totalFields (totalValues ch4 n2o co2 excreted land co2e) 0 ≡ 0
+      → valuesAt totalFields (totalBytes ch4 n2o co2 excreted land co2e) 0 ≡ totalValues ch4 n2o co2 excreted land co2e
+  unfolding totalBytes
+  total-back p = back totalFields (totalValues ch4 n2o co2 excreted land co2e) (fit-total (totalValues ch4 n2o co2 excreted land co2e) p) (counts .1)

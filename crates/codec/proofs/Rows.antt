@@ -3,12 +3,12 @@
 use mathlib.Core.Path.{_≡_, refl}
 use mathlib.Core.Bool.{Bool, true, false}
 use mathlib.Core.List.{List, [], _∷_, map}
-use Prim.Native.Nat.{ℕ, zero, suc, _<_, _≤_}
+use Prim.Native.Nat.{ℕ, zero, suc, _+_, _<_, _≤_}
 use native.Mathlib.Omega.{arith}
 use lib.Dec.{T, leb, ltb, leb→le, ltb→lt}
-use lib.ListN.{getD}
+use lib.ListN.{length, getD}
 use Rattle.codec.specs.declared.Field.{Field}
-use Rattle.codec.specs.Table.{table, fields, size, lengthOf, lineFields, totalFields}
+use Rattle.codec.specs.Table.{table, fields, lastKind, size, lengthOf, lengthMost, lineFields, totalFields, lineSize, totalSize}
 use Rattle.codec.specs.Codec.{room, firstBad, pick}
 use Rattle.codec.proofs.Within.{first-within}
 
@@ -22,9 +22,9 @@ right-row : List Field → Bool
 right-row [] = true
 right-row (f ∷ fs) = pick (right-field f) (right-row fs) false
 
--- the fields take at most 24 bytes
+-- with version and kind the fields take no more bytes than the highest length
 short-row : List Field → Bool
-short-row r = leb (size r) 24
+short-row r = leb (2 + size r) lengthMost
 
 every : (List Field → Bool) → List (List Field) → Bool
 every p [] = true
@@ -35,10 +35,30 @@ checked : T (every right-row (lineFields ∷ totalFields ∷ table)) × T (every
 unfolding right-field right-row short-row every table lineFields totalFields room size
 checked = (tt, tt)
 
+-- the rows of lines take as many bytes as a line has
+pub sizes : (size lineFields ≡ lineSize) × (size totalFields ≡ totalSize)
+unfolding lineFields totalFields size
+sizes = (refl, refl)
+
+-- and have as many values
+pub counts : (9 ≡ length lineFields) × (10 ≡ length totalFields)
+unfolding lineFields totalFields
+counts = (refl, refl)
+
 -- document 01's lengths, kinds 1 to 8
 pub lengths : map lengthOf (1 ∷ 2 ∷ 3 ∷ 4 ∷ 5 ∷ 6 ∷ 7 ∷ 8 ∷ []) ≡ 9 ∷ 7 ∷ 10 ∷ 20 ∷ 26 ∷ 11 ∷ 6 ∷ 4 ∷ []
 unfolding table size
 lengths = refl
+
+past : (n k : ℕ) → n ≤ k → (k ≡ n → ⊥) → suc n ≤ k
+past n k l h = omega arith
+
+-- the kind that is none of the first seven is the eighth
+pub eighth : (k : ℕ) → 1 ≤ k → k ≤ lastKind → (k ≡ 1 → ⊥) → (k ≡ 2 → ⊥) → (k ≡ 3 → ⊥) → (k ≡ 4 → ⊥) → (k ≡ 5 → ⊥) → (k ≡ 6 → ⊥) → (k ≡ 7 → ⊥)
+    → k ≡ 8
+eighth k l m h1 h2 h3 h4 h5 h6 h7 =
+    let n = past 7 k (past 6 k (past 5 k (past 4 k (past 3 k (past 2 k (past 1 k l h1) h2) h3) h4) h5) h6) h7 in
+    omega arith
 
 -- ---- what follows from it at each row
 
@@ -60,10 +80,10 @@ right-at : (k : ℕ) → T (right-row (getD (lineFields ∷ totalFields ∷ tabl
 unfolding right-row
 right-at = row-at right-row tt (lineFields ∷ totalFields ∷ table) (checked .0)
 
--- no record is longer than 26
-pub length-most : (kind : ℕ) → lengthOf kind ≤ 26
+-- no record has a higher length
+pub length-most : (kind : ℕ) → lengthOf kind ≤ lengthMost
 unfolding short-row size
-length-most kind = omega (arith, leb→le (size (fields kind)) 24 (row-at short-row tt table (checked .1) kind))
+length-most kind = leb→le (lengthOf kind) lengthMost (row-at short-row tt table (checked .1) kind)
 
 -- each value from i fits the bytes of its field
 abbrev pub Fit : List Field → List ℕ → ℕ → Type 0

@@ -4,8 +4,8 @@ use mathlib.Core.Path.{_≡_, refl}
 use mathlib.Core.List.{List, [], _∷_, _++_}
 use Prim.Native.Nat.{ℕ}
 use lib.ListN.{replicate}
-use Rattle.codec.specs.Table.{table, fields, size, lineFields}
-use Rattle.codec.specs.Codec.{valAt, be, valuesAt, bytesOf, firstBad, recordBytes, lineBytes}
+use Rattle.codec.specs.Table.{table, fields, size, lineFields, subtotalKind}
+use Rattle.codec.specs.Codec.{valAt, be, valuesAt, bytesOf, firstBad, recordBytes, lineValues, lineBytes}
 
 -- 000A0103001F00007530028A
 abbrev pub enteric : List ℕ
@@ -30,3 +30,8 @@ tested = refl
 pub line : lineBytes 3 12 434501 0 0 0 0 ≡ (0 ∷ 44 ∷ 1 ∷ 3 ∷ 0 ∷ 12 ∷ 0 ∷ 0 ∷ 0 ∷ 0 ∷ 0 ∷ 6 ∷ 161 ∷ 69 ∷ []) ++ replicate 32 0
 unfolding lineBytes bytesOf lineFields be
 line = refl
+
+-- a subtotal's values are in the ranges of its row
+pub subtotal : firstBad lineFields (lineValues subtotalKind 12 434501 0 0 0 0) 0 ≡ 0
+unfolding firstBad lineFields
+subtotal = refl

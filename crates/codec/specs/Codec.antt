@@ -7,7 +7,7 @@ use mathlib.Core.List.{List, [], _∷_, _++_}
 use lib.ListN.{getD}
 use lib.Dec.{leb}
 use Rattle.codec.specs.declared.Field.{Field}
-use Rattle.codec.specs.Table.{fields, lengthOf, lineFields, totalFields}
+use Rattle.codec.specs.Table.{fields, lengthOf, lineFields, totalFields, lineSize, totalSize, isTotal}
 
 -- the first where the test holds, else the second
 abbrev pub pick : {A : Type 0} → Bool → A → A → A
@@ -49,12 +49,24 @@ firstBad (f ∷ fs) vs i =
 unfoldable pub recordBytes : ℕ → List ℕ → List ℕ
 recordBytes kind vs = be 2 (lengthOf kind) ++ (be 1 1 ++ (be 1 kind ++ bytesOf (fields kind) vs 0))
 
--- a line of kinds 3 to 7: length 44, version 1, kind, group, then the five figures
+-- a line of a detail or a subtotal: length 44, version 1, kind, group, then the five figures
+abbrev pub lineValues : ℕ → ℕ → ℕ → ℕ → ℕ → ℕ → ℕ → List ℕ
+lineValues kind group ch4 n2o co2 excreted land = 44 ∷ 1 ∷ kind ∷ group ∷ ch4 ∷ n2o ∷ co2 ∷ excreted ∷ land ∷ []
+
 unfoldable pub lineBytes : ℕ → ℕ → ℕ → ℕ → ℕ → ℕ → ℕ → List ℕ
-lineBytes kind group ch4 n2o co2 excreted land =
-    bytesOf lineFields (44 ∷ 1 ∷ kind ∷ group ∷ ch4 ∷ n2o ∷ co2 ∷ excreted ∷ land ∷ []) 0
+lineBytes kind group ch4 n2o co2 excreted land = bytesOf lineFields (lineValues kind group ch4 n2o co2 excreted land) 0
 
 -- the close's line: length 52, version 1, kind 8, group 0, the five sums, CO2e
+abbrev pub totalValues : ℕ → ℕ → ℕ → ℕ → ℕ → ℕ → List ℕ
+totalValues ch4 n2o co2 excreted land co2e = 52 ∷ 1 ∷ 8 ∷ 0 ∷ ch4 ∷ n2o ∷ co2 ∷ excreted ∷ land ∷ co2e ∷ []
+
 unfoldable pub totalBytes : ℕ → ℕ → ℕ → ℕ → ℕ → ℕ → List ℕ
-totalBytes ch4 n2o co2 excreted land co2e =
-    bytesOf totalFields (52 ∷ 1 ∷ 8 ∷ 0 ∷ ch4 ∷ n2o ∷ co2 ∷ excreted ∷ land ∷ co2e ∷ []) 0
+totalBytes ch4 n2o co2 excreted land co2e = bytesOf totalFields (totalValues ch4 n2o co2 excreted land co2e) 0
+
+-- the bytes of the line at the front of xs
+abbrev pub frontSize : List ℕ → ℕ
+frontSize xs = pick (isTotal xs) totalSize lineSize
+
+-- the fields of the line at the front of xs
+abbrev pub frontFields : List ℕ → List Field
+frontFields xs = pick (isTotal xs) totalFields lineFields

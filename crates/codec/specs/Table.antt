@@ -1,8 +1,11 @@
 -- Document 01, "The book" (the table of the eight kinds) and "Lines, calls and state" (the two sorts of line), as data.
 -- Assumes nothing.
-use Prim.Native.Nat.{ℕ, _+_}
+use Prim.Native.Nat.{ℕ, _+_, _≤_}
+use mathlib.Core.Path.{_≡_}
+use mathlib.Core.Bool.{Bool}
 use mathlib.Core.List.{List, [], _∷_}
-use lib.ListN.{getD}
+use lib.Dec.{eqb}
+use lib.ListN.{length, getD}
 use Rattle.codec.specs.declared.Field.{Field}
 
 -- a field: how many bytes it has, its lowest and its highest value
@@ -39,6 +42,16 @@ table =
 abbrev pub fields : ℕ → List Field
 fields kind = getD table kind []
 
+-- the highest kind
+abbrev pub lastKind : ℕ
+lastKind = 8
+
+-- v are values of kind k, as many as its fields
+pub record Of (k : ℕ) (v : List ℕ) : Type 0 where
+  pub least : 1 ≤ k
+  pub most : k ≤ lastKind
+  pub count : length v ≡ length (fields k)
+
 -- how many bytes the fields take
 unfoldable pub size : List Field → ℕ
 size [] = 0
@@ -48,16 +61,28 @@ size (f ∷ fs) = f .0 + size fs
 abbrev pub lengthOf : ℕ → ℕ
 lengthOf kind = 2 + size (fields kind)
 
+-- the highest length, and the bytes of the longest record, the two of its length among them
+abbrev pub lengthMost : ℕ
+lengthMost = 26
+
+abbrev pub recordMost : ℕ
+recordMost = 2 + lengthMost
+
 -- a figure of a line: grams
 abbrev pub figure : Field
 figure = field 8 0 18446744073709551615
 
--- a line of kinds 3 to 7: length, version, kind, group, then CH4, N2O, CO2, excreted N, land N
+-- the kind of a group's subtotal, a line that no record has the kind of
+abbrev pub subtotalKind : ℕ
+subtotalKind = 16
+
+-- a line but the close's: length, version, kind, group, then CH4, N2O, CO2, excreted N, land N
 unfoldable pub lineFields : List Field
 lineFields =
     field 2 44 44
     ∷ field 1 1 1
-    ∷ field 1 3 7
+    -- a detail's kind, 3 to 7, or the subtotal's; no line has one between
+    ∷ field 1 3 subtotalKind
     ∷ field 2 0 65535
     ∷ figure
     ∷ figure
@@ -80,3 +105,17 @@ totalFields =
     ∷ figure
     ∷ figure
     ∷ []
+
+-- the bytes of a line, those of the close's line, and the most that one record gives: a subtotal and the close's line
+abbrev pub lineSize : ℕ
+lineSize = 46
+
+abbrev pub totalSize : ℕ
+totalSize = 54
+
+abbrev pub linesMost : ℕ
+linesMost = lineSize + totalSize
+
+-- the line at the front of some bytes is the close's: its kind is 8
+abbrev pub isTotal : List ℕ → Bool
+isTotal xs = eqb (getD xs 3 0) 8

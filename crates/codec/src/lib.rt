@@ -1,9 +1,33 @@
 // Values and bytes of records and lines: the fields are those of specs/Table.antt. What a record means is not known here.
 pub mod numbers; // numbers.rt: big-endian numbers
-pub mod read; // read.rt: the values of a record's fields, a function for each kind
-pub mod ranges; // ranges.rt: the first value out of its range, a function for each kind
-pub mod write; // write.rt: a whole record from its values, a function for each kind
-pub mod lines; // lines.rt: a line from its figures
+mod start; // start.rt: what every record and every line begins with
+
+// A file for each kind: its values from its bytes, the first value out of its range, its bytes from its values.
+pub mod cattle;
+pub mod close;
+pub mod energy;
+pub mod enteric;
+pub mod farm;
+pub mod heading;
+pub mod pig;
+pub mod soil;
+pub mod kinds; // kinds.rt: how many values and bytes each kind has
+pub mod lines; // lines.rt: a line from its figures, and its numbers from its bytes
+
+// The highest kind.
+pub const LAST_KIND: u64 = 8;
+
+// The highest length of a record, and the bytes of the longest.
+pub const LENGTH_MOST: u64 = 26;
+
+pub const RECORD_MOST: usize = 28;
+
+// The bytes of a line, of the close's line, and the most that one record gives: a subtotal and the close's line.
+pub const LINE_SIZE: usize = 46;
+
+pub const TOTAL_SIZE: usize = 54;
+
+pub const LINES_MOST: usize = 100;
 
 // A field: how many bytes it has, its lowest and its highest value.
 pub struct Field(pub usize, pub u64, pub u64);

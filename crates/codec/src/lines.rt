@@ -1,16 +1,22 @@
-// A line from its figures, held to its row of the table.
+// A line from its figures, and its numbers from its bytes, held to its row of the table.
+use crate::LINE_SIZE;
+use crate::TOTAL_SIZE;
+use crate::numbers::be8;
+use crate::numbers::be16;
+use crate::numbers::be64;
 use crate::numbers::put2;
 use crate::numbers::put8;
-use crate::write::start;
+use crate::start::put_start;
 ghost use mathlib.Core.Path.{_≡_};
 ghost use Prim.Native.Nat.{_+_, _≤_};
-ghost use lib.ListN.{length};
+ghost use lib.ListN.{drop, length};
 ghost use lib.Seq.{sets};
-ghost use Rattle.codec.specs.Codec.{be, lineBytes, totalBytes};
+ghost use Rattle.codec.specs.Table.{lineFields, lineSize, totalFields, totalSize};
+ghost use Rattle.codec.specs.Codec.{be, frontSize, lineBytes, totalBytes, valuesAt};
 
 // The five figures of the line that begins at `at`.
-fn five(out: &mut [u8], at: usize, ch4: u64, n2o: u64, co2: u64, excreted: u64, land: u64)
-    requires { ⌜ at + 46 ≤ length (now out) ⌝ }
+fn put_figures(out: &mut [u8], at: usize, ch4: u64, n2o: u64, co2: u64, excreted: u64, land: u64)
+    requires { ⌜ at + lineSize ≤ length (now out) ⌝ }
     ensures { λ _. ⌜ now (out .exit) ≡ sets (sets (sets (sets (sets (now (out .entry)) (at + 6) (be 8 ch4)) (at + 14) (be 8 n2o)) (at + 22) (be 8 co2)) (at + 30) (be 8 excreted)) (at + 38) (be 8 land) ⌝ }
 {
     put8(out, at + 6, ch4);
@@ -20,7 +26,7 @@ fn five(out: &mut [u8], at: usize, ch4: u64, n2o: u64, co2: u64, excreted: u64, 
     put8(out, at + 38, land);
 }
 
-// The line of a record of kinds 3 to 7.
+// The line of a detail or of a subtotal.
 pub fn put_line(
     out: &mut [u8],
     at: usize,
@@ -32,12 +38,12 @@ pub fn put_line(
     excreted: u64,
     land: u64,
 )
-    requires { ⌜ at + 46 ≤ length (now out) ⌝ }
+    requires { ⌜ at + lineSize ≤ length (now out) ⌝ }
     ensures { λ _. ⌜ now (out .exit) ≡ sets (now (out .entry)) at (lineBytes kind group ch4 n2o co2 excreted land) ⌝ }
 {
-    start(out, at, 44, kind as u64);
+    put_start(out, at, 44, kind as u64);
     put2(out, at + 4, group as u64);
-    five(out, at, ch4, n2o, co2, excreted, land);
+    put_figures(out, at, ch4, n2o, co2, excreted, land);
 }
 
 // The line of the close.
@@ -51,11 +57,52 @@ pub fn put_total(
     land: u64,
     co2e: u64,
 )
-    requires { ⌜ at + 54 ≤ length (now out) ⌝ }
+    requires { ⌜ at + totalSize ≤ length (now out) ⌝ }
     ensures { λ _. ⌜ now (out .exit) ≡ sets (now (out .entry)) at (totalBytes ch4 n2o co2 excreted land co2e) ⌝ }
 {
-    start(out, at, 52, 8);
+    put_start(out, at, 52, 8);
     put2(out, at + 4, 0);
-    five(out, at, ch4, n2o, co2, excreted, land);
+    put_figures(out, at, ch4, n2o, co2, excreted, land);
     put8(out, at + 46, co2e);
+}
+
+// Kind, group and the five figures.
+pub fn detail_numbers(line: &[u8]) -> [u64; 7]
+    requires { ⌜ lineSize ≤ length (now line) ⌝ }
+    ensures { λ r. ⌜ r ≡ drop 2 (valuesAt lineFields (now (line .entry)) 0) ⌝ }
+{
+    [
+        be8(line, 3),
+        be16(line, 4),
+        be64(line, 6),
+        be64(line, 14),
+        be64(line, 22),
+        be64(line, 30),
+        be64(line, 38),
+    ]
+}
+
+// Kind, group, the five sums and CO2e.
+pub fn total_numbers(line: &[u8]) -> [u64; 8]
+    requires { ⌜ totalSize ≤ length (now line) ⌝ }
+    ensures { λ r. ⌜ r ≡ drop 2 (valuesAt totalFields (now (line .entry)) 0) ⌝ }
+{
+    [
+        be8(line, 3),
+        be16(line, 4),
+        be64(line, 6),
+        be64(line, 14),
+        be64(line, 22),
+        be64(line, 30),
+        be64(line, 38),
+        be64(line, 46),
+    ]
+}
+
+// The bytes of the line at the front of s.
+pub fn front_size(s: &[u8]) -> usize
+    requires { ⌜ lineSize ≤ length (now s) ⌝ }
+    ensures { λ n. ⌜ n ≡ frontSize (now (s .entry)) ⌝ }
+{
+    if s[3] == 8 { TOTAL_SIZE } else { LINE_SIZE }
 }

@@ -15,7 +15,7 @@ pub fn farm(a: Account, r: &[u8], room: usize) -> Judged
     if r.len() != 11 {
         return wrong(a, 4, 0);
     }
-    weighing::farm(a, codec::read::farm(r, 4), room)
+    weighing::farm(a, codec::farm::read(r, 4), room)
 }
 
 pub fn heading(a: Account, r: &[u8], room: usize) -> Judged
@@ -25,7 +25,7 @@ pub fn heading(a: Account, r: &[u8], room: usize) -> Judged
     if r.len() != 9 {
         return wrong(a, 4, 0);
     }
-    weighing::heading(a, codec::read::heading(r, 4), room)
+    weighing::heading(a, codec::heading::read(r, 4), room)
 }
 
 pub fn enteric(a: Account, r: &[u8], room: usize) -> Judged
@@ -35,7 +35,7 @@ pub fn enteric(a: Account, r: &[u8], room: usize) -> Judged
     if r.len() != 12 {
         return wrong(a, 4, 0);
     }
-    weighing::enteric(a, codec::read::enteric(r, 4), room)
+    weighing::enteric(a, codec::enteric::read(r, 4), room)
 }
 
 pub fn cattle(a: Account, r: &[u8], room: usize) -> Judged
@@ -45,7 +45,7 @@ pub fn cattle(a: Account, r: &[u8], room: usize) -> Judged
     if r.len() != 22 {
         return wrong(a, 4, 0);
     }
-    weighing::cattle(a, codec::read::cattle(r, 4), room)
+    weighing::cattle(a, codec::cattle::read(r, 4), room)
 }
 
 pub fn pig(a: Account, r: &[u8], room: usize) -> Judged
@@ -55,7 +55,7 @@ pub fn pig(a: Account, r: &[u8], room: usize) -> Judged
     if r.len() != 28 {
         return wrong(a, 4, 0);
     }
-    weighing::pig(a, codec::read::pig(r, 4), room)
+    weighing::pig(a, codec::pig::read(r, 4), room)
 }
 
 pub fn energy(a: Account, r: &[u8], room: usize) -> Judged
@@ -65,7 +65,7 @@ pub fn energy(a: Account, r: &[u8], room: usize) -> Judged
     if r.len() != 13 {
         return wrong(a, 4, 0);
     }
-    weighing::energy(a, codec::read::energy(r, 4), room)
+    weighing::energy(a, codec::energy::read(r, 4), room)
 }
 
 pub fn soil(a: Account, r: &[u8], room: usize) -> Judged
@@ -75,7 +75,7 @@ pub fn soil(a: Account, r: &[u8], room: usize) -> Judged
     if r.len() != 8 {
         return wrong(a, 4, 0);
     }
-    weighing::soil(a, codec::read::soil(r, 4), room)
+    weighing::soil(a, codec::soil::read(r, 4), room)
 }
 
 pub fn close(a: Account, r: &[u8], room: usize) -> Judged
@@ -85,5 +85,5 @@ pub fn close(a: Account, r: &[u8], room: usize) -> Judged
     if r.len() != 6 {
         return wrong(a, 4, 0);
     }
-    weighing::close(a, codec::read::close(r, 4), room)
+    weighing::close(a, codec::close::read(r, 4), room)
 }

@@ -1,4 +1,4 @@
--- Laws of the lister's text: numbers of eight bytes, and the text of lines by the one at their front.
+-- Laws of the lister's text: the text of lines by the one at their front.
 use Prim.Native.Nat.{ℕ, zero, suc, _+_, _*_, _≤_, _<_}
 use mathlib.Core.Path.{_≡_, refl, ap, sym, _∙_}
 use mathlib.Core.List.{List, [], _∷_, _++_}
@@ -8,8 +8,8 @@ use borrow.Author.Tests.{ltb-false, lt-ltb, le-ltb, eq-eqb, ne-eqb}
 use lib.ListN.{length, getD, take, drop, length-drop}
 use lib.Seq.{drop-drop, take-append-seam}
 use lib.Dec.{ltb}
-use Rattle.codec.specs.Table.{lineFields, totalFields}
-use Rattle.codec.specs.Codec.{pick, valAt, valuesAt}
+use Rattle.codec.specs.Table.{lineFields, totalFields, lineSize, totalSize, isTotal}
+use Rattle.codec.specs.Codec.{valuesAt, frontSize}
 use Rattle.account.proofs.Tests.{by-test}
 use Rattle.account.specs.declared.Account.{Account}
 use Rattle.book.specs.declared.State.{State}
@@ -17,20 +17,10 @@ use Rattle.book.specs.declared.Fed.{Fed}
 use Rattle.book.specs.Call.{call, fedOf, laid}
 use Rattle.text.specs.Decimal.{numbersLine, Put}
 use Rattle.text.proofs.Puts.{none, put-length, and-then}
-use Rattle.listing.specs.Listing.{isTotal, lineSize, lineNumbers, textBy, linesText, closedWord, unfinishedWord, refusedWord, endText, Lists}
+use Rattle.listing.specs.Listing.{lineNumbers, textBy, linesText, closedWord, unfinishedWord, refusedWord, endText, Lists}
 
-pub eight-bytes : (s : List ℕ) (at h l : ℕ) → h ≡ valAt s at 4 → l ≡ valAt s (at + 4) 4 → h * 4294967296 + l ≡ valAt s at 8
-unfolding valAt
-eight-bytes s at h l eh el =
-    let byte : (i j : ℕ) → i ≡ j → getD s i 0 ≡ getD s j 0 = λ i j e. ap (λ (n : ℕ). getD s n 0) e in
-    let b4 = byte (at + 4 + 0) (at + 4) (omega arith) in
-    let b5 = byte (at + 4 + 1) (at + 5) (omega arith) in
-    let b6 = byte (at + 4 + 2) (at + 6) (omega arith) in
-    let b7 = byte (at + 4 + 3) (at + 7) (omega arith) in
-    omega arith
-
-pub size-least : (xs : List ℕ) → 46 ≤ lineSize xs
-size-least xs = by-test (λ (n : ℕ). 46 ≤ n) (isTotal xs) (λ e. omega arith) (λ e. omega arith)
+pub size-least : (xs : List ℕ) → lineSize ≤ frontSize xs
+size-least xs = by-test (λ (n : ℕ). lineSize ≤ n) (isTotal xs) (λ e. omega arith) (λ e. omega arith)
 
 -- the count of lines that bounds a text does not matter, as long as it is above the count of bytes
 same-text : (n m : ℕ) (xs : List ℕ) → length xs < n → length xs < m → textBy n xs ≡ textBy m xs
@@ -38,26 +28,26 @@ unfolding textBy
 same-text zero m xs p q = absurd (omega arith)
 same-text (suc n) zero xs p q = absurd (omega arith)
 same-text (suc n) (suc m) xs p q =
-    by-test (λ (t : List ℕ). t ≡ textBy (suc m) xs) (ltb (length xs) (lineSize xs)) (λ e. rw e)
-    (λ e. rw e (ap (λ (t : List ℕ). numbersLine (lineNumbers xs) ++ t) (same-text n m (drop (lineSize xs) xs) (shorter n p e) (shorter m q e))))
+    by-test (λ (t : List ℕ). t ≡ textBy (suc m) xs) (ltb (length xs) (frontSize xs)) (λ e. rw e)
+    (λ e. rw e (ap (λ (t : List ℕ). numbersLine (lineNumbers xs) ++ t) (same-text n m (drop (frontSize xs) xs) (shorter n p e) (shorter m q e))))
   where
-    shorter : (k : ℕ) → length xs < suc k → ltb (length xs) (lineSize xs) ≡ false → length (drop (lineSize xs) xs) < k
-    shorter k h e = let h2 = ltb-false (length xs) (lineSize xs) e in rw length-drop (omega (arith, size-least xs))
+    shorter : (k : ℕ) → length xs < suc k → ltb (length xs) (frontSize xs) ≡ false → length (drop (frontSize xs) xs) < k
+    shorter k h e = let h2 = ltb-false (length xs) (frontSize xs) e in rw length-drop (omega (arith, size-least xs))
 
-pub text-none : (xs : List ℕ) → length xs < lineSize xs → linesText xs ≡ []
+pub text-none : (xs : List ℕ) → length xs < frontSize xs → linesText xs ≡ []
 unfolding linesText textBy
 text-none xs h = rw (lt-ltb _ _ h)
 
-pub text-some : (xs : List ℕ) → lineSize xs ≤ length xs → linesText xs ≡ numbersLine (lineNumbers xs) ++ linesText (drop (lineSize xs) xs)
+pub text-some : (xs : List ℕ) → frontSize xs ≤ length xs → linesText xs ≡ numbersLine (lineNumbers xs) ++ linesText (drop (frontSize xs) xs)
 unfolding linesText textBy
 text-some xs h =
-    let ys = drop (lineSize xs) xs in
+    let ys = drop (frontSize xs) xs in
     let short : length ys < length xs = rw length-drop (omega (arith, size-least xs)) in
     rw (le-ltb _ _ h) (ap (λ (t : List ℕ). numbersLine (lineNumbers xs) ++ t) (same-text (length xs) (suc (length ys)) ys short (omega arith)))
 
 -- by the kind of the line record at the front
 module _ (xs : List ℕ) (k : getD xs 3 0 ≡ 8) where
-  pub size-total : lineSize xs ≡ 54
+  pub size-total : frontSize xs ≡ totalSize
   size-total = rw (eq-eqb _ _ k)
 
   pub numbers-total : lineNumbers xs ≡ drop 2 (valuesAt totalFields xs 0)
@@ -65,7 +55,7 @@ module _ (xs : List ℕ) (k : getD xs 3 0 ≡ 8) where
   numbers-total = rw (eq-eqb _ _ k)
 
 module _ (xs : List ℕ) (k : getD xs 3 0 ≡ 8 → ⊥) where
-  pub size-detail : lineSize xs ≡ 46
+  pub size-detail : frontSize xs ≡ lineSize
   size-detail = rw (ne-eqb _ _ k)
 
   pub numbers-detail : lineNumbers xs ≡ drop 2 (valuesAt lineFields xs 0)
@@ -87,14 +77,14 @@ putting-none out lines h = record { same = refl; inside = omega arith; room = om
 module _ {out₀ lines out : List ℕ} {i at : ℕ} (g : Putting out₀ lines out i at) where
   module _ {rest : List ℕ} (e : rest ≡ drop i lines) where
     -- no whole line is left
-    pub putting-ends : length rest < lineSize rest → Put out₀ out 0 (linesText lines) at
+    pub putting-ends : length rest < frontSize rest → Put out₀ out 0 (linesText lines) at
     putting-ends h = g .rest out at (rw (← e, text-none rest h) (none out at (omega (arith, g .room, g .inside))))
 
     -- one line of n bytes is put
-    pub putting-on : {out′ : List ℕ} {n r : ℕ} → n ≡ lineSize rest → n ≤ length rest → Put out out′ at (numbersLine (lineNumbers rest)) r
-        → r ≤ at + 4 * lineSize rest → Putting out₀ lines out′ (i + n) r
+    pub putting-on : {out′ : List ℕ} {n r : ℕ} → n ≡ frontSize rest → n ≤ length rest → Put out out′ at (numbersLine (lineNumbers rest)) r
+        → r ≤ at + 4 * frontSize rest → Putting out₀ lines out′ (i + n) r
     putting-on {out′} {n} {r} m h p s =
-        let d : drop (lineSize rest) rest ≡ drop (i + n) lines = ap (λ (k : ℕ). drop k rest) (sym m) ∙ ap (λ (l : List ℕ). drop n l) e ∙ drop-drop n i lines in
+        let d : drop (frontSize rest) rest ≡ drop (i + n) lines = ap (λ (k : ℕ). drop k rest) (sym m) ∙ ap (λ (l : List ℕ). drop n l) e ∙ drop-drop n i lines in
         let t = text-some rest (omega arith) in
         record {
           same = put-length p ∙ g .same;

@@ -3,38 +3,23 @@
 use Prim.Native.Nat.{ℕ, zero, suc, _≤_}
 use mathlib.Core.Path.{_≡_}
 use mathlib.Core.List.{List, [], _∷_, _++_}
-use lib.ListN.{length, getD, drop}
-use mathlib.Core.Bool.{Bool}
+use lib.ListN.{length, drop}
 use lib.Dec.{ltb, eqb}
-use Rattle.codec.specs.declared.Field.{Field}
-use Rattle.codec.specs.Table.{lineFields, totalFields}
-use Rattle.codec.specs.Codec.{pick, valuesAt}
+use Rattle.codec.specs.Codec.{pick, valuesAt, frontSize, frontFields}
 use Rattle.text.specs.Ascii.{ascii}
 use Rattle.text.specs.Decimal.{numbersLine, Put}
 use Rattle.account.specs.declared.Account.{Account}
 use Rattle.book.specs.Call.{Call}
 use Rattle.listing.specs.declared.Listed.{Listed}
 
--- the line record at the front of some bytes is the close's: its kind is 8
-abbrev pub isTotal : List ℕ → Bool
-isTotal xs = eqb (getD xs 3 0) 8
-
--- the bytes of the line record at the front
-abbrev pub lineSize : List ℕ → ℕ
-lineSize xs = pick (isTotal xs) 54 46
-
--- the fields of the line record at the front
-abbrev pub fieldsOf : List ℕ → List Field
-fieldsOf xs = pick (isTotal xs) totalFields lineFields
-
--- what is printed of it: all its values but the first two, which are its length and its version
+-- what is printed of the line record at the front: all its values but the first two, which are its length and its version
 unfoldable pub lineNumbers : List ℕ → List ℕ
-lineNumbers xs = drop 2 (valuesAt (fieldsOf xs) xs 0)
+lineNumbers xs = drop 2 (valuesAt (frontFields xs) xs 0)
 
 -- a text line per line record, of at most n that stand whole in the bytes
 unfoldable pub textBy : ℕ → List ℕ → List ℕ
 textBy zero xs = []
-textBy (suc n) xs = pick (ltb (length xs) (lineSize xs)) [] (numbersLine (lineNumbers xs) ++ textBy n (drop (lineSize xs) xs))
+textBy (suc n) xs = pick (ltb (length xs) (frontSize xs)) [] (numbersLine (lineNumbers xs) ++ textBy n (drop (frontSize xs) xs))
 
 -- a text line per line record: there are no more of them than bytes
 unfoldable pub linesText : List ℕ → List ℕ

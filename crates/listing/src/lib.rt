@@ -1,9 +1,10 @@
 // The lister's text: a text line per line record, and the last word; what it remarks to a person, and its status.
 use account::Account;
 use book::State;
-use codec::numbers::be8;
-use codec::numbers::be16;
-use codec::numbers::be32;
+use codec::LINE_SIZE;
+use codec::lines::detail_numbers;
+use codec::lines::front_size;
+use codec::lines::total_numbers;
 use text::put_numbers;
 use text::put_text;
 use text::say;
@@ -11,12 +12,12 @@ ghost use mathlib.Core.Path.{_≡_};
 ghost use mathlib.Core.List.{_∷_, []};
 ghost use Prim.Native.Nat.{_+_, _*_, _≤_};
 ghost use lib.ListN.{length, drop};
-ghost use Rattle.codec.specs.Table.{lineFields, totalFields};
-ghost use Rattle.codec.specs.Codec.{valAt, valuesAt};
+ghost use Rattle.codec.specs.Table.{lineSize};
+ghost use Rattle.codec.specs.Codec.{frontSize};
 ghost use Rattle.text.specs.Decimal.{Put, numbersLine};
 ghost use Rattle.text.specs.Said.{Said};
 ghost use Rattle.book.specs.Call.{call};
-ghost use Rattle.listing.specs.Listing.{lineSize, lineNumbers, linesText, endText, Lists};
+ghost use Rattle.listing.specs.Listing.{lineNumbers, linesText, endText, Lists};
 ghost use Rattle.listing.specs.Remarks.{isTyped, beginsTyped, looksTyped, remarkText, statusByte};
 
 // What one call over a part of a book makes: the new state, the bytes taken, and the bytes of text.
@@ -26,62 +27,12 @@ pub struct Listed {
     pub written: usize,
 }
 
-fn be64(s: &[u8], at: usize) -> u64
-    requires { ⌜ at + 8 ≤ length (now s) ⌝ }
-    ensures { λ r. ⌜ r ≡ valAt (now (s .entry)) at 8 ⌝ }
-{
-    let high = be32(s, at);
-    let low = be32(s, at + 4);
-    high * 4294967296 + low
-}
-
-// Kind, group and the five figures.
-fn detail_numbers(line: &[u8]) -> [u64; 7]
-    requires { ⌜ 46 ≤ length (now line) ⌝ }
-    ensures { λ r. ⌜ r ≡ drop 2 (valuesAt lineFields (now (line .entry)) 0) ⌝ }
-{
-    [
-        be8(line, 3),
-        be16(line, 4),
-        be64(line, 6),
-        be64(line, 14),
-        be64(line, 22),
-        be64(line, 30),
-        be64(line, 38),
-    ]
-}
-
-// Kind, group, the five sums and CO2e.
-fn total_numbers(line: &[u8]) -> [u64; 8]
-    requires { ⌜ 54 ≤ length (now line) ⌝ }
-    ensures { λ r. ⌜ r ≡ drop 2 (valuesAt totalFields (now (line .entry)) 0) ⌝ }
-{
-    [
-        be8(line, 3),
-        be16(line, 4),
-        be64(line, 6),
-        be64(line, 14),
-        be64(line, 22),
-        be64(line, 30),
-        be64(line, 38),
-        be64(line, 46),
-    ]
-}
-
-// The bytes of the line record at the front of s.
-fn line_size(s: &[u8]) -> usize
-    requires { ⌜ 46 ≤ length (now s) ⌝ }
-    ensures { λ n. ⌜ n ≡ lineSize (now (s .entry)) ⌝ }
-{
-    if s[3] == 8 { 54 } else { 46 }
-}
-
 // The text line of the line record at the front of s.
 fn put_line(out: &mut [u8], at: usize, s: &[u8]) -> usize
-    requires { ⌜ (46 ≤ length (now s)) × (lineSize (now s) ≤ length (now s)) ⌝ }
-    requires { ⌜ at + 4 * lineSize (now s) ≤ length (now out) ⌝ }
+    requires { ⌜ (lineSize ≤ length (now s)) × (frontSize (now s) ≤ length (now s)) ⌝ }
+    requires { ⌜ at + 4 * frontSize (now s) ≤ length (now out) ⌝ }
     ensures { λ r. ⌜ Put (now (out .entry)) (now (out .exit)) at (numbersLine (lineNumbers (now (s .entry)))) r ⌝ }
-    ensures { λ r. ⌜ r ≤ at + 4 * lineSize (now (s .entry)) ⌝ }
+    ensures { λ r. ⌜ r ≤ at + 4 * frontSize (now (s .entry)) ⌝ }
 {
     if s[3] == 8 {
         let numbers = total_numbers(s);
@@ -109,10 +60,10 @@ pub fn put_lines(out: &mut [u8], lines: &[u8]) -> usize
     let mut at = 0;
     while i < lines.len() {
         let rest = rest_of(lines, i);
-        if rest.len() < 46 {
+        if rest.len() < LINE_SIZE {
             return at;
         }
-        let n = line_size(rest);
+        let n = front_size(rest);
         if rest.len() < n {
             return at;
         }

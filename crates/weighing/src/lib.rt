@@ -246,7 +246,7 @@ pub fn farm(a: Account, v: [u64; 3], room: usize) -> Judged
     requires { ⌜ Fair a × (a .stage < 2) ⌝ }
     ensures { λ j. ⌜ TellsIn room a (weigh a 1 v) j ⌝ }
 {
-    let bad = codec::ranges::farm(v);
+    let bad = codec::farm::first_bad(v);
     let code = barred(a.records, a.records == 0, bad);
     if code != 0 {
         return stopped(a, code, bad);
@@ -295,7 +295,7 @@ pub fn heading(a: Account, v: [u64; 3], room: usize) -> Judged
     requires { ⌜ Fair a × (a .stage < 2) ⌝ }
     ensures { λ j. ⌜ TellsIn room a (weigh a 2 v) j ⌝ }
 {
-    let bad = codec::ranges::heading(v);
+    let bad = codec::heading::first_bad(v);
     let code = barred(a.records, begun(a.records), bad);
     if code != 0 {
         return stopped(a, code, bad);
@@ -318,7 +318,7 @@ pub fn enteric(a: Account, v: [u64; 3], room: usize) -> Judged
     ensures { λ j. ⌜ TellsIn room a (weigh a 3 v) j ⌝ }
 {
     let h = a.heading;
-    let bad = codec::ranges::enteric(v);
+    let bad = codec::enteric::first_bad(v);
     let code = barred(a.records, cattle_placed(a.records, h.class), bad);
     if code != 0 {
         return stopped(a, code, bad);
@@ -367,7 +367,7 @@ pub fn cattle(a: Account, v: [u64; 9], room: usize) -> Judged
     ensures { λ j. ⌜ TellsIn room a (weigh a 4 v) j ⌝ }
 {
     let h = a.heading;
-    let bad = codec::ranges::cattle(v);
+    let bad = codec::cattle::first_bad(v);
     let code = barred(a.records, cattle_placed(a.records, h.class), bad);
     if code != 0 {
         return stopped(a, code, bad);
@@ -428,7 +428,7 @@ pub fn pig(a: Account, v: [u64; 12], room: usize) -> Judged
     ensures { λ j. ⌜ TellsIn room a (weigh a 5 v) j ⌝ }
 {
     let h = a.heading;
-    let bad = codec::ranges::pig(v);
+    let bad = codec::pig::first_bad(v);
     let code = barred(a.records, pig_placed(a.records, h.class), bad);
     if code != 0 {
         return stopped(a, code, bad);
@@ -451,7 +451,7 @@ pub fn energy(a: Account, v: [u64; 3], room: usize) -> Judged
     requires { ⌜ Fair a × (a .stage < 2) ⌝ }
     ensures { λ j. ⌜ TellsIn room a (weigh a 6 v) j ⌝ }
 {
-    let bad = codec::ranges::energy(v);
+    let bad = codec::energy::first_bad(v);
     let code = barred(a.records, begun(a.records), bad);
     if code != 0 {
         return stopped(a, code, bad);
@@ -467,7 +467,7 @@ pub fn soil(a: Account, v: [u64; 1], room: usize) -> Judged
     requires { ⌜ Fair a × (a .stage < 2) ⌝ }
     ensures { λ j. ⌜ TellsIn room a (weigh a 7 v) j ⌝ }
 {
-    let bad = codec::ranges::soil(v);
+    let bad = codec::soil::first_bad(v);
     let code = barred(a.records, begun(a.records), bad);
     if code != 0 {
         return stopped(a, code, bad);
@@ -532,7 +532,7 @@ pub fn close(a: Account, v: [u64; 1], room: usize) -> Judged
     requires { ⌜ Fair a × (a .stage < 2) ⌝ }
     ensures { λ j. ⌜ TellsIn room a (weigh a 8 v) j ⌝ }
 {
-    let bad = codec::ranges::close(v);
+    let bad = codec::close::first_bad(v);
     let code = barred(a.records, begun(a.records), bad);
     if code != 0 {
         return stopped(a, code, bad);

@@ -10,7 +10,7 @@ use borrow.Author.Tests.{ltb-false, eqb-true, eqb-false, le-ltb, lt-ltb, eq-eqb,
 use lib.ListN.{length}
 use lib.Seq.{sets, sets-eq}
 use lib.Dec.{ltb, eqb}
-use Rattle.codec.specs.Table.{fields, lengthOf}
+use Rattle.codec.specs.Table.{fields, lengthOf, Of, lastKind}
 use Rattle.codec.specs.Codec.{pick, firstBad, recordBytes}
 use Rattle.codec.proofs.Round.{record-length}
 use Rattle.account.specs.declared.Account.{Account}
@@ -24,7 +24,6 @@ use Rattle.book.proofs.RangeLaws.{range-parts, range-test}
 use Rattle.writing.specs.declared.Answer.{Answer}
 use Rattle.writing.specs.declared.Answer.the-variants.{Wrote, Refused}
 use Rattle.writing.specs.declared.Written.{Written}
-use Rattle.writing.specs.Values.{Of}
 use Rattle.writing.specs.Write.{Write, refusalBy, next, refusals, answerOf, refusing, writing, byAnswer, write, writtenOf, laid}
 
 -- ---- values that the reader would not refuse
@@ -65,10 +64,10 @@ ready s r h b =
     below : (n : ℕ) → n ≤ 3 → (n ≡ 3 → ⊥) → (n ≡ 2 → ⊥) → n < 2
     below n m h g = omega arith
 
-pub kind-in : (k : ℕ) → ltb k 1 || ltb 8 k ≡ false → (1 ≤ k) × (k ≤ 8)
-kind-in k b = (ltb-false _ _ (or-l (ltb k 1) (ltb 8 k) b), ltb-false _ _ (or-r (ltb k 1) (ltb 8 k) b))
+pub kind-in : (k : ℕ) → ltb k 1 || ltb lastKind k ≡ false → (1 ≤ k) × (k ≤ lastKind)
+kind-in k b = (ltb-false _ _ (or-l (ltb k 1) (ltb lastKind k) b), ltb-false _ _ (or-r (ltb k 1) (ltb lastKind k) b))
 
-pub of-kind : (k : ℕ) (v : List ℕ) → ltb k 1 || ltb 8 k ≡ false → length v ≡ length (fields k) → Of k v
+pub of-kind : (k : ℕ) (v : List ℕ) → ltb k 1 || ltb lastKind k ≡ false → length v ≡ length (fields k) → Of k v
 of-kind k v b e = let i = kind-in k b in record { least = i .0; most = i .1; count = e }
 
 -- ---- what is written, refusal by refusal
@@ -90,7 +89,7 @@ module _ (s : State) (k : ℕ) (v : List ℕ) (room : ℕ) where
   -- after the state has passed
   module _ (y : Ready s) where
     state-passes : answerOf (refusals s k v room) ≡ answerOf (
-        (ltb k 1 || ltb 8 k, refusalBy 3 (s .account .records))
+        (ltb k 1 || ltb lastKind k, refusalBy 3 (s .account .records))
         ∷ (not (eqb (length v) (length (fields k))), refusalBy 4 (s .account .records))
         ∷ (eqb (next s k v .stage) 3, next s k v .refusal)
         ∷ (ltb room (2 + lengthOf k), refusalBy 16 (s .account .records))
@@ -102,11 +101,11 @@ module _ (s : State) (k : ℕ) (v : List ℕ) (room : ℕ) where
         let n2 : s .account .stage ≡ 2 → ⊥ = λ e. omega (arith, y .early) in
         rw (range-test s (y .range), ne-eqb _ _ n3, ne-eqb _ _ n2, eq-eqb _ _ (y .none))
 
-    pub by-3 : ltb k 1 || ltb 8 k ≡ true → write s k v room ≡ refusing s (refusalBy 3 (s .account .records))
+    pub by-3 : ltb k 1 || ltb lastKind k ≡ true → write s k v room ≡ refusing s (refusalBy 3 (s .account .records))
     unfolding write answerOf
     by-3 e = rw (state-passes, e)
 
-    pub by-4 : ltb k 1 || ltb 8 k ≡ false → (length v ≡ length (fields k) → ⊥) → write s k v room ≡ refusing s (refusalBy 4 (s .account .records))
+    pub by-4 : ltb k 1 || ltb lastKind k ≡ false → (length v ≡ length (fields k) → ⊥) → write s k v room ≡ refusing s (refusalBy 4 (s .account .records))
     unfolding write answerOf
     by-4 b h = rw (state-passes, b, ne-eqb _ _ h)
 

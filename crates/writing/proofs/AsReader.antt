@@ -10,7 +10,7 @@ use mathlib.Core.Logic.{⊎-elim}
 use borrow.Author.Tests.{ne-eqb, eqb-true, eqb-false, ltb-true, le-ltb, le-leb, lt-leb}
 use lib.Dec.{ltb, leb, eqb}
 use lib.ListN.{length, replicate, length-replicate}
-use Rattle.codec.specs.Table.{fields, lengthOf}
+use Rattle.codec.specs.Table.{fields, lengthOf, Of, lastKind}
 use Rattle.codec.specs.Codec.{pick, valAt, recordBytes}
 use Rattle.codec.proofs.Rows.{Fit, fit-kind}
 use Rattle.account.specs.declared.Account.{Account}
@@ -29,7 +29,6 @@ use Rattle.book.proofs.ReadingLaws.{reading-none}
 use Rattle.book.proofs.CallLaws.{done-ended}
 use Rattle.writing.specs.declared.Answer.{Answer}
 use Rattle.writing.specs.declared.Answer.the-variants.{Wrote, Refused}
-use Rattle.writing.specs.Values.{Of}
 use Rattle.writing.specs.Write.{numbers, next, refusals, answerOf, byAnswer, write}
 use Rattle.writing.proofs.Answers.{Ready, written-so, by-13, by-own, by-3, by-4, by-reader, wrote}
 use Rattle.writing.proofs.ReaderLaws.{run-one, call-one, is-kind, judge-is}
@@ -81,24 +80,24 @@ module _ (s : State) (y : Ready s) (k : ℕ) (v : List ℕ) (room : ℕ) where
 
   -- r is any whole record of version 1 and that kind
   module _ (r : List ℕ) (w : Kind k r) where
-    -- For a kind not 1..8 the writer gives what the reader gives for any record of that kind.
-    pub kind-as-reader : ltb k 1 || ltb 8 k ≡ true → write s k v room .answer ≡ Refused (judge (s .account) r .account .refusal)
+    -- For a kind that there is not the writer gives what the reader gives for any record of that kind.
+    pub kind-as-reader : ltb k 1 || ltb lastKind k ≡ true → write s k v room .answer ≡ Refused (judge (s .account) r .account .refusal)
     unfolding judge first
     kind-as-reader e = rw (by-3 s k v room y e, w .version, w .kind, other k e)
       where
-        other : (n : ℕ) → ltb n 1 || ltb 8 n ≡ true → leb 1 n && leb n 8 ≡ false
+        other : (n : ℕ) → ltb n 1 || ltb lastKind n ≡ true → leb 1 n && leb n 8 ≡ false
         other n e =
             ⊎-elim
             (λ (g : ltb n 1 ≡ true). rw (lt-leb 1 n (ltb-true _ _ g)))
-            (λ (g : ltb 8 n ≡ true). rw (lt-leb n 8 (ltb-true _ _ g)) (and-false (leb 1 n)))
-            (or-cases (ltb n 1) (ltb 8 n) e)
+            (λ (g : ltb lastKind n ≡ true). rw (lt-leb n 8 (ltb-true _ _ g)) (and-false (leb 1 n)))
+            (or-cases (ltb n 1) (ltb lastKind n) e)
 
     -- For a wrong count of values the writer gives what the reader gives for any record of that kind that is not of the kind's length.
-    pub count-as-reader : 1 ≤ k → k ≤ 8 → (length v ≡ length (fields k) → ⊥) → (valAt r 0 2 ≡ lengthOf k → ⊥)
+    pub count-as-reader : 1 ≤ k → k ≤ lastKind → (length v ≡ length (fields k) → ⊥) → (valAt r 0 2 ≡ lengthOf k → ⊥)
         → write s k v room .answer ≡ Refused (judge (s .account) r .account .refusal)
     unfolding judge first
     count-as-reader l m n h =
-        let b : ltb k 1 || ltb 8 k ≡ false = rw (le-ltb _ _ l, le-ltb _ _ m) in
+        let b : ltb k 1 || ltb lastKind k ≡ false = rw (le-ltb _ _ l, le-ltb _ _ m) in
         rw (by-4 s k v room y b n, w .version, w .kind, le-leb _ _ l, le-leb _ _ m, ne-eqb _ _ h)
 
 -- ---- a state that can't be written to

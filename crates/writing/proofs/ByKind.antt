@@ -5,13 +5,12 @@ use mathlib.Core.Path.{_≡_, ap, _∙_}
 use mathlib.Core.List.{List}
 use lib.ListN.{length}
 use lib.Seq.{sets}
-use Rattle.codec.specs.Table.{fields, lengthOf}
+use Rattle.codec.specs.Table.{fields, lengthOf, Of}
 use Rattle.codec.specs.Codec.{firstBad, recordBytes}
 use Rattle.account.specs.declared.Account.{Account}
 use Rattle.account.specs.declared.Judged.{Judged}
 use Rattle.account.specs.Judge.{weigh}
 use Rattle.account.specs.Told.{Tells}
-use Rattle.writing.specs.Values.{Of}
 
 -- the kind is k, and w are the values
 module _ {kind : ℕ} {v : List ℕ} (k : ℕ) (e : kind ≡ k) where

@@ -11,7 +11,7 @@ use borrow.Author.Tests.{le-leb, leb-true}
 use lib.Dec.{leb}
 use lib.ListN.{length, getD, take}
 use lib.Seq.{take-all, take-length}
-use Rattle.codec.specs.Table.{table, fields, size, lengthOf}
+use Rattle.codec.specs.Table.{table, fields, size, lengthOf, Of, lastKind}
 use Rattle.codec.specs.Codec.{be, valuesAt, bytesOf, recordBytes}
 use Rattle.codec.proofs.BigEndian.{one-byte}
 use Rattle.codec.proofs.Rows.{Fit, length-most}
@@ -32,7 +32,6 @@ use Rattle.book.proofs.FrontLaws.{is-whole}
 use Rattle.book.proofs.RecordLaws.{book-one}
 use Rattle.book.proofs.Longest.{longest-top}
 use Rattle.book.proofs.CallLaws.{call-at}
-use Rattle.writing.specs.Values.{Of}
 use Rattle.writing.proofs.Answers.{Ready}
 
 -- ---- one whole record, read by a state that holds no bytes
@@ -92,7 +91,7 @@ each-at p (suc n) e k l h =
     (lt-or-ge k (suc n))
 
 -- no kind's length is below 4: antt computes it for the eight
-length-least : (k : ℕ) → 1 ≤ k → k ≤ 8 → 4 ≤ lengthOf k
+length-least : (k : ℕ) → 1 ≤ k → k ≤ lastKind → 4 ≤ lengthOf k
 unfolding table size each
 length-least k l h = leb-true _ _ (each-at (λ n. leb 4 (lengthOf n)) 8 refl k l h)
 

@@ -9,7 +9,7 @@ use native.Mathlib.Omega.{arith}
 use borrow.Author.Tests.{eqb-true, leb-true, not-false}
 use lib.Dec.{leb, eqb, lit<}
 use lib.ListN.{length, getD}
-use Rattle.codec.specs.Table.{fields, lengthOf}
+use Rattle.codec.specs.Table.{fields, lengthOf, Of}
 use Rattle.codec.specs.Codec.{pick, valAt, recordBytes}
 use Rattle.codec.proofs.BigEndian.{Bytes, one-byte}
 use Rattle.codec.proofs.Values.{values-length}
@@ -22,7 +22,6 @@ use Rattle.account.proofs.Told.{right-length}
 use Rattle.book.specs.declared.State.{State}
 use Rattle.book.specs.State.{holding}
 use Rattle.writing.specs.declared.Answer.the-variants.{Wrote}
-use Rattle.writing.specs.Values.{Of}
 use Rattle.writing.specs.Write.{write}
 use Rattle.writing.proofs.Answers.{Ready, written-so, wrote}
 use Rattle.writing.proofs.ReaderLaws.{is-kind, values-read}

@@ -11,7 +11,7 @@ use borrow.Author.Tests.{ltb-true, lt-leb, ne-eqb}
 use lib.Dec.{ltb}
 use lib.ListN.{length, getD}
 use Rattle.codec.specs.declared.Field.{Field}
-use Rattle.codec.specs.Table.{table, fields}
+use Rattle.codec.specs.Table.{table, fields, Of}
 use Rattle.codec.specs.Codec.{room, firstBad}
 use Rattle.codec.proofs.Within.{none, Good, too-high}
 use Rattle.account.specs.declared.Account.{Account}
@@ -19,7 +19,6 @@ use Rattle.account.specs.Judge.{first, inPlace, weigh, refused}
 use Rattle.account.proofs.Tests.{and-l, and-r}
 use Rattle.book.specs.declared.State.{State}
 use Rattle.writing.specs.declared.Answer.the-variants.{Refused}
-use Rattle.writing.specs.Values.{Of}
 use Rattle.writing.specs.Write.{next, write}
 use Rattle.writing.proofs.Answers.{Ready, by-reader}
 

@@ -5,7 +5,7 @@ use mathlib.Core.List.{List, [], _∷_, _++_}
 use mathlib.Core.Bool.{Bool, _||_, not}
 use lib.ListN.{length, drop}
 use lib.Dec.{ltb, eqb}
-use Rattle.codec.specs.Table.{fields, lengthOf}
+use Rattle.codec.specs.Table.{fields, lastKind, lengthOf}
 use Rattle.codec.specs.Codec.{pick, recordBytes}
 use Rattle.account.specs.declared.Account.{Account}
 use Rattle.account.specs.declared.Refusal.{Refusal}
@@ -44,8 +44,8 @@ refusals s k v room =
     ∷ (eqb (s .account .stage) 3, s .account .refusal)
     -- 22: the state is closed or holds bytes
     ∷ (eqb (s .account .stage) 2 || not (eqb (s .count) 0), refusalBy 22 (s .account .records))
-    -- 3: kind not 1..8
-    ∷ (ltb k 1 || ltb 8 k, refusalBy 3 (s .account .records))
+    -- 3: no such kind
+    ∷ (ltb k 1 || ltb lastKind k, refusalBy 3 (s .account .records))
     -- 4: a wrong count of values
     ∷ (not (eqb (length v) (length (fields k))), refusalBy 4 (s .account .records))
     -- 5 to 12 as the reader, which would be refused with this record; a value too big for its bytes is out of its range, and so 7

@@ -1,4 +1,4 @@
-// The eight kinds, each by its number: how many values and bytes it has, what its values do, and its record.
+// The eight kinds, each by its number: what its values do, and its record.
 use account::Account;
 use account::Judged;
 use judging::weigh;
@@ -6,46 +6,11 @@ ghost use mathlib.Core.Path.{_≡_};
 ghost use Prim.Native.Nat.{_+_, _<_, _≤_};
 ghost use lib.ListN.{length};
 ghost use lib.Seq.{sets};
-ghost use Rattle.codec.specs.Table.{fields, lengthOf};
+ghost use Rattle.codec.specs.Table.{fields, lengthOf, Of};
 ghost use Rattle.codec.specs.Codec.{firstBad, recordBytes};
 ghost use Rattle.account.specs.Range.{Fair};
 ghost use Rattle.account.specs.Judge.{weigh};
 ghost use Rattle.account.specs.Told.{Tells};
-ghost use Rattle.writing.specs.Values.{Of};
-
-// How many values a record of the kind has.
-pub(crate) fn values_of(kind: u64) -> usize
-    requires { ⌜ (1 ≤ kind) × (kind ≤ 8) ⌝ }
-    ensures { λ r. ⌜ r ≡ length (fields kind) ⌝ }
-{
-    match kind {
-        1 => 3,
-        2 => 3,
-        3 => 3,
-        4 => 9,
-        5 => 12,
-        6 => 3,
-        7 => 1,
-        _ => 1,
-    }
-}
-
-// How many bytes a record of the kind has, the two of its length among them.
-pub(crate) fn bytes_of(kind: u64) -> usize
-    requires { ⌜ (1 ≤ kind) × (kind ≤ 8) ⌝ }
-    ensures { λ r. ⌜ r ≡ 2 + lengthOf kind ⌝ }
-{
-    match kind {
-        1 => 11,
-        2 => 9,
-        3 => 12,
-        4 => 22,
-        5 => 28,
-        6 => 13,
-        7 => 8,
-        _ => 6,
-    }
-}
 
 fn one(v: &[u64]) -> [u64; 1]
     requires { ⌜ length (now v) ≡ 1 ⌝ }
@@ -111,13 +76,13 @@ pub(crate) fn put(out: &mut [u8], kind: u64, v: &[u64])
     ensures { λ _. ⌜ now (out .exit) ≡ sets (now (out .entry)) 0 (recordBytes kind (now (v .entry))) ⌝ }
 {
     match kind {
-        1 => codec::write::farm(out, 0, three(v)),
-        2 => codec::write::heading(out, 0, three(v)),
-        3 => codec::write::enteric(out, 0, three(v)),
-        4 => codec::write::cattle(out, 0, nine(v)),
-        5 => codec::write::pig(out, 0, twelve(v)),
-        6 => codec::write::energy(out, 0, three(v)),
-        7 => codec::write::soil(out, 0, one(v)),
-        _ => codec::write::close(out, 0, one(v)),
+        1 => codec::farm::write(out, 0, three(v)),
+        2 => codec::heading::write(out, 0, three(v)),
+        3 => codec::enteric::write(out, 0, three(v)),
+        4 => codec::cattle::write(out, 0, nine(v)),
+        5 => codec::pig::write(out, 0, twelve(v)),
+        6 => codec::energy::write(out, 0, three(v)),
+        7 => codec::soil::write(out, 0, one(v)),
+        _ => codec::close::write(out, 0, one(v)),
     }
 }

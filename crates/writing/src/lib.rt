@@ -3,6 +3,9 @@ mod kinds;
 
 use account::Refusal;
 use book::State;
+use codec::LAST_KIND;
+use codec::kinds::bytes_of;
+use codec::kinds::values_of;
 ghost use mathlib.Core.Path.{_≡_};
 ghost use Prim.Native.Nat.{_≤_};
 ghost use lib.ListN.{length};
@@ -73,10 +76,10 @@ fn answered(state: State, kind: u64, values: &[u64], room: usize) -> Written
     if (a.stage == 2) | (state.count != 0) {
         return refused_by(state, 22);
     }
-    if (kind < 1) | (8 < kind) {
+    if (kind < 1) | (LAST_KIND < kind) {
         return refused_by(state, 3);
     }
-    if values.len() != kinds::values_of(kind) {
+    if values.len() != values_of(kind) {
         return refused_by(state, 4);
     }
     let j = kinds::weighed(a, kind, values);
@@ -85,7 +88,7 @@ fn answered(state: State, kind: u64, values: &[u64], room: usize) -> Written
         let readers = next.refusal;
         return refused(state, readers);
     }
-    let bytes = kinds::bytes_of(kind);
+    let bytes = bytes_of(kind);
     if room < bytes {
         return refused_by(state, 16);
     }

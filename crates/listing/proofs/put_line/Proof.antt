@@ -2,7 +2,8 @@ use mathlib.Core.Path.{_≡_}
 use native.Mathlib.Omega.{arith}
 use borrow.Author.Needs.{needs}
 use lib.ListN.{length}
-use Rattle.listing.specs.Listing.{lineSize}
+use Rattle.codec.specs.Table.{lineSize, totalSize}
+use Rattle.codec.specs.Codec.{frontSize}
 use Rattle.listing.proofs.Lines.{size-total, numbers-total, size-detail, numbers-detail}
 use Rattle.listing.proofs.put_line.Statement.{statement}
 use Rattle.listing.proofs.put_line.Tie as tie
@@ -13,10 +14,10 @@ eight c = search needs
 seven : (c : tie.After-detail-numbers) → length (c .detail-numbers .result) ≡ 7
 seven c = search needs
 
-total : (c : tie.Then1) → lineSize (c .before .before .before .before .args .s .now) ≡ 54
+total : (c : tie.Then1) → frontSize (c .before .before .before .before .args .s .now) ≡ totalSize
 total c = size-total (c .before .before .before .before .args .s .now) (c .if1 .taken)
 
-detail : (c : tie.Else1) → lineSize (c .before .before .before .before .args .s .now) ≡ 46
+detail : (c : tie.Else1) → frontSize (c .before .before .before .before .args .s .now) ≡ lineSize
 detail c = size-detail (c .before .before .before .before .args .s .now) (c .if1 .left)
 
 pub put-line-spec : {M : Type 1} → statement M

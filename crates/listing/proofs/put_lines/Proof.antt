@@ -3,7 +3,6 @@ use mathlib.Core.Path.{refl, ap}
 use native.Mathlib.Omega.{arith}
 use borrow.Author.Needs.{needs}
 use lib.ListN.{length, drop, length-drop}
-use Rattle.listing.specs.Listing.{lineSize}
 use Rattle.listing.proofs.Lines.{size-least, Putting, putting-none, putting-ends, putting-on}
 use Rattle.listing.proofs.put_lines.Statement.{statement}
 use Rattle.listing.proofs.put_lines.Tie as tie
@@ -15,7 +14,7 @@ abbrev μ-loop : tie.MeasureT-loop
 μ-loop out₀ lines i₀ at₀ out i at = length lines - i
 
 -- the line at the front stands whole in what is left
-ahead : (c : tie.Else2 Inv-loop μ-loop) → c .before .before .before .before .before .loop .i + c .before .line-size .result ≤ length (c .before .before .before .before .before .before .before .before .args .lines .now)
+ahead : (c : tie.Else2 Inv-loop μ-loop) → c .before .before .before .before .before .loop .i + c .before .front-size .result ≤ length (c .before .before .before .before .before .before .before .before .args .lines .now)
 ahead c =
     let r = c .before .before .before in
     let l = r .before .before in
@@ -35,21 +34,21 @@ put-lines-spec =
     (λ c. search needs)
     (λ c.
     let r = c .before .before .before in
-    putting-ends (r .before .before .loop .inv) (r .rest-of .ensures) (omega (arith, c .before .line-size .ensures)))
+    putting-ends (r .before .before .loop .inv) (r .rest-of .ensures) (omega (arith, c .before .front-size .ensures)))
     (λ c κs.
     let r = c .before .before .before .before in
     let l = r .before .before .loop in
     let d = length-drop (l .i) (r .before .before .before .before .before .args .lines .now) in
-    ((omega arith, omega (arith, c .before .before .line-size .ensures)), omega (arith, c .before .before .line-size .ensures, ap length (r .rest-of .ensures), l .inv .room, l .inv .inside)))
+    ((omega arith, omega (arith, c .before .before .front-size .ensures)), omega (arith, c .before .before .front-size .ensures, ap length (r .rest-of .ensures), l .inv .room, l .inv .inside)))
     (λ c. omega (arith, ahead (c .before .before .before .before)))
     (λ c.
     let i = c .before .before .before .before in
-    omega (arith, ahead i, i .before .line-size .ensures, size-least (i .before .before .before .rest-of .result .now)))
+    omega (arith, ahead i, i .before .front-size .ensures, size-least (i .before .before .before .rest-of .result .now)))
     (λ c.
     let p = c .before .before in
     let n = p .before .before .before in
     let r = n .before .before in
-    putting-on (r .before .before .loop .inv) (r .rest-of .ensures) (n .line-size .ensures) (omega arith) (p .put-line .ensures .0) (p .put-line .ensures .1))
+    putting-on (r .before .before .loop .inv) (r .rest-of .ensures) (n .front-size .ensures) (omega arith) (p .put-line .ensures .0) (p .put-line .ensures .1))
     (λ c. search needs)
     (λ c.
     let l = c .before .loop in

@@ -13,11 +13,11 @@ use Rattle.weighing.proofs.cattle.Tie as tie
 returns : tie.Need-returns
 unfolding inPlace
 returns c =
-    stops _ 4 _ _ _ _ (c .before .before .before .cattle-placed .ensures) (c .before .before .before .before .cattle .ensures) (c .before .before .barred .ensures) _ _ (c .before .if1 .taken) (c .stopped .ensures)
+    stops _ 4 _ _ _ _ (c .before .before .before .cattle-placed .ensures) (c .before .before .before .before .first-bad .ensures) (c .before .before .barred .ensures) _ _ (c .before .if1 .taken) (c .stopped .ensures)
 
 passed : (c : tie.Else1) → Passes (c .before .before .before .before .before .args .a) 4 (c .before .before .before .before .before .args .t2)
 unfolding inPlace
-passed c = passes _ 4 _ _ _ _ (c .before .before .cattle-placed .ensures) (c .before .before .before .cattle .ensures) (c .before .barred .ensures) (c .if1 .left)
+passed c = passes _ 4 _ _ _ _ (c .before .before .cattle-placed .ensures) (c .before .before .before .first-bad .ensures) (c .before .barred .ensures) (c .if1 .left)
 
 add-sum : tie.Need-add-sum
 add-sum c =

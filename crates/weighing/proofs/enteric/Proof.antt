@@ -13,11 +13,11 @@ use Rattle.weighing.proofs.enteric.Tie as tie
 returns : tie.Need-returns
 unfolding inPlace
 returns c =
-    stops _ 3 _ _ _ _ (c .before .before .before .cattle-placed .ensures) (c .before .before .before .before .enteric .ensures) (c .before .before .barred .ensures) _ _ (c .before .if1 .taken) (c .stopped .ensures)
+    stops _ 3 _ _ _ _ (c .before .before .before .cattle-placed .ensures) (c .before .before .before .before .first-bad .ensures) (c .before .before .barred .ensures) _ _ (c .before .if1 .taken) (c .stopped .ensures)
 
 passed : (c : tie.Else1) → Passes (c .before .before .before .before .before .args .a) 3 (c .before .before .before .before .before .args .t2)
 unfolding inPlace
-passed c = passes _ 3 _ _ _ _ (c .before .before .cattle-placed .ensures) (c .before .before .before .enteric .ensures) (c .before .barred .ensures) (c .if1 .left)
+passed c = passes _ 3 _ _ _ _ (c .before .before .cattle-placed .ensures) (c .before .before .before .first-bad .ensures) (c .before .barred .ensures) (c .if1 .left)
 
 add-sum : tie.Need-add-sum
 add-sum c =
@@ -28,17 +28,17 @@ returns-2 : tie.Need-returns-2
 unfolding first
 returns-2 c = refuses _ 3 _ (passed (c .before .before .before .before)) _ 9 _ (rw (lt-ltb _ _ (c .before .if2 .taken))) refl refl (c .wrong .ensures)
 
-enteric-requires-2 : tie.Need-enteric-requires-2
-enteric-requires-2 c κs = enteric-in _ _ (head-most _ (c .before .before .before .before .before .before .before .before .before .pre .0)) (passed (c .before .before .before .before) .ranges)
+enteric-requires : tie.Need-enteric-requires
+enteric-requires c κs = enteric-in _ _ (head-most _ (c .before .before .before .before .before .before .before .before .before .pre .0)) (passed (c .before .before .before .before) .ranges)
 
 grouped-detail-requires : tie.Need-grouped-detail-requires
-grouped-detail-requires c κs = (passed (c .before .before .before .before .before .before) .room, sums-most _ (c .before .before .before .before .before .before .before .before .before .before .before .pre .0), subtotal-most _ (c .before .before .before .before .before .before .before .before .before .before .before .pre .0), small-ch4 _ _ (c .ch4-alone .ensures) (c .before .enteric2 .ensures .small))
+grouped-detail-requires c κs = (passed (c .before .before .before .before .before .before) .room, sums-most _ (c .before .before .before .before .before .before .before .before .before .before .before .pre .0), subtotal-most _ (c .before .before .before .before .before .before .before .before .before .before .before .pre .0), small-ch4 _ _ (c .ch4-alone .ensures) (c .before .enteric .ensures .small))
 
 returns-3 : tie.Need-returns-3
 unfolding first accepted figuresOf
 returns-3 c =
     told-in _ _ _ _ _ (c .grouped-detail .ensures)
-    (rw (accepts _ 3 _ (passed (c .before .before .before .before .before .before .before)) (rw (le-ltb _ _ (c .before .before .before .before .if2 .left))), c .before .ch4-alone .ensures, c .before .before .enteric2 .ensures .exact)
+    (rw (accepts _ 3 _ (passed (c .before .before .before .before .before .before .before)) (rw (le-ltb _ _ (c .before .before .before .before .if2 .left))), c .before .ch4-alone .ensures, c .before .before .enteric .ensures .exact)
     (tells-detail (c .before .before .before .before .before .before .before .before .before .before .before .before .args .a) _ _ _ _ _))
 
 pub enteric-spec : {M : Type 1} → statement M
@@ -60,7 +60,7 @@ enteric-spec =
     (λ c. search needs)
     (λ c. search needs)
     (λ c. search needs)
-    enteric-requires-2
+    enteric-requires
     (λ c κs. tt)
     grouped-detail-requires
     returns-3)

@@ -10,11 +10,11 @@ use Rattle.weighing.proofs.farm.Tie as tie
 
 returns : tie.Need-returns
 unfolding inPlace
-returns c = stops _ 1 _ _ _ _ refl (c .before .before .before .before .farm .ensures) (c .before .before .barred .ensures) _ _ (c .before .if1 .taken) (c .stopped .ensures)
+returns c = stops _ 1 _ _ _ _ refl (c .before .before .before .before .first-bad .ensures) (c .before .before .barred .ensures) _ _ (c .before .if1 .taken) (c .stopped .ensures)
 
 passed : (c : tie.Else1) → Passes (c .before .before .before .before .args .a) 1 (c .before .before .before .before .args .t2)
 unfolding inPlace
-passed c = passes _ 1 _ _ _ _ refl (c .before .before .before .farm .ensures) (c .before .barred .ensures) (c .if1 .left)
+passed c = passes _ 1 _ _ _ _ refl (c .before .before .before .first-bad .ensures) (c .before .barred .ensures) (c .if1 .left)
 
 returns-2 : tie.Need-returns-2
 unfolding first accepted

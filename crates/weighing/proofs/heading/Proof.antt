@@ -11,11 +11,11 @@ use Rattle.weighing.proofs.heading.Tie as tie
 
 returns : tie.Need-returns
 unfolding inPlace
-returns c = stops _ 2 _ _ _ _ (c .before .before .before .begun .ensures) (c .before .before .before .before .heading .ensures) (c .before .before .barred .ensures) _ _ (c .before .if1 .taken) (c .stopped .ensures)
+returns c = stops _ 2 _ _ _ _ (c .before .before .before .begun .ensures) (c .before .before .before .before .first-bad .ensures) (c .before .before .barred .ensures) _ _ (c .before .if1 .taken) (c .stopped .ensures)
 
 passed : (c : tie.Else1) → Passes (c .before .before .before .before .args .a) 2 (c .before .before .before .before .args .t2)
 unfolding inPlace
-passed c = passes _ 2 _ _ _ _ (c .before .before .begun .ensures) (c .before .before .before .heading .ensures) (c .before .barred .ensures) (c .if1 .left)
+passed c = passes _ 2 _ _ _ _ (c .before .before .begun .ensures) (c .before .before .before .first-bad .ensures) (c .before .barred .ensures) (c .if1 .left)
 
 returns-2 : tie.Need-returns-2
 unfolding first

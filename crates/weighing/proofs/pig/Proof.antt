@@ -13,11 +13,11 @@ use Rattle.weighing.proofs.pig.Tie as tie
 returns : tie.Need-returns
 unfolding inPlace
 returns c =
-    stops _ 5 _ _ _ _ (c .before .before .before .pig-placed .ensures) (c .before .before .before .before .pig .ensures) (c .before .before .barred .ensures) _ _ (c .before .if1 .taken) (c .stopped .ensures)
+    stops _ 5 _ _ _ _ (c .before .before .before .pig-placed .ensures) (c .before .before .before .before .first-bad .ensures) (c .before .before .barred .ensures) _ _ (c .before .if1 .taken) (c .stopped .ensures)
 
 passed : (c : tie.Else1) → Passes (c .before .before .before .before .before .args .a) 5 (c .before .before .before .before .before .args .t2)
 unfolding inPlace
-passed c = passes _ 5 _ _ _ _ (c .before .before .pig-placed .ensures) (c .before .before .before .pig .ensures) (c .before .barred .ensures) (c .if1 .left)
+passed c = passes _ 5 _ _ _ _ (c .before .before .pig-placed .ensures) (c .before .before .before .first-bad .ensures) (c .before .barred .ensures) (c .if1 .left)
 
 add-sum : tie.Need-add-sum
 add-sum c = let d = days-most _ (c .before .before .before .before .before .before .before .pre .0) in omega (arith, pig-days _ (passed (c .before .before) .ranges))

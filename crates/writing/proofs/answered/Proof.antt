@@ -3,8 +3,8 @@ use mathlib.Core.Path.{_≡_, sym, ap, _∙_}
 use mathlib.Core.Bool.{true}
 use borrow.Author.Needs.{needs}
 use borrow.Author.Tests.{not-true, not-false}
+use Rattle.codec.specs.Table.{Of}
 use Rattle.book.specs.State.{inRange}
-use Rattle.writing.specs.Values.{Of}
 use Rattle.writing.specs.Write.{writtenOf}
 use Rattle.writing.proofs.Answers.{Ready, ready, kind-in, of-kind, by-13, by-own, by-22, by-3, by-4, by-reader, by-16, wrote-so}
 use Rattle.writing.proofs.answered.Statement.{statement}

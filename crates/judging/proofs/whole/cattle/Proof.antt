@@ -13,7 +13,7 @@ returns c = wrong-length _ 4 _ 22 (c .before .before .before .pre .2) refl refl 
 
 returns-2 : tie.Need-returns-2
 unfolding table size
-returns-2 c = rw (right-length _ 4 _ 22 (c .before .before .before .before .pre .2) refl refl (c .before .before .if1 .left), ← c .before .cattle .ensures) (c .cattle2 .ensures)
+returns-2 c = rw (right-length _ 4 _ 22 (c .before .before .before .before .pre .2) refl refl (c .before .before .if1 .left), ← c .before .read .ensures) (c .cattle .ensures)
 
 pub cattle-spec : {M : Type 1} → statement M
 cattle-spec =

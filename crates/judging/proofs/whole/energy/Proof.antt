@@ -13,7 +13,7 @@ returns c = wrong-length _ 6 _ 13 (c .before .before .before .pre .2) refl refl 
 
 returns-2 : tie.Need-returns-2
 unfolding table size
-returns-2 c = rw (right-length _ 6 _ 13 (c .before .before .before .before .pre .2) refl refl (c .before .before .if1 .left), ← c .before .energy .ensures) (c .energy2 .ensures)
+returns-2 c = rw (right-length _ 6 _ 13 (c .before .before .before .before .pre .2) refl refl (c .before .before .if1 .left), ← c .before .read .ensures) (c .energy .ensures)
 
 pub energy-spec : {M : Type 1} → statement M
 energy-spec =

@@ -13,7 +13,7 @@ returns c = wrong-length _ 3 _ 12 (c .before .before .before .pre .2) refl refl 
 
 returns-2 : tie.Need-returns-2
 unfolding table size
-returns-2 c = rw (right-length _ 3 _ 12 (c .before .before .before .before .pre .2) refl refl (c .before .before .if1 .left), ← c .before .enteric .ensures) (c .enteric2 .ensures)
+returns-2 c = rw (right-length _ 3 _ 12 (c .before .before .before .before .pre .2) refl refl (c .before .before .if1 .left), ← c .before .read .ensures) (c .enteric .ensures)
 
 pub enteric-spec : {M : Type 1} → statement M
 enteric-spec =

@@ -13,7 +13,7 @@ returns c = wrong-length _ 7 _ 8 (c .before .before .before .pre .2) refl refl _
 
 returns-2 : tie.Need-returns-2
 unfolding table size
-returns-2 c = rw (right-length _ 7 _ 8 (c .before .before .before .before .pre .2) refl refl (c .before .before .if1 .left), ← c .before .soil .ensures) (c .soil2 .ensures)
+returns-2 c = rw (right-length _ 7 _ 8 (c .before .before .before .before .pre .2) refl refl (c .before .before .if1 .left), ← c .before .read .ensures) (c .soil .ensures)
 
 pub soil-spec : {M : Type 1} → statement M
 soil-spec =

@@ -2,7 +2,7 @@
 use mathlib.Core.Path.{_≡_, refl}
 use native.Mathlib.Omega.{arith}
 use Rattle.codec.specs.Table.{table, size}
-use Rattle.writing.proofs.Listed.{eighth}
+use Rattle.codec.proofs.Rows.{eighth}
 use Rattle.writing.proofs.ByKind.{counted, fitting, stored}
 use Rattle.writing.proofs.kinds.put.Statement.{statement}
 use Rattle.writing.proofs.kinds.put.Tie as tie
@@ -35,18 +35,18 @@ put-spec =
     (λ c κs. counted 8 (eight (c .before)) 1 refl (c .before .before .before .before .pre .2))
     (λ c κs. fitting 8 (eight (c .before .before)) (c .one2 .ensures) (c .before .before .before .before .before .pre .0) (c .before .before .before .before .before .pre .1))
     (λ c. omega arith)
-    (λ c. stored 1 (c .before .before .before .before .before .match .keys1) (c .before .before .before .three .ensures) _ (c .before .before .farm .ensures))
+    (λ c. stored 1 (c .before .before .before .before .before .match .keys1) (c .before .before .before .three .ensures) _ (c .before .before .write .ensures))
     (λ c. omega arith)
-    (λ c. stored 2 (c .before .before .before .before .before .match .keys2) (c .before .before .before .three2 .ensures) _ (c .before .before .heading .ensures))
+    (λ c. stored 2 (c .before .before .before .before .before .match .keys2) (c .before .before .before .three2 .ensures) _ (c .before .before .write2 .ensures))
     (λ c. omega arith)
-    (λ c. stored 3 (c .before .before .before .before .before .match .keys3) (c .before .before .before .three3 .ensures) _ (c .before .before .enteric .ensures))
+    (λ c. stored 3 (c .before .before .before .before .before .match .keys3) (c .before .before .before .three3 .ensures) _ (c .before .before .write3 .ensures))
     (λ c. omega arith)
-    (λ c. stored 4 (c .before .before .before .before .before .match .keys4) (c .before .before .before .nine .ensures) _ (c .before .before .cattle .ensures))
+    (λ c. stored 4 (c .before .before .before .before .before .match .keys4) (c .before .before .before .nine .ensures) _ (c .before .before .write4 .ensures))
     (λ c. omega arith)
-    (λ c. stored 5 (c .before .before .before .before .before .match .keys5) (c .before .before .before .twelve .ensures) _ (c .before .before .pig .ensures))
+    (λ c. stored 5 (c .before .before .before .before .before .match .keys5) (c .before .before .before .twelve .ensures) _ (c .before .before .write5 .ensures))
     (λ c. omega arith)
-    (λ c. stored 6 (c .before .before .before .before .before .match .keys6) (c .before .before .before .three4 .ensures) _ (c .before .before .energy .ensures))
+    (λ c. stored 6 (c .before .before .before .before .before .match .keys6) (c .before .before .before .three4 .ensures) _ (c .before .before .write6 .ensures))
     (λ c. omega arith)
-    (λ c. stored 7 (c .before .before .before .before .before .match .keys7) (c .before .before .before .one .ensures) _ (c .before .before .soil .ensures))
+    (λ c. stored 7 (c .before .before .before .before .before .match .keys7) (c .before .before .before .one .ensures) _ (c .before .before .write7 .ensures))
     (λ c. omega arith)
-    (λ c. stored 8 (eight (c .before .before .before .before .before)) (c .before .before .before .one2 .ensures) _ (c .before .before .close .ensures)))
+    (λ c. stored 8 (eight (c .before .before .before .before .before)) (c .before .before .before .one2 .ensures) _ (c .before .before .write8 .ensures)))

@@ -1,7 +1,7 @@
 -- What the kind's own function tells. Assumes nothing.
 use mathlib.Core.Path.{_≡_, refl}
 use Rattle.codec.specs.Table.{table}
-use Rattle.writing.proofs.Listed.{eighth}
+use Rattle.codec.proofs.Rows.{eighth}
 use Rattle.writing.proofs.ByKind.{counted, told}
 use Rattle.writing.proofs.kinds.weighed.Statement.{statement}
 use Rattle.writing.proofs.kinds.weighed.Tie as tie

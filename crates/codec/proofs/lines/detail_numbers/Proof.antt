@@ -1,0 +1,22 @@
+-- `codec::lines::detail_numbers` meets its contract: each value is what its call gave.
+-- Assumes nothing.
+use native.Mathlib.Omega.{arith}
+use mathlib.Core.List.{[], _∷_}
+use Rattle.codec.specs.Table.{lineFields}
+use Rattle.codec.specs.Codec.{valuesAt}
+use Rattle.codec.proofs.lines.detail_numbers.Statement.{statement}
+use Rattle.codec.proofs.lines.detail_numbers.Tie as tie
+
+pub detail-numbers-spec : {M : Type 1} → statement M
+unfolding lineFields valuesAt
+detail-numbers-spec =
+    tie.close
+    (tie.spec
+    (λ c κs. omega arith)
+    (λ c κs. omega arith)
+    (λ c κs. omega arith)
+    (λ c κs. omega arith)
+    (λ c κs. omega arith)
+    (λ c κs. omega arith)
+    (λ c κs. omega arith)
+    (λ c. λ j. c .before .before .before .before .before .before .be8 .ensures j ∷ c .before .before .before .before .before .be16 .ensures j ∷ c .before .before .before .before .be64 .ensures j ∷ c .before .before .before .be642 .ensures j ∷ c .before .before .be643 .ensures j ∷ c .before .be644 .ensures j ∷ c .be645 .ensures j ∷ []))

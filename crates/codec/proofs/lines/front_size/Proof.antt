@@ -1,0 +1,14 @@
+-- `codec::lines::front_size` meets its contract.
+-- Assumes nothing.
+use borrow.Author.Needs.{needs}
+use borrow.Author.Tests.{eq-eqb, ne-eqb}
+use Rattle.codec.proofs.lines.front_size.Statement.{statement}
+use Rattle.codec.proofs.lines.front_size.Tie as tie
+
+pub front-size-spec : {M : Type 1} → statement M
+front-size-spec =
+    tie.close
+    (tie.spec
+    (λ c. search needs)
+    (λ c. rw (eq-eqb _ _ (c .if1 .taken)))
+    (λ c. rw (ne-eqb _ _ (c .if1 .left))))

@@ -1,0 +1,83 @@
+// Kind 4, cattle nitrogen: its values from its bytes, the first value out of its range, its bytes from its values.
+use crate::numbers::be16;
+use crate::numbers::put2_each;
+use crate::start::put_start;
+ghost use mathlib.Core.Path.{_≡_};
+ghost use Prim.Native.Nat.{_+_, _≤_};
+ghost use lib.ListN.{length};
+ghost use lib.Seq.{sets};
+ghost use Rattle.codec.specs.Table.{fields};
+ghost use Rattle.codec.specs.Codec.{firstBad, recordBytes, valuesAt};
+
+// The values of the fields, which begin at `at`.
+pub fn read(s: &[u8], at: usize) -> [u64; 9]
+    requires { ⌜ at + 18 ≤ length (now s) ⌝ }
+    ensures { λ r. ⌜ r ≡ valuesAt (fields 4) (now (s .entry)) at ⌝ }
+{
+    let days = be16(s, at);
+    let feed = be16(s, at + 2);
+    let protein = be16(s, at + 4);
+    let milk = be16(s, at + 6);
+    let milk_protein = be16(s, at + 8);
+    let gain = be16(s, at + 10);
+    let solid = be16(s, at + 12);
+    let liquid = be16(s, at + 14);
+    let pasture = be16(s, at + 16);
+    [
+        days,
+        feed,
+        protein,
+        milk,
+        milk_protein,
+        gain,
+        solid,
+        liquid,
+        pasture,
+    ]
+}
+
+// The position, from 1, of the first value out of its range, or 0.
+pub fn first_bad(v: [u64; 9]) -> u8
+    ensures { λ r. ⌜ r ≡ firstBad (fields 4) v 0 ⌝ }
+{
+    if v[0] < 1 {
+        return 1;
+    }
+    if 366 < v[0] {
+        return 1;
+    }
+    if 5000 < v[1] {
+        return 2;
+    }
+    if 4000 < v[2] {
+        return 3;
+    }
+    if 8000 < v[3] {
+        return 4;
+    }
+    if 800 < v[4] {
+        return 5;
+    }
+    if 3000 < v[5] {
+        return 6;
+    }
+    if 10000 < v[6] {
+        return 7;
+    }
+    if 10000 < v[7] {
+        return 8;
+    }
+    if 10000 < v[8] {
+        return 9;
+    }
+    0
+}
+
+// The whole record at `at`.
+pub fn write(out: &mut [u8], at: usize, v: [u64; 9])
+    requires { ⌜ (at + 22 ≤ length (now out)) × (firstBad (fields 4) v 0 ≡ 0) ⌝ }
+    ensures { λ _. ⌜ now (out .exit) ≡ sets (now (out .entry)) at (recordBytes 4 v) ⌝ }
+{
+    put_start(out, at, 20, 4);
+    put2_each(out, at + 4, &v);
+}

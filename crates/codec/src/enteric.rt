@@ -1,0 +1,53 @@
+// Kind 3, enteric: its values from its bytes, the first value out of its range, its bytes from its values.
+use crate::numbers::be16;
+use crate::numbers::be32;
+use crate::numbers::put2;
+use crate::numbers::put4;
+use crate::start::put_start;
+ghost use mathlib.Core.Path.{_≡_};
+ghost use Prim.Native.Nat.{_+_, _≤_};
+ghost use lib.ListN.{length};
+ghost use lib.Seq.{sets};
+ghost use Rattle.codec.specs.Table.{fields};
+ghost use Rattle.codec.specs.Codec.{firstBad, recordBytes, valuesAt};
+
+// The values of the fields, which begin at `at`.
+pub fn read(s: &[u8], at: usize) -> [u64; 3]
+    requires { ⌜ at + 8 ≤ length (now s) ⌝ }
+    ensures { λ r. ⌜ r ≡ valuesAt (fields 3) (now (s .entry)) at ⌝ }
+{
+    let days = be16(s, at);
+    let ge = be32(s, at + 2);
+    let ym = be16(s, at + 6);
+    [days, ge, ym]
+}
+
+// The position, from 1, of the first value out of its range, or 0.
+pub fn first_bad(v: [u64; 3]) -> u8
+    ensures { λ r. ⌜ r ≡ firstBad (fields 3) v 0 ⌝ }
+{
+    if v[0] < 1 {
+        return 1;
+    }
+    if 366 < v[0] {
+        return 1;
+    }
+    if 100000 < v[1] {
+        return 2;
+    }
+    if 2000 < v[2] {
+        return 3;
+    }
+    0
+}
+
+// The whole record at `at`.
+pub fn write(out: &mut [u8], at: usize, v: [u64; 3])
+    requires { ⌜ (at + 12 ≤ length (now out)) × (firstBad (fields 3) v 0 ≡ 0) ⌝ }
+    ensures { λ _. ⌜ now (out .exit) ≡ sets (now (out .entry)) at (recordBytes 3 v) ⌝ }
+{
+    put_start(out, at, 10, 3);
+    put2(out, at + 4, v[0]);
+    put4(out, at + 6, v[1]);
+    put2(out, at + 10, v[2]);
+}

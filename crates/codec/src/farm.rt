@@ -1,0 +1,58 @@
+// Kind 1, the farm: its values from its bytes, the first value out of its range, its bytes from its values.
+use crate::numbers::be8;
+use crate::numbers::be16;
+use crate::numbers::be32;
+use crate::numbers::put1;
+use crate::numbers::put2;
+use crate::numbers::put4;
+use crate::start::put_start;
+ghost use mathlib.Core.Path.{_≡_};
+ghost use Prim.Native.Nat.{_+_, _≤_};
+ghost use lib.ListN.{length};
+ghost use lib.Seq.{sets};
+ghost use Rattle.codec.specs.Table.{fields};
+ghost use Rattle.codec.specs.Codec.{firstBad, recordBytes, valuesAt};
+
+// The values of the fields, which begin at `at`.
+pub fn read(s: &[u8], at: usize) -> [u64; 3]
+    requires { ⌜ at + 7 ≤ length (now s) ⌝ }
+    ensures { λ r. ⌜ r ≡ valuesAt (fields 1) (now (s .entry)) at ⌝ }
+{
+    let number = be32(s, at);
+    let year = be16(s, at + 4);
+    let set = be8(s, at + 6);
+    [number, year, set]
+}
+
+// The position, from 1, of the first value out of its range, or 0.
+pub fn first_bad(v: [u64; 3]) -> u8
+    ensures { λ r. ⌜ r ≡ firstBad (fields 1) v 0 ⌝ }
+{
+    if 4294967295 < v[0] {
+        return 1;
+    }
+    if v[1] < 1900 {
+        return 2;
+    }
+    if 2200 < v[1] {
+        return 2;
+    }
+    if v[2] < 1 {
+        return 3;
+    }
+    if 2 < v[2] {
+        return 3;
+    }
+    0
+}
+
+// The whole record at `at`.
+pub fn write(out: &mut [u8], at: usize, v: [u64; 3])
+    requires { ⌜ (at + 11 ≤ length (now out)) × (firstBad (fields 1) v 0 ≡ 0) ⌝ }
+    ensures { λ _. ⌜ now (out .exit) ≡ sets (now (out .entry)) at (recordBytes 1 v) ⌝ }
+{
+    put_start(out, at, 9, 1);
+    put4(out, at + 4, v[0]);
+    put2(out, at + 8, v[1]);
+    put1(out, at + 10, v[2]);
+}

@@ -1,0 +1,39 @@
+// What the table says of each kind, by its number.
+ghost use mathlib.Core.Path.{_≡_};
+ghost use Prim.Native.Nat.{_+_, _≤_};
+ghost use lib.ListN.{length};
+ghost use Rattle.codec.specs.Table.{fields, lastKind, lengthOf};
+
+// How many values a record of the kind has.
+pub fn values_of(kind: u64) -> usize
+    requires { ⌜ (1 ≤ kind) × (kind ≤ lastKind) ⌝ }
+    ensures { λ r. ⌜ r ≡ length (fields kind) ⌝ }
+{
+    match kind {
+        1 => 3,
+        2 => 3,
+        3 => 3,
+        4 => 9,
+        5 => 12,
+        6 => 3,
+        7 => 1,
+        _ => 1,
+    }
+}
+
+// How many bytes a record of the kind has, the two of its length among them.
+pub fn bytes_of(kind: u64) -> usize
+    requires { ⌜ (1 ≤ kind) × (kind ≤ lastKind) ⌝ }
+    ensures { λ r. ⌜ r ≡ 2 + lengthOf kind ⌝ }
+{
+    match kind {
+        1 => 11,
+        2 => 9,
+        3 => 12,
+        4 => 22,
+        5 => 28,
+        6 => 13,
+        7 => 8,
+        _ => 6,
+    }
+}
