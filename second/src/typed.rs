@@ -46,16 +46,16 @@ struct Typed<'a> {
     words: Vec<&'a [u8]>,
 }
 
-/// Reads a line; none where it has no word. A kind that can't be told is 0, which is none of the book's.
+/// Reads a line; none where it has no word. A line that is too long is not read, whatever it holds. A kind that can't be told is 0, which is none of the book's.
 fn read(line: &[u8]) -> Option<Reading<'_>> {
     let line = line.split(|&byte| byte == b'#').next().unwrap_or(line);
     let blank = |byte: &u8| [b' ', b'\t', b'\r'].contains(byte);
-    let mut words = line.split(blank).filter(|word| !word.is_empty());
-    let first = words.next()?;
     if line.len() > LONGEST {
         let why = format!("the line is too long: at most {LONGEST} bytes before its #");
         return Some(Reading::NotRead(0, why));
     }
+    let mut words = line.split(blank).filter(|word| !word.is_empty());
+    let first = words.next()?;
     let Some(kind) = kind_of(first) else {
         let names = KINDS.join(", ");
         let why =

@@ -1,3 +1,4 @@
+pub mod Headings
 pub mod Parts
 pub mod Remarks
 pub mod Text
