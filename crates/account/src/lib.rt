@@ -1,4 +1,4 @@
-// The account that a book's records have made so far. What a record does to it is said in specs/Judge and carried out by weighing and judging.
+// The account that a book's records have made so far. What a record does to it is said in specs/Judge and carried out by rules.
 mod fair;
 pub mod line;
 

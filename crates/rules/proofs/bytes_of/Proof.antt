@@ -1,0 +1,22 @@
+-- Read off the table, kind by kind. Assumes nothing.
+use Rattle.codec.specs.Table.{table, size}
+use Rattle.rules.proofs.ByKind.{eighth}
+use Rattle.rules.proofs.bytes_of.Statement.{statement}
+use Rattle.rules.proofs.bytes_of.Tie as tie
+
+pub bytes-of-spec : {M : Type 1} → statement M
+unfolding table size
+bytes-of-spec =
+    tie.close
+    (tie.spec
+    (λ c. rw (c .match .keys1))
+    (λ c. rw (c .match .keys2))
+    (λ c. rw (c .match .keys3))
+    (λ c. rw (c .match .keys4))
+    (λ c. rw (c .match .keys5))
+    (λ c. rw (c .match .keys6))
+    (λ c. rw (c .match .keys7))
+    (λ c.
+    let r = c .match .rest in
+    let p = c .before .pre in
+    rw (eighth _ (p .0) (p .1) (r .0 .0 .0 .0 .0 .0 .1) (r .0 .0 .0 .0 .0 .1) (r .0 .0 .0 .0 .1) (r .0 .0 .0 .1) (r .0 .0 .1) (r .0 .1) (r .1))))
