@@ -3,17 +3,18 @@
 use Prim.Native.Nat.{ℕ, _+_, _≤_}
 use mathlib.Core.Path.{_≡_, refl, sym, ap, _∙_}
 use mathlib.Core.List.{List}
-use mathlib.Core.Bool.{true, _&&_}
+use mathlib.Core.Bool.{Bool, true, false, _&&_}
 use native.Mathlib.Omega.{arith}
 use borrow.Author.Tests.{leb-true}
 use lib.ListN.{length}
 use lib.Dec.{leb}
 use Rattle.codec.specs.Table.{fields, lengthOf}
-use Rattle.codec.specs.Codec.{valuesAt}
+use Rattle.codec.specs.Codec.{pick, valuesAt}
 use Rattle.account.specs.declared.Account.{Account}
 use Rattle.account.specs.declared.Judged.{Judged}
-use Rattle.account.specs.Judge.{Whole, versionOf, kindOf, weigh, judge}
+use Rattle.account.specs.Judge.{kindOf, weigh, judge}
 use Rattle.account.specs.Told.{TellsIn, Kind}
+use Rattle.rules.specs.Right.{Right}
 use Rattle.account.proofs.Tests.{and-l, and-r}
 use Rattle.account.proofs.Told.{right-length, past}
 
@@ -29,12 +30,25 @@ eighth k l m h1 h2 h3 h4 h5 h6 h7 =
     let n = past 7 k (past 6 k (past 5 k (past 4 k (past 3 k (past 2 k (past 1 k l h1) h2) h3) h4) h5) h6) h7 in
     omega arith
 
--- r is a whole record of version 1, of one of the eight kinds, and as long as its kind
-pub record Right (r : List ℕ) : Type 0 where
-  pub whole : Whole r
-  pub version : versionOf r ≡ 1
-  pub kinds : leb 1 (kindOf r) && leb (kindOf r) 8 ≡ true
-  pub long : length r ≡ 2 + lengthOf (kindOf r)
+-- the size that a kind has, or none
+module _ (k n : ℕ) (e : n ≡ pick (leb 1 k && leb k 8) (2 + lengthOf k) 0) where
+  pub not-listed : n ≡ 0 → leb 1 k && leb k 8 ≡ false
+  not-listed z = go (leb 1 k && leb k 8) (sym e ∙ z)
+    where
+      go : (b : Bool) → pick b (2 + lengthOf k) 0 ≡ 0 → b ≡ false
+      go true q = absurd (omega arith)
+      go false q = refl
+
+  module _ (some : n ≡ 0 → ⊥) where
+    sized : (b : Bool) → n ≡ pick b (2 + lengthOf k) 0 → (b ≡ true) × (n ≡ 2 + lengthOf k)
+    sized true q = (refl, q)
+    sized false q = absurd (some q)
+
+    pub listed : leb 1 k && leb k 8 ≡ true
+    listed = sized (leb 1 k && leb k 8) e .0
+
+    pub size-is : n ≡ 2 + lengthOf k
+    size-is = sized (leb 1 k && leb k 8) e .1
 
 module _ {r : List ℕ} (s : Right r) (k : ℕ) (e : kindOf r ≡ k) where
   -- the bytes that the kind's function reads are there

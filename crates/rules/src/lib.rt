@@ -16,16 +16,19 @@ use account::Account;
 use account::Judged;
 use refusals::wrong;
 ghost use mathlib.Core.Path.{_≡_};
-ghost use Prim.Native.Nat.{_+_, _<_, _≤_};
+ghost use Prim.Native.Nat.{_+_, _<_};
+ghost use mathlib.Core.Bool.{_&&_};
+ghost use lib.Dec.{leb};
 ghost use Rattle.codec.specs.Table.{lengthOf};
+ghost use Rattle.codec.specs.Codec.{pick};
 ghost use Rattle.account.specs.Range.{Fair};
-ghost use Rattle.account.specs.Judge.{Whole, judge};
+ghost use Rattle.account.specs.Judge.{Whole, kindOf, judge};
 ghost use Rattle.account.specs.Told.{TellsIn};
+ghost use Rattle.rules.specs.Right.{Right};
 
-// How many bytes a record of the kind has, the two of its length among them.
-fn bytes_of(kind: u8) -> usize
-    requires { ⌜ (1 ≤ kind) × (kind ≤ 8) ⌝ }
-    ensures { λ r. ⌜ r ≡ 2 + lengthOf kind ⌝ }
+// How many bytes a record of the kind has, the two of its length among them; 0 where there is no such kind.
+fn size_of(kind: u8) -> usize
+    ensures { λ r. ⌜ r ≡ pick (leb 1 kind && leb kind 8) (2 + lengthOf kind) 0 ⌝ }
 {
     match kind {
         1 => 11,
@@ -35,7 +38,25 @@ fn bytes_of(kind: u8) -> usize
         5 => 28,
         6 => 13,
         7 => 8,
-        _ => 6,
+        8 => 6,
+        _ => 0,
+    }
+}
+
+// What the values of a record do that is as long as its kind: a function of its own, else the compiler keeps copies of the account.
+fn by_kind(a: Account, kind: u8, r: &[u8], room: usize) -> Judged
+    requires { ⌜ Fair a × (a .stage < 2) × Right (now r) × (kind ≡ kindOf (now r)) ⌝ }
+    ensures { λ j. ⌜ TellsIn room a (judge a (now (r .entry))) j ⌝ }
+{
+    match kind {
+        1 => farm::weigh(a, codec::read::farm(r, 4), room),
+        2 => heading::weigh(a, codec::read::heading(r, 4), room),
+        3 => enteric::weigh(a, codec::read::enteric(r, 4), room),
+        4 => cattle::weigh(a, codec::read::cattle(r, 4), room),
+        5 => pig::weigh(a, codec::read::pig(r, 4), room),
+        6 => energy::weigh(a, codec::read::energy(r, 4), room),
+        7 => soil::weigh(a, codec::read::soil(r, 4), room),
+        _ => close::weigh(a, codec::read::close(r, 4), room),
     }
 }
 
@@ -49,20 +70,12 @@ pub fn judge(a: Account, r: &[u8], room: usize) -> Judged
         return wrong(a, 2, 0);
     }
     let kind = r[3];
-    if !((1 <= kind) & (kind <= 8)) {
+    let size = size_of(kind);
+    if size == 0 {
         return wrong(a, 3, 0);
     }
-    if r.len() != bytes_of(kind) {
+    if r.len() != size {
         return wrong(a, 4, 0);
     }
-    match kind {
-        1 => farm::weigh(a, codec::read::farm(r, 4), room),
-        2 => heading::weigh(a, codec::read::heading(r, 4), room),
-        3 => enteric::weigh(a, codec::read::enteric(r, 4), room),
-        4 => cattle::weigh(a, codec::read::cattle(r, 4), room),
-        5 => pig::weigh(a, codec::read::pig(r, 4), room),
-        6 => energy::weigh(a, codec::read::energy(r, 4), room),
-        7 => soil::weigh(a, codec::read::soil(r, 4), room),
-        _ => close::weigh(a, codec::read::close(r, 4), room),
-    }
+    by_kind(a, kind, r, room)
 }
