@@ -1,4 +1,5 @@
 pub mod Tests
+pub mod Sorts
 pub mod First
 pub mod Ranges
 pub mod Told

@@ -269,21 +269,3 @@ wrong-version room a r j h e = quiet-in room a _ (judge a r) j e (rw (ne-eqb _ 1
 pub wrong-kind : (room : ℕ) (a : Account) (r : List ℕ) (j : Judged) → versionOf r ≡ 1 → leb 1 (kindOf r) && leb (kindOf r) 8 ≡ false → j ≡ refusing a 3 0 → TellsIn room a (judge a r) j
 unfolding judge first
 wrong-kind room a r j v h e = quiet-in room a _ (judge a r) j e (rw (v, h, e) (tells-quiet (refused a 3 0)))
-
-pub past : (n k : ℕ) → n ≤ k → (k ≡ n → ⊥) → n + 1 ≤ k
-past n k l h = omega arith
-
--- a kind that is none of the eight
-pub no-kind : (k : ℕ) → (k ≡ 1 → ⊥) → (k ≡ 2 → ⊥) → (k ≡ 3 → ⊥) → (k ≡ 4 → ⊥) → (k ≡ 5 → ⊥) → (k ≡ 6 → ⊥) → (k ≡ 7 → ⊥) → (k ≡ 8 → ⊥) → leb 1 k && leb k 8 ≡ false
-no-kind k h1 h2 h3 h4 h5 h6 h7 h8 = go (leb 1 k) (leb k 8) refl refl
-  where
-    above : 1 ≤ k → 9 ≤ k
-    above l = past 8 k (past 7 k (past 6 k (past 5 k (past 4 k (past 3 k (past 2 k (past 1 k l h1) h2) h3) h4) h5) h6) h7) h8
-
-    not-both : (l m : ℕ) → l ≤ m → m < l → ⊥
-    not-both l m p q = omega arith
-
-    go : (x y : Bool) → leb 1 k ≡ x → leb k 8 ≡ y → x && y ≡ false
-    go false y d e = refl
-    go true false d e = refl
-    go true true d e = absurd (not-both k 8 (leb-true _ _ e) (above (leb-true _ _ d)))

@@ -31,7 +31,7 @@ pub struct Figures {
     pub land: u64,
 }
 
-// Grams of one group: the running subtotal of kinds 3 to 5. A group has no CO2.
+// Grams of one group: the running subtotal of its details. A group has no CO2.
 pub struct Subtotal {
     pub ch4: u64,
     pub n2o: N2o,

@@ -5,7 +5,6 @@ use mathlib.Core.Path.{_≡_, refl, sym, ap, _∙_}
 use mathlib.Core.List.{List}
 use mathlib.Core.Bool.{Bool, true, false, _&&_}
 use native.Mathlib.Omega.{arith}
-use borrow.Author.Tests.{leb-true}
 use lib.ListN.{length}
 use lib.Dec.{leb}
 use Rattle.codec.specs.Table.{fields, lengthOf}
@@ -15,20 +14,7 @@ use Rattle.account.specs.declared.Judged.{Judged}
 use Rattle.account.specs.Judge.{kindOf, weigh, judge}
 use Rattle.account.specs.Told.{TellsIn, Kind}
 use Rattle.rules.specs.Right.{Right}
-use Rattle.account.proofs.Tests.{and-l, and-r}
-use Rattle.account.proofs.Told.{right-length, past}
-
-pub kind-least : (k : ℕ) → leb 1 k && leb k 8 ≡ true → 1 ≤ k
-kind-least k e = leb-true _ _ (and-l (leb 1 k) (leb k 8) e)
-
-pub kind-most : (k : ℕ) → leb 1 k && leb k 8 ≡ true → k ≤ 8
-kind-most k e = leb-true _ _ (and-r (leb 1 k) (leb k 8) e)
-
--- the number that is none of seven of the eight kinds is the eighth
-pub eighth : (k : ℕ) → 1 ≤ k → k ≤ 8 → (k ≡ 1 → ⊥) → (k ≡ 2 → ⊥) → (k ≡ 3 → ⊥) → (k ≡ 4 → ⊥) → (k ≡ 5 → ⊥) → (k ≡ 6 → ⊥) → (k ≡ 7 → ⊥) → k ≡ 8
-eighth k l m h1 h2 h3 h4 h5 h6 h7 =
-    let n = past 7 k (past 6 k (past 5 k (past 4 k (past 3 k (past 2 k (past 1 k l h1) h2) h3) h4) h5) h6) h7 in
-    omega arith
+use Rattle.account.proofs.Told.{right-length}
 
 -- the size that a kind has, or none
 module _ (k n : ℕ) (e : n ≡ pick (leb 1 k && leb k 8) (2 + lengthOf k) 0) where
@@ -58,7 +44,8 @@ module _ {r : List ℕ} (s : Right r) (k : ℕ) (e : kindOf r ≡ k) where
       omega arith
 
   -- what the values do is what the record does
-  pub by-kind : (room : ℕ) (a : Account) (v : List ℕ) (j : Judged) → v ≡ valuesAt (fields k) r 4 → TellsIn room a (weigh a k v) j → TellsIn room a (judge a r) j
+  pub by-kind : (room : ℕ) (a : Account) (v : List ℕ) (j : Judged) → v ≡ valuesAt (fields k) r 4 → TellsIn room a (weigh a k v) j
+      → TellsIn room a (judge a r) j
   by-kind room a v j q t =
       let is : Kind (kindOf r) r = record { whole = s .whole; version = s .version; kind = refl } in
       let size : lengthOf (kindOf r) + 2 ≡ length r = omega (arith, s .long) in

@@ -5,7 +5,7 @@ use mathlib.Core.Path.{_≡_, refl, ap, _∙_}
 use mathlib.Core.List.{List, [], _∷_}
 use native.Mathlib.Omega.{arith}
 use lib.ListN.{length, getD}
-use Rattle.account.proofs.Told.{past}
+use Rattle.account.proofs.Sorts.{past}
 
 -- n elements of v, from i on
 abbrev pub elements : ℕ → List ℕ → ℕ → List ℕ

@@ -1,6 +1,6 @@
 -- Read off the table, kind by kind. Assumes nothing.
 use Rattle.codec.specs.Table.{table, size}
-use Rattle.account.proofs.Told.{no-kind}
+use Rattle.account.proofs.Sorts.{no-kind}
 use Rattle.rules.proofs.size_of.Statement.{statement}
 use Rattle.rules.proofs.size_of.Tie as tie
 
@@ -17,4 +17,6 @@ size-of-spec =
     (λ c. rw (c .match .keys6))
     (λ c. rw (c .match .keys7))
     (λ c. rw (c .match .keys8))
-    (λ c. let r = c .match .rest in rw (no-kind _ (r .0 .0 .0 .0 .0 .0 .0 .1) (r .0 .0 .0 .0 .0 .0 .1) (r .0 .0 .0 .0 .0 .1) (r .0 .0 .0 .0 .1) (r .0 .0 .0 .1) (r .0 .0 .1) (r .0 .1) (r .1))))
+    (λ c.
+    let r = c .match .rest in
+    rw (no-kind _ (r .0 .0 .0 .0 .0 .0 .0 .1) (r .0 .0 .0 .0 .0 .0 .1) (r .0 .0 .0 .0 .0 .1) (r .0 .0 .0 .0 .1) (r .0 .0 .0 .1) (r .0 .0 .1) (r .0 .1) (r .1))))

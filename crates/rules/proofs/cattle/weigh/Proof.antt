@@ -4,6 +4,7 @@ use native.Mathlib.Omega.{arith}
 use borrow.Author.Needs.{needs}
 use borrow.Author.Tests.{lt-ltb, le-ltb, eq-eqb, ne-eqb}
 use Rattle.account.specs.Figures.{figuresOf}
+use Rattle.account.specs.Sorts.{sortOf}
 use Rattle.account.specs.Judge.{inPlace, first, accepted}
 use Rattle.account.proofs.Ranges.{cattle-in, cattle-shares}
 use Rattle.account.proofs.Told.{head-most, days-most, sums-most, subtotal-most, small-cattle, below-zero, not-below, manure-is, tells-detail, told-in, Passes, passes, stops, refuses, accepts}
@@ -54,7 +55,7 @@ returns-4 c =
     refl refl (c .wrong3 .ensures)
 
 returns-5 : tie.Need-returns-5
-unfolding first accepted figuresOf
+unfolding first accepted figuresOf sortOf
 returns-5 c =
     let given = c .before .before .before .n .given .1 in
     let above = not-below _ _ _ (c .before .before .before .before .before .nitrogen .ensures) _ given in

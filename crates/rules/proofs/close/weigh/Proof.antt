@@ -3,6 +3,7 @@ use mathlib.Core.Path.{_≡_, refl}
 use native.Mathlib.Omega.{arith}
 use borrow.Author.Needs.{needs}
 use borrow.Author.Tests.{eq-eqb, ne-eqb}
+use Rattle.account.specs.Sorts.{sortOf}
 use Rattle.account.specs.Judge.{inPlace, first, accepted}
 use Rattle.account.proofs.Told.{sums-most, tells-close, told-in, Passes, passes, stops, refuses, accepts}
 use Rattle.rules.proofs.close.weigh.Statement.{statement}
@@ -25,7 +26,7 @@ totalled-requires : tie.Need-totalled-requires
 totalled-requires c κs = (passed (c .before .before) .room, sums-most _ (c .before .before .before .before .before .before .pre .0))
 
 returns-3 : tie.Need-returns-3
-unfolding first accepted
+unfolding first accepted sortOf
 returns-3 c =
     told-in _ _ _ _ _ (c .totalled .ensures)
     (rw (accepts _ 8 _ (passed (c .before .before .before)) (rw (eq-eqb _ _ (c .before .if2 .left)))) (tells-close (c .before .before .before .before .before .before .before .args .a)))

@@ -4,6 +4,7 @@ use native.Mathlib.Omega.{arith}
 use borrow.Author.Needs.{needs}
 use borrow.Author.Tests.{lt-ltb, le-ltb}
 use Rattle.account.specs.Figures.{figuresOf}
+use Rattle.account.specs.Sorts.{sortOf}
 use Rattle.account.specs.Judge.{inPlace, first, accepted}
 use Rattle.account.proofs.Ranges.{enteric-in}
 use Rattle.account.proofs.Told.{head-most, days-most, sums-most, subtotal-most, small-ch4, tells-detail, told-in, Passes, passes, stops, refuses, accepts}
@@ -35,7 +36,7 @@ grouped-detail-requires : tie.Need-grouped-detail-requires
 grouped-detail-requires c κs = (passed (c .before .before .before .before .before .before) .room, sums-most _ (c .before .before .before .before .before .before .before .before .before .before .before .pre .0), subtotal-most _ (c .before .before .before .before .before .before .before .before .before .before .before .pre .0), small-ch4 _ _ (c .ch4-alone .ensures) (c .before .enteric2 .ensures .small))
 
 returns-3 : tie.Need-returns-3
-unfolding first accepted figuresOf
+unfolding first accepted figuresOf sortOf
 returns-3 c =
     told-in _ _ _ _ _ (c .grouped-detail .ensures)
     (rw (accepts _ 3 _ (passed (c .before .before .before .before .before .before .before)) (rw (le-ltb _ _ (c .before .before .before .before .if2 .left))), c .before .ch4-alone .ensures, c .before .before .enteric2 .ensures .exact)

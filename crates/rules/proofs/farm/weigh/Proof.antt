@@ -2,6 +2,7 @@
 use mathlib.Core.Path.{_≡_, refl}
 use native.Mathlib.Omega.{arith}
 use borrow.Author.Needs.{needs}
+use Rattle.account.specs.Sorts.{sortOf}
 use Rattle.account.specs.Judge.{inPlace, first, accepted}
 use Rattle.account.proofs.Ranges.{farm-in}
 use Rattle.account.proofs.Told.{tells-quiet, quiet-in, Passes, passes, stops, accepts}
@@ -17,7 +18,7 @@ unfolding inPlace
 passed c = passes _ 1 _ _ _ _ refl (c .before .before .before .farm .ensures) (c .before .barred .ensures) (c .if1 .left)
 
 returns-2 : tie.Need-returns-2
-unfolding first accepted
+unfolding first accepted sortOf
 returns-2 c =
     quiet-in _ _ _ _ _ (c .silent .ensures)
     (rw (accepts _ 1 _ (passed (c .before .before .before)) refl, c .silent .ensures, c .before .before .by-fields .ensures) (tells-quiet _))

@@ -3,6 +3,7 @@ use mathlib.Core.Path.{_≡_, refl}
 use native.Mathlib.Omega.{arith}
 use borrow.Author.Needs.{needs}
 use borrow.Author.Tests.{le-leb, lt-leb}
+use Rattle.account.specs.Sorts.{sortOf}
 use Rattle.account.specs.Judge.{inPlace, first, accepted}
 use Rattle.account.proofs.Ranges.{heading-in}
 use Rattle.account.proofs.Told.{tells-heading, told-in, Passes, passes, stops, refuses, accepts}
@@ -22,7 +23,7 @@ unfolding first
 returns-2 c = refuses _ 2 _ (passed (c .before .before .before .before)) _ 8 _ (rw (le-leb _ _ (c .before .if2 .taken))) refl refl (c .wrong .ensures)
 
 returns-3 : tie.Need-returns-3
-unfolding first accepted
+unfolding first accepted sortOf
 returns-3 c =
     told-in _ _ _ _ _ (c .headed .ensures)
     (rw (accepts _ 2 _ (passed (c .before .before .before .before)) (rw (lt-leb _ _ (c .before .if2 .left)))) (tells-heading (c .before .before .before .before .before .before .before .before .args .a) _ _ _))

@@ -4,6 +4,7 @@ use native.Mathlib.Omega.{arith}
 use borrow.Author.Needs.{needs}
 use borrow.Author.Tests.{lt-ltb, le-ltb}
 use Rattle.account.specs.Figures.{figuresOf}
+use Rattle.account.specs.Sorts.{sortOf}
 use Rattle.account.specs.Judge.{inPlace, first, accepted}
 use Rattle.account.proofs.Ranges.{pig-days, pig-in, pig-parts}
 use Rattle.account.proofs.Told.{head-most, days-most, sums-most, subtotal-most, small-pig, tells-detail, told-in, Passes, passes, stops, refuses, accepts}
@@ -40,7 +41,7 @@ grouped-detail-requires : tie.Need-grouped-detail-requires
 grouped-detail-requires c κs = (passed (c .before .before .before .before .before .before .before .before) .room, sums-most _ (c .before .before .before .before .before .before .before .before .before .before .before .before .before .pre .0), subtotal-most _ (c .before .before .before .before .before .before .before .before .before .before .before .before .before .pre .0), small-pig _ _ _ _ (c .pig-figures .ensures) (c .before .manure .ensures))
 
 returns-4 : tie.Need-returns-4
-unfolding first accepted figuresOf
+unfolding first accepted figuresOf sortOf
 returns-4 c =
     told-in _ _ _ _ _ (c .grouped-detail .ensures)
     (rw (

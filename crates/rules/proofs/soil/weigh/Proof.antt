@@ -3,6 +3,7 @@ use mathlib.Core.Path.{_≡_, refl}
 use native.Mathlib.Omega.{arith}
 use borrow.Author.Needs.{needs}
 use Rattle.account.specs.Figures.{figuresOf}
+use Rattle.account.specs.Sorts.{sortOf}
 use Rattle.account.specs.Judge.{inPlace, first, accepted}
 use Rattle.account.proofs.Ranges.{soil-in}
 use Rattle.account.proofs.Told.{sums-most, small-co2, tells-detail, told-in, Passes, passes, stops, accepts}
@@ -22,7 +23,7 @@ detailed-requires : tie.Need-detailed-requires
 detailed-requires c κs = (passed (c .before .before .before .before) .room, sums-most _ (c .before .before .before .before .before .before .before .before .pre .0), small-co2 _ _ (c .before .before .co2-alone .ensures) (c .before .before .before .soil2 .ensures .small))
 
 returns-2 : tie.Need-returns-2
-unfolding first accepted figuresOf
+unfolding first accepted figuresOf sortOf
 returns-2 c =
     told-in _ _ _ _ _ (c .detailed .ensures)
     (rw (accepts _ 7 _ (passed (c .before .before .before .before .before)) refl, c .before .before .before .co2-alone .ensures, c .before .before .before .before .soil2 .ensures .exact)
