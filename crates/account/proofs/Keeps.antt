@@ -27,9 +27,10 @@ use Rattle.account.specs.Judge.{kindOf, valuesOf, noRecord, refused, ope
 use Rattle.account.specs.Told.{Small}
 use Rattle.account.proofs.Tests.{by-test, not-true, not-false, and-l, and-r}
 use Rattle.account.proofs.Sorts.{by-sort, each-kind}
+use Rattle.account.proofs.Sums.{bounded-none, bounded-next, bounded-added, grouped-none, ungrouped-none, grouped-next, grouped-added}
 use Rattle.account.proofs.First.{first-most, first-other, first-clear}
 use Rattle.account.proofs.Ranges.{FarmIn, farm-in, HeadingIn, heading-in, enteric-in, cattle-in, pig-in, energy-in, soil-in}
-use Rattle.account.proofs.Told.{head-most, both-long, Passes}
+use Rattle.account.proofs.Told.{head-most, small-ch4, small-co2, both-long, Passes}
 
 -- ---- a fair account
 
@@ -42,9 +43,9 @@ fair-none =
       counted = record { stage-most = omega arith; records-most = omega arith; in-zero = λ e. refl; in-one = λ e. absurd (omega arith); in-two = λ e. absurd (omega arith) };
       warmed = record { set-most = omega arith; none = λ e. refl; some = λ e. refl };
       heading = inr (record { group = refl; class = refl; head = refl; enteric = refl; nitrogen = refl; pig = refl });
-      sums = record { ch4 = omega arith; n2o = omega arith; co2 = omega arith; excreted = omega arith; land = omega arith };
-      grouped = record { ch4 = omega arith; n2o = omega arith; excreted = omega arith; land = omega arith };
-      ungrouped = λ e. record { ch4 = refl; n2o = refl; excreted = refl; land = refl };
+      sums = bounded-none 0;
+      grouped = grouped-none 0;
+      ungrouped = λ e. ungrouped-none;
       refused = λ e. absurd (omega arith);
       unrefused = λ e. record { code = refl; number = refl; field = refl };
     }
@@ -151,14 +152,12 @@ module _ (a : Account) (f : Fair a) (early : a .stage < 2) where
 
   fair-opened : (set : ℕ) → 1 ≤ set → set ≤ 2 → a .records ≡ 0 → Fair (opened a set)
   fair-opened set low high none =
-      let s = f .sums in
-      let g = f .grouped in
       record {
         counted = record { stage-most = omega arith; records-most = omega arith; in-zero = λ e. absurd (omega arith); in-one = λ e. omega arith; in-two = λ e. absurd (omega arith) };
         warmed = record { set-most = high; none = λ e. absurd (omega arith); some = λ e. absurd (omega arith) };
         heading = ⊎-elim (λ (h : Headed (a .heading) (a .days) (a .records)). absurd (omega arith)) (λ (u : Unheaded (a .heading) (a .days)). inr u) (f .heading);
-        sums = record { ch4 = omega arith; n2o = omega arith; co2 = omega arith; excreted = omega arith; land = omega arith };
-        grouped = record { ch4 = omega arith; n2o = omega arith; excreted = omega arith; land = omega arith };
+        sums = bounded-next (f .sums);
+        grouped = grouped-next (f .grouped);
         ungrouped = f .ungrouped;
         refused = λ e. absurd (omega arith);
         unrefused = λ e. zeros;
@@ -171,7 +170,6 @@ module _ (a : Account) (f : Fair a) (early : a .stage < 2) where
 
     fair-heading : (group class head : ℕ) → 1 ≤ group → group ≤ 65535 → 1 ≤ class → class ≤ 4 → head ≤ 20000 → Fair (underHeading a group class head)
     fair-heading group class head g1 g2 c1 c2 h =
-        let s = f .sums in
         record {
           counted = record { stage-most = omega arith; records-most = omega arith; in-zero = λ e. let z = f .counted .in-zero e in absurd (omega arith); in-one = λ e. omega arith; in-two = λ e. absurd (omega arith) };
           warmed = record { set-most = f .warmed .set-most; none = λ e. absurd (warm-on e); some = λ e. absurd (omega arith) };
@@ -186,9 +184,9 @@ module _ (a : Account) (f : Fair a) (early : a .stage < 2) where
             pig-most = omega arith;
             records-least = omega arith;
           });
-          sums = record { ch4 = omega arith; n2o = omega arith; co2 = omega arith; excreted = omega arith; land = omega arith };
-          grouped = record { ch4 = omega arith; n2o = omega arith; excreted = omega arith; land = omega arith };
-          ungrouped = λ e. record { ch4 = refl; n2o = refl; excreted = refl; land = refl };
+          sums = bounded-next (f .sums);
+          grouped = grouped-none _;
+          ungrouped = λ e. ungrouped-none;
           refused = λ e. absurd (not-three e);
           unrefused = λ e. zeros;
         }
@@ -219,14 +217,12 @@ module _ (a : Account) (f : Fair a) (early : a .stage < 2) where
 
     fair-closed : Fair (closed a)
     fair-closed =
-        let s = f .sums in
-        let g = f .grouped in
         record {
           counted = record { stage-most = omega arith; records-most = omega arith; in-zero = λ e. absurd (omega arith); in-one = λ e. absurd (omega arith); in-two = λ e. omega arith };
           warmed = record { set-most = f .warmed .set-most; none = λ e. absurd (warm-on e); some = λ e. absurd (omega arith) };
           heading = heading-on;
-          sums = record { ch4 = omega arith; n2o = omega arith; co2 = omega arith; excreted = omega arith; land = omega arith };
-          grouped = record { ch4 = omega arith; n2o = omega arith; excreted = omega arith; land = omega arith };
+          sums = bounded-next (f .sums);
+          grouped = grouped-next (f .grouped);
           ungrouped = f .ungrouped;
           refused = λ e. absurd (omega arith);
           unrefused = λ e. zeros;
@@ -235,12 +231,11 @@ module _ (a : Account) (f : Fair a) (early : a .stage < 2) where
     fair-detail : (d : Days) (t : Subtotal) (g : Figures) → Small g → Headed (a .heading) d (a .records + 1) ⊎ Unheaded (a .heading) d → Grouped t (a .records + 1)
         → (a .heading .group ≡ 0 → Ungrouped t) → Fair (withDetail a d t g)
     fair-detail d t g small h grouped ungrouped =
-        let s = f .sums in
         record {
           counted = record { stage-most = omega arith; records-most = omega arith; in-zero = λ e. let z = f .counted .in-zero e in absurd (omega arith); in-one = λ e. omega arith; in-two = λ e. absurd (omega arith) };
           warmed = record { set-most = f .warmed .set-most; none = λ e. absurd (warm-on e); some = λ e. absurd (omega arith) };
           heading = h;
-          sums = record { ch4 = omega arith; n2o = omega arith; co2 = omega arith; excreted = omega arith; land = omega arith };
+          sums = bounded-added (f .sums) small;
           grouped = grouped;
           ungrouped = ungrouped;
           refused = λ e. absurd (not-three e);
@@ -250,15 +245,13 @@ module _ (a : Account) (f : Fair a) (early : a .stage < 2) where
     -- under a heading the subtotal takes the figures too
     fair-grouped : (d : Days) (g : Figures) → Small g → Headed (a .heading) d (a .records + 1) → Fair (withDetail a d (grouped (a .subtotal) g) g)
     fair-grouped d g small h =
-        let s = f .grouped in
-        fair-detail d _ g small (inl h) (record { ch4 = omega arith; n2o = omega arith; excreted = omega arith; land = omega arith })
+        fair-detail d _ g small (inl h) (grouped-added (f .grouped) small)
         (λ e. let least = h .group-least in absurd (omega arith))
 
     -- without one it stays
     fair-farm : (g : Figures) → Small g → Fair (withDetail a (a .days) (a .subtotal) g)
     fair-farm g small =
-        let s = f .grouped in
-        fair-detail (a .days) (a .subtotal) g small heading-on (record { ch4 = omega arith; n2o = omega arith; excreted = omega arith; land = omega arith }) (f .ungrouped)
+        fair-detail (a .days) (a .subtotal) g small heading-on (grouped-next (f .grouped)) (f .ungrouped)
 
     -- ---- the details, kind by kind
 
@@ -268,7 +261,7 @@ module _ (a : Account) (f : Fair a) (early : a .stage < 2) where
       detail-enteric c =
           let i = enteric-in v (a .heading .head) (head-most a f) (c .passes .ranges) in
           let h = headed-by (leb-true _ _ (and-l _ _ (and-l _ _ (c .passes .place)))) in
-          fair-grouped _ _ (record { ch4 = enteric-small i; n2o = omega arith; co2 = omega arith; excreted = omega arith; land = omega arith })
+          fair-grouped _ _ (small-ch4 _ _ refl (enteric-small i))
           (headed-on h _ (ltb-false _ _ (c .days)) (h .nitrogen-most) (h .pig-most))
 
       detail-cattle : Clear a 4 v → Kept (accepted a 4 v)
@@ -291,12 +284,12 @@ module _ (a : Account) (f : Fair a) (early : a .stage < 2) where
       detail-energy : Clear a 6 v → Kept (accepted a 6 v)
       unfolding figuresOf accepted sortOf
       detail-energy c =
-          fair-farm _ (record { ch4 = omega arith; n2o = omega arith; co2 = energy-small (energy-in v (c .passes .ranges)); excreted = omega arith; land = omega arith })
+          fair-farm _ (small-co2 _ _ refl (energy-small (energy-in v (c .passes .ranges))))
 
       detail-soil : Clear a 7 v → Kept (accepted a 7 v)
       unfolding figuresOf accepted sortOf
       detail-soil c =
-          fair-farm _ (record { ch4 = omega arith; n2o = omega arith; co2 = soil-small (soil-in v (c .passes .ranges)); excreted = omega arith; land = omega arith })
+          fair-farm _ (small-co2 _ _ refl (soil-small (soil-in v (c .passes .ranges))))
 
       kept-heading : Clear a 2 v → Kept (accepted a 2 v)
       unfolding accepted sortOf

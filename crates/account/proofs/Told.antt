@@ -31,6 +31,7 @@ use Rattle.account.specs.Range.{Headed, Unheaded, Bounded, Grouped, Fair
 use Rattle.account.specs.Judge.{versionOf, kindOf, judge, first, inPlace, daysOver, partsWrong, valueRefusals, refused, underHeading, withDetail, closed, Step, accepted, decided, weigh}
 use Rattle.account.specs.Told.{Tells, TellsIn, inRoom, Kind, Small, noLine, quiet, refusing, detailing, heading, closing}
 use Rattle.account.proofs.Tests.{not-false, no-bool}
+use Rattle.account.proofs.Sums.{bounded-more, grouped-more}
 use Rattle.account.proofs.First.{three-clear, three-first}
 
 -- ---- a fair account, in what the arithmetic asks
@@ -51,16 +52,10 @@ days-most a f =
     (f .heading)
 
 pub sums-most : (a : Account) → Fair a → Bounded (a .sums) 4096
-sums-most a f =
-    let s = f .sums in
-    let n = f .counted .records-most in
-    record { ch4 = omega arith; n2o = omega arith; co2 = omega arith; excreted = omega arith; land = omega arith }
+sums-most a f = bounded-more (f .counted .records-most) (f .sums)
 
 pub subtotal-most : (a : Account) → Fair a → Grouped (a .subtotal) 4096
-subtotal-most a f =
-    let s = f .grouped in
-    let n = f .counted .records-most in
-    record { ch4 = omega arith; n2o = omega arith; excreted = omega arith; land = omega arith }
+subtotal-most a f = grouped-more (f .counted .records-most) (f .grouped)
 
 -- ---- figures of one line
 
