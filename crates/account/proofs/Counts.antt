@@ -8,9 +8,11 @@ use native.Mathlib.Omega.{arith}
 use lib.ListN.{length}
 use lib.Dec.{eqb}
 use Rattle.account.specs.declared.Account.{Account}
+use Rattle.account.specs.Sorts.{sortOf}
 use Rattle.account.specs.Line.{joined}
 use Rattle.account.specs.Judge.{kindOf, refusals, first, Step, accepted, judge}
 use Rattle.account.proofs.Tests.{by-test}
+use Rattle.account.proofs.Sorts.{by-sort}
 use Rattle.account.proofs.Keeps.{judge-short}
 
 -- the most bytes of lines that one record gives
@@ -25,9 +27,7 @@ counted : (a : Account) (r : List ℕ) → Counted (a .records) (judge a r)
 unfolding judge accepted
 counted a r =
     by-test (Counted (a .records)) (eqb (first (refusals a r)) 0)
-    (λ e. by-test (Counted (a .records)) (eqb (kindOf r) 1) (λ e. inr refl)
-    (λ e. by-test (Counted (a .records)) (eqb (kindOf r) 2) (λ e. inr refl)
-    (λ e. by-test (Counted (a .records)) (eqb (kindOf r) 8) (λ e. inr refl) (λ e. inr refl))))
+    (λ e. by-sort (Counted (a .records)) (sortOf (kindOf r)) (λ e. inr refl) (λ e. inr refl) (λ e. inr refl) (λ e. inr refl) (λ e. inr refl))
     (λ e. inl (refl, refl))
 
 -- the bytes of a record's lines are at most so many for each record that it adds to those accepted

@@ -19,15 +19,18 @@ use Rattle.account.specs.declared.Account.{Account}
 use Rattle.account.specs.declared.Days.{Days}
 use Rattle.account.specs.declared.Figures.{Figures}
 use Rattle.account.specs.declared.Subtotal.{Subtotal}
-use Rattle.account.specs.Figures.{figuresOf, grouped, groupFigures, subtotalAfter}
+use Rattle.account.specs.Sorts.{sortOf}
+use Rattle.account.specs.Figures.{figuresOf, grouped, groupFigures}
 use Rattle.account.specs.Line.{joined, lineWith, lineOf, subtotals, totalOf}
 use Rattle.account.specs.Range.{Headed, Unheaded, Grouped, Ungrouped, Unrefused, Fair}
-use Rattle.account.specs.Judge.{kindOf, valuesOf, noRecord, refused, opened, underHeading, withDetail, closed, headingServes, inPlace, daysAfter, valueRefusals, refusals, first, Step, accepted, decided, weigh, judge}
+use Rattle.account.specs.Judge.{kindOf, valuesOf, noRecord, refused, opened, underHeading, withDetail, closed, headingServes, inPlace, daysOver, partsWrong, valueRefusals, refusals, first, Step, accepted, decided, weigh, judge}
 use Rattle.account.specs.Told.{Small}
-use Rattle.account.proofs.Tests.{by-test, true-or-false, not-true, not-false, and-l, and-r}
+use Rattle.account.proofs.Tests.{by-test, not-true, not-false, and-l, and-r}
+use Rattle.account.proofs.Sorts.{by-sort, each-kind}
+use Rattle.account.proofs.Sums.{bounded-none, bounded-next, bounded-added, grouped-none, ungrouped-none, grouped-next, grouped-added}
 use Rattle.account.proofs.First.{first-most, first-other, first-clear}
 use Rattle.account.proofs.Ranges.{FarmIn, farm-in, HeadingIn, heading-in, enteric-in, cattle-in, pig-in, energy-in, soil-in}
-use Rattle.account.proofs.Told.{head-most, both-long, Passes, past}
+use Rattle.account.proofs.Told.{head-most, small-ch4, small-co2, both-long, Passes}
 
 -- ---- a fair account
 
@@ -40,9 +43,9 @@ fair-none =
       counted = record { stage-most = omega arith; records-most = omega arith; in-zero = λ e. refl; in-one = λ e. absurd (omega arith); in-two = λ e. absurd (omega arith) };
       warmed = record { set-most = omega arith; none = λ e. refl; some = λ e. refl };
       heading = inr (record { group = refl; class = refl; head = refl; enteric = refl; nitrogen = refl; pig = refl });
-      sums = record { ch4 = omega arith; n2o = omega arith; co2 = omega arith; excreted = omega arith; land = omega arith };
-      grouped = record { ch4 = omega arith; n2o = omega arith; excreted = omega arith; land = omega arith };
-      ungrouped = λ e. record { ch4 = refl; n2o = refl; excreted = refl; land = refl };
+      sums = bounded-none 0;
+      grouped = grouped-none 0;
+      ungrouped = λ e. ungrouped-none;
       refused = λ e. absurd (omega arith);
       unrefused = λ e. record { code = refl; number = refl; field = refl };
     }
@@ -119,8 +122,8 @@ module _ (a : Account) (r : List ℕ) where
 -- what a record that is not refused has
 pub record Clear (a : Account) (k : ℕ) (v : List ℕ) : Type 0 where
   pub passes : Passes a k v
-  pub days : (leb 3 k && leb k 5) && ltb 366 (pick (eqb k 3) (a .days .enteric) (pick (eqb k 4) (a .days .nitrogen) (a .days .pig)) + getD v 0 0) ≡ false
-  pub parts : pick (eqb k 4) (not (eqb (getD v 6 0 + getD v 7 0 + getD v 8 0) 10000)) (pick (eqb k 5) (ltb 1000 (getD v 8 0 + getD v 10 0)) false) ≡ false
+  pub days : daysOver (a .days) k v ≡ false
+  pub parts : partsWrong k v ≡ false
 
 pub clear : (a : Account) (k : ℕ) (v : List ℕ) → first (valueRefusals a k v) ≡ 0 → Clear a k v
 clear a k v e =
@@ -149,14 +152,12 @@ module _ (a : Account) (f : Fair a) (early : a .stage < 2) where
 
   fair-opened : (set : ℕ) → 1 ≤ set → set ≤ 2 → a .records ≡ 0 → Fair (opened a set)
   fair-opened set low high none =
-      let s = f .sums in
-      let g = f .grouped in
       record {
         counted = record { stage-most = omega arith; records-most = omega arith; in-zero = λ e. absurd (omega arith); in-one = λ e. omega arith; in-two = λ e. absurd (omega arith) };
         warmed = record { set-most = high; none = λ e. absurd (omega arith); some = λ e. absurd (omega arith) };
         heading = ⊎-elim (λ (h : Headed (a .heading) (a .days) (a .records)). absurd (omega arith)) (λ (u : Unheaded (a .heading) (a .days)). inr u) (f .heading);
-        sums = record { ch4 = omega arith; n2o = omega arith; co2 = omega arith; excreted = omega arith; land = omega arith };
-        grouped = record { ch4 = omega arith; n2o = omega arith; excreted = omega arith; land = omega arith };
+        sums = bounded-next (f .sums);
+        grouped = grouped-next (f .grouped);
         ungrouped = f .ungrouped;
         refused = λ e. absurd (omega arith);
         unrefused = λ e. zeros;
@@ -169,7 +170,6 @@ module _ (a : Account) (f : Fair a) (early : a .stage < 2) where
 
     fair-heading : (group class head : ℕ) → 1 ≤ group → group ≤ 65535 → 1 ≤ class → class ≤ 4 → head ≤ 20000 → Fair (underHeading a group class head)
     fair-heading group class head g1 g2 c1 c2 h =
-        let s = f .sums in
         record {
           counted = record { stage-most = omega arith; records-most = omega arith; in-zero = λ e. let z = f .counted .in-zero e in absurd (omega arith); in-one = λ e. omega arith; in-two = λ e. absurd (omega arith) };
           warmed = record { set-most = f .warmed .set-most; none = λ e. absurd (warm-on e); some = λ e. absurd (omega arith) };
@@ -184,9 +184,9 @@ module _ (a : Account) (f : Fair a) (early : a .stage < 2) where
             pig-most = omega arith;
             records-least = omega arith;
           });
-          sums = record { ch4 = omega arith; n2o = omega arith; co2 = omega arith; excreted = omega arith; land = omega arith };
-          grouped = record { ch4 = omega arith; n2o = omega arith; excreted = omega arith; land = omega arith };
-          ungrouped = λ e. record { ch4 = refl; n2o = refl; excreted = refl; land = refl };
+          sums = bounded-next (f .sums);
+          grouped = grouped-none _;
+          ungrouped = λ e. ungrouped-none;
           refused = λ e. absurd (not-three e);
           unrefused = λ e. zeros;
         }
@@ -217,14 +217,12 @@ module _ (a : Account) (f : Fair a) (early : a .stage < 2) where
 
     fair-closed : Fair (closed a)
     fair-closed =
-        let s = f .sums in
-        let g = f .grouped in
         record {
           counted = record { stage-most = omega arith; records-most = omega arith; in-zero = λ e. absurd (omega arith); in-one = λ e. absurd (omega arith); in-two = λ e. omega arith };
           warmed = record { set-most = f .warmed .set-most; none = λ e. absurd (warm-on e); some = λ e. absurd (omega arith) };
           heading = heading-on;
-          sums = record { ch4 = omega arith; n2o = omega arith; co2 = omega arith; excreted = omega arith; land = omega arith };
-          grouped = record { ch4 = omega arith; n2o = omega arith; excreted = omega arith; land = omega arith };
+          sums = bounded-next (f .sums);
+          grouped = grouped-next (f .grouped);
           ungrouped = f .ungrouped;
           refused = λ e. absurd (omega arith);
           unrefused = λ e. zeros;
@@ -233,12 +231,11 @@ module _ (a : Account) (f : Fair a) (early : a .stage < 2) where
     fair-detail : (d : Days) (t : Subtotal) (g : Figures) → Small g → Headed (a .heading) d (a .records + 1) ⊎ Unheaded (a .heading) d → Grouped t (a .records + 1)
         → (a .heading .group ≡ 0 → Ungrouped t) → Fair (withDetail a d t g)
     fair-detail d t g small h grouped ungrouped =
-        let s = f .sums in
         record {
           counted = record { stage-most = omega arith; records-most = omega arith; in-zero = λ e. let z = f .counted .in-zero e in absurd (omega arith); in-one = λ e. omega arith; in-two = λ e. absurd (omega arith) };
           warmed = record { set-most = f .warmed .set-most; none = λ e. absurd (warm-on e); some = λ e. absurd (omega arith) };
           heading = h;
-          sums = record { ch4 = omega arith; n2o = omega arith; co2 = omega arith; excreted = omega arith; land = omega arith };
+          sums = bounded-added (f .sums) small;
           grouped = grouped;
           ungrouped = ungrouped;
           refused = λ e. absurd (not-three e);
@@ -248,40 +245,35 @@ module _ (a : Account) (f : Fair a) (early : a .stage < 2) where
     -- under a heading the subtotal takes the figures too
     fair-grouped : (d : Days) (g : Figures) → Small g → Headed (a .heading) d (a .records + 1) → Fair (withDetail a d (grouped (a .subtotal) g) g)
     fair-grouped d g small h =
-        let s = f .grouped in
-        fair-detail d _ g small (inl h) (record { ch4 = omega arith; n2o = omega arith; excreted = omega arith; land = omega arith })
+        fair-detail d _ g small (inl h) (grouped-added (f .grouped) small)
         (λ e. let least = h .group-least in absurd (omega arith))
 
     -- without one it stays
     fair-farm : (g : Figures) → Small g → Fair (withDetail a (a .days) (a .subtotal) g)
     fair-farm g small =
-        let s = f .grouped in
-        fair-detail (a .days) (a .subtotal) g small heading-on (record { ch4 = omega arith; n2o = omega arith; excreted = omega arith; land = omega arith }) (f .ungrouped)
+        fair-detail (a .days) (a .subtotal) g small heading-on (grouped-next (f .grouped)) (f .ungrouped)
 
     -- ---- the details, kind by kind
 
-    abbrev Detail : ℕ → List ℕ → Type 0
-    Detail k v = Fair (withDetail a (daysAfter (a .days) k (getD v 0 0)) (subtotalAfter (a .subtotal) k (figuresOf (a .heading) k v)) (figuresOf (a .heading) k v))
-
     module _ (v : List ℕ) where
-      detail-enteric : Clear a 3 v → Detail 3 v
-      unfolding inPlace figuresOf
+      detail-enteric : Clear a 3 v → Kept (accepted a 3 v)
+      unfolding inPlace figuresOf accepted sortOf
       detail-enteric c =
           let i = enteric-in v (a .heading .head) (head-most a f) (c .passes .ranges) in
           let h = headed-by (leb-true _ _ (and-l _ _ (and-l _ _ (c .passes .place)))) in
-          fair-grouped _ _ (record { ch4 = enteric-small i; n2o = omega arith; co2 = omega arith; excreted = omega arith; land = omega arith })
+          fair-grouped _ _ (small-ch4 _ _ refl (enteric-small i))
           (headed-on h _ (ltb-false _ _ (c .days)) (h .nitrogen-most) (h .pig-most))
 
-      detail-cattle : Clear a 4 v → Detail 4 v
-      unfolding inPlace figuresOf
+      detail-cattle : Clear a 4 v → Kept (accepted a 4 v)
+      unfolding inPlace figuresOf accepted sortOf
       detail-cattle c =
           let i = cattle-in v (a .heading .head) (head-most a f) (c .passes .ranges) in
           let h = headed-by (leb-true _ _ (and-l _ _ (and-l _ _ (c .passes .place)))) in
           fair-grouped _ _ (record { ch4 = omega arith; n2o = cattle-n2o-small i; co2 = omega arith; excreted = cattle-excreted-small i; land = omega arith })
           (headed-on h _ (h .enteric-most) (ltb-false _ _ (c .days)) (h .pig-most))
 
-      detail-pig : Clear a 5 v → Detail 5 v
-      unfolding inPlace figuresOf
+      detail-pig : Clear a 5 v → Kept (accepted a 5 v)
+      unfolding inPlace figuresOf accepted sortOf
       detail-pig c =
           let i = pig-in v (a .heading .head) (head-most a f) (c .passes .ranges) (ltb-false _ _ (c .parts)) in
           let four : a .heading .class ≡ 4 = eqb-true _ _ (and-l _ _ (c .passes .place)) in
@@ -289,71 +281,49 @@ module _ (a : Account) (f : Fair a) (early : a .stage < 2) where
           fair-grouped _ _ (record { ch4 = pig-ch4-small i; n2o = pig-n2o-small i; co2 = omega arith; excreted = pig-excreted-small i; land = pig-land-small i })
           (headed-on h _ (h .enteric-most) (h .nitrogen-most) (ltb-false _ _ (c .days)))
 
-      detail-energy : Clear a 6 v → Detail 6 v
-      unfolding figuresOf
+      detail-energy : Clear a 6 v → Kept (accepted a 6 v)
+      unfolding figuresOf accepted sortOf
       detail-energy c =
-          fair-farm _ (record { ch4 = omega arith; n2o = omega arith; co2 = energy-small (energy-in v (c .passes .ranges)); excreted = omega arith; land = omega arith })
+          fair-farm _ (small-co2 _ _ refl (energy-small (energy-in v (c .passes .ranges))))
 
-      detail-soil : Clear a 7 v → Detail 7 v
-      unfolding figuresOf
+      detail-soil : Clear a 7 v → Kept (accepted a 7 v)
+      unfolding figuresOf accepted sortOf
       detail-soil c =
-          fair-farm _ (record { ch4 = omega arith; n2o = omega arith; co2 = soil-small (soil-in v (c .passes .ranges)); excreted = omega arith; land = omega arith })
+          fair-farm _ (small-co2 _ _ refl (soil-small (soil-in v (c .passes .ranges))))
+
+      kept-heading : Clear a 2 v → Kept (accepted a 2 v)
+      unfolding accepted sortOf
+      kept-heading c =
+          let i = heading-in v (c .passes .ranges) in
+          fair-heading _ _ _ (i .group-least) (i .group-most) (i .class-least) (i .class-most) (i .head-most)
+
+      kept-close : Clear a 8 v → Kept (accepted a 8 v)
+      unfolding accepted sortOf
+      kept-close c = fair-closed
 
   -- ---- by its kind
 
-  module _ (k : ℕ) (v : List ℕ) (c : Clear a k v) where
-    after-first : eqb k 1 ≡ false → 1 ≤ a .records
-    unfolding inPlace
-    after-first e =
-        let p : headingServes (a .heading .class) k && not (eqb (a .records) 0) ≡ true = rw e at (c .passes .place) in
-        let n : a .records ≡ 0 → ⊥ = eqb-false _ _ (not-true _ (and-r (headingServes (a .heading .class) k) _ p)) in
-        omega arith
+  kept-farm : (v : List ℕ) → Clear a 1 v → Kept (accepted a 1 v)
+  unfolding inPlace accepted sortOf
+  kept-farm v c = let i = farm-in v (c .passes .ranges) in fair-opened _ (i .set-least) (i .set-most) (eqb-true _ _ (c .passes .place))
 
-    kept-farm : eqb k 1 ≡ true → Fair (opened a (getD v 2 0))
-    unfolding inPlace
-    kept-farm e =
-        let c1 : Clear a 1 v = rw (eqb-true k 1 e) at c in
-        let i = farm-in v (c1 .passes .ranges) in
-        fair-opened _ (i .set-least) (i .set-most) (eqb-true _ _ (c1 .passes .place))
+  after-first : (k : ℕ) (v : List ℕ) → Clear a k v → eqb k 1 ≡ false → 1 ≤ a .records
+  unfolding inPlace
+  after-first k v c e =
+      let p : headingServes (a .heading .class) k && not (eqb (a .records) 0) ≡ true = rw e at (c .passes .place) in
+      let n : a .records ≡ 0 → ⊥ = eqb-false _ _ (not-true _ (and-r (headingServes (a .heading .class) k) _ p)) in
+      omega arith
 
-    kept-heading : eqb k 1 ≡ false → eqb k 2 ≡ true → Fair (underHeading a (getD v 0 0) (getD v 1 0) (getD v 2 0))
-    kept-heading e1 e2 =
-        let i = heading-in v (rw (eqb-true k 2 e2) at (c .passes .ranges)) in
-        fair-heading (after-first e1) (c .passes .room) _ _ _ (i .group-least) (i .group-most) (i .class-least) (i .class-most) (i .head-most)
+  -- from the second record on
+  later : (k : ℕ) (v : List ℕ) → eqb k 1 ≡ false → ((begun : 1 ≤ a .records) (room : a .records < 4096) (v : List ℕ) → Clear a k v → Kept (accepted a k v))
+      → Clear a k v → Kept (accepted a k v)
+  later k v e kept c = kept (after-first k v c e) (c .passes .room) v c
 
-    -- none of the others is left but 7
-    seven : leb 1 k && leb k 8 ≡ true → eqb k 1 ≡ false → eqb k 2 ≡ false → eqb k 3 ≡ false → eqb k 4 ≡ false → eqb k 5 ≡ false → eqb k 6 ≡ false → eqb k 8 ≡ false → k ≡ 7
-    seven both e1 e2 e3 e4 e5 e6 e8 =
-        let low = leb-true 1 k (and-l _ _ both) in
-        let high = leb-true k 8 (and-r (leb 1 k) _ both) in
-        only
-        (past 6 k (past 5 k (past 4 k (past 3 k (past 2 k (past 1 k low (eqb-false _ _ e1)) (eqb-false _ _ e2)) (eqb-false _ _ e3)) (eqb-false _ _ e4)) (eqb-false _ _ e5)) (eqb-false _ _ e6))
-        high (eqb-false _ _ e8)
-      where
-        only : 7 ≤ k → k ≤ 8 → (k ≡ 8 → ⊥) → k ≡ 7
-        only p q n = omega arith
-
-    kept-detail : leb 1 k && leb k 8 ≡ true → eqb k 1 ≡ false → eqb k 2 ≡ false → eqb k 8 ≡ false
-        → Fair (withDetail a (daysAfter (a .days) k (getD v 0 0)) (subtotalAfter (a .subtotal) k (figuresOf (a .heading) k v)) (figuresOf (a .heading) k v))
-    kept-detail both e1 e2 e8 =
-        let b = after-first e1 in
-        let m = c .passes .room in
-        ⊎-elim (λ (e : eqb k 3 ≡ true). let q = eqb-true k 3 e in rw q (detail-enteric b m v (rw q at c)))
-        (λ (e3 : eqb k 3 ≡ false).
-        ⊎-elim (λ (e : eqb k 4 ≡ true). let q = eqb-true k 4 e in rw q (detail-cattle b m v (rw q at c)))
-        (λ (e4 : eqb k 4 ≡ false).
-        ⊎-elim (λ (e : eqb k 5 ≡ true). let q = eqb-true k 5 e in rw q (detail-pig b m v (rw q at c)))
-        (λ (e5 : eqb k 5 ≡ false).
-        ⊎-elim (λ (e : eqb k 6 ≡ true). let q = eqb-true k 6 e in rw q (detail-energy b m v (rw q at c)))
-        (λ (e6 : eqb k 6 ≡ false). let q = seven both e1 e2 e3 e4 e5 e6 e8 in rw q (detail-soil b m v (rw q at c)))
-        (true-or-false (eqb k 6))) (true-or-false (eqb k 5))) (true-or-false (eqb k 4))) (true-or-false (eqb k 3))
-
-    pub fair-accepted : leb 1 k && leb k 8 ≡ true → Fair (accepted a k v .account)
-    unfolding accepted
-    fair-accepted both =
-        by-test Kept (eqb k 1) kept-farm
-        (λ e1. by-test Kept (eqb k 2) (kept-heading e1)
-        (λ e2. by-test Kept (eqb k 8) (λ e8. fair-closed (after-first e1) (c .passes .room)) (kept-detail both e1 e2)))
+  pub fair-accepted : (k : ℕ) (v : List ℕ) → Clear a k v → leb 1 k && leb k 8 ≡ true → Kept (accepted a k v)
+  fair-accepted k v c both =
+      each-kind (λ (n : ℕ). Clear a n v → Kept (accepted a n v)) (kept-farm v) (later 2 v refl kept-heading) (later 3 v refl detail-enteric)
+      (later 4 v refl detail-cattle) (later 5 v refl detail-pig) (later 6 v refl detail-energy) (later 7 v refl detail-soil)
+      (later 8 v refl kept-close) k both c
 
 -- ---- a whole record
 
@@ -405,8 +375,7 @@ pub judge-short : (a : Account) (r : List ℕ) → length (joined (judge a r .li
 unfolding judge accepted
 judge-short a r =
     by-test ShortLines (eqb (first (refusals a r)) 0)
-    (λ e. by-test ShortLines (eqb (kindOf r) 1) (λ e. omega arith)
-    (λ e. by-test ShortLines (eqb (kindOf r) 2) (λ e. ends-short a .0)
-    (λ e. by-test ShortLines (eqb (kindOf r) 8) (λ e. ends-short a .1)
-    (λ e. one-line (lineOf (a .heading) (kindOf r) (valuesOf r)) 46 (line-length _ _ _ _ _ _ _) (omega arith)))))
+    (λ e. by-sort ShortLines (sortOf (kindOf r)) (λ e. omega arith) (λ e. ends-short a .0)
+    (λ e. one-line (lineOf (a .heading) (kindOf r) (valuesOf r)) 46 (line-length _ _ _ _ _ _ _) (omega arith))
+    (λ e. one-line (lineOf (a .heading) (kindOf r) (valuesOf r)) 46 (line-length _ _ _ _ _ _ _) (omega arith)) (λ e. ends-short a .1))
     (λ e. omega arith)

@@ -1,4 +1,6 @@
 pub mod Tests
+pub mod Sorts
+pub mod Sums
 pub mod First
 pub mod Ranges
 pub mod Told

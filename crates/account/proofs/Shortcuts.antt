@@ -13,6 +13,7 @@ use Rattle.account.specs.declared.Heading.{Heading}
 use Rattle.account.specs.declared.Days.{Days}
 use Rattle.account.specs.declared.Subtotal.{Subtotal}
 use Rattle.account.specs.Range.{countedTest, warmedTest, headedTest, unheadedTest, boundedTest, groupedTest, ungroupedTest, numberedTest, unrefusedTest, fair}
+use Rattle.account.proofs.Sums.{ungrouped-bounded}
 use Rattle.account.proofs.Tests.{and-l, and-r, all-each, each-all, implied, or-cases}
 use Rattle.account.proofs.Clauses.{counted-parts, counted-test, warmed-parts, warmed-test, headed-parts, unheaded-parts, grouped-test, ungrouped-parts}
 
@@ -92,7 +93,7 @@ module _ (h : Heading) (d : Days) (s : Subtotal) (records : ℕ) where
           let u = and-l (unheadedTest h d) (ungroupedTest s) e in
           let v = and-r (unheadedTest h d) (ungroupedTest s) e in
           let p = ungrouped-parts s v in
-          let g = grouped-test s records (record { ch4 = omega arith; n2o = omega arith; excreted = omega arith; land = omega arith }) in
+          let g = grouped-test s records (ungrouped-bounded records p) in
           rw (u, v, g, or-true (headedTest h d records), or-true (not (eqb (h .group) 0))) refl
 
       back : all ≡ true → unheadedTest h d && ungroupedTest s ≡ true

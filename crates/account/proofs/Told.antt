@@ -31,6 +31,7 @@ use Rattle.account.specs.Range.{Headed, Unheaded, Bounded, Grouped, Fair
 use Rattle.account.specs.Judge.{versionOf, kindOf, judge, first, inPlace, daysOver, partsWrong, valueRefusals, refused, underHeading, withDetail, closed, Step, accepted, decided, weigh}
 use Rattle.account.specs.Told.{Tells, TellsIn, inRoom, Kind, Small, noLine, quiet, refusing, detailing, heading, closing}
 use Rattle.account.proofs.Tests.{not-false, no-bool}
+use Rattle.account.proofs.Sums.{bounded-more, grouped-more}
 use Rattle.account.proofs.First.{three-clear, three-first}
 
 -- ---- a fair account, in what the arithmetic asks
@@ -51,16 +52,10 @@ days-most a f =
     (f .heading)
 
 pub sums-most : (a : Account) → Fair a → Bounded (a .sums) 4096
-sums-most a f =
-    let s = f .sums in
-    let n = f .counted .records-most in
-    record { ch4 = omega arith; n2o = omega arith; co2 = omega arith; excreted = omega arith; land = omega arith }
+sums-most a f = bounded-more (f .counted .records-most) (f .sums)
 
 pub subtotal-most : (a : Account) → Fair a → Grouped (a .subtotal) 4096
-subtotal-most a f =
-    let s = f .grouped in
-    let n = f .counted .records-most in
-    record { ch4 = omega arith; n2o = omega arith; excreted = omega arith; land = omega arith }
+subtotal-most a f = grouped-more (f .counted .records-most) (f .grouped)
 
 -- ---- figures of one line
 
@@ -269,21 +264,3 @@ wrong-version room a r j h e = quiet-in room a _ (judge a r) j e (rw (ne-eqb _ 1
 pub wrong-kind : (room : ℕ) (a : Account) (r : List ℕ) (j : Judged) → versionOf r ≡ 1 → leb 1 (kindOf r) && leb (kindOf r) 8 ≡ false → j ≡ refusing a 3 0 → TellsIn room a (judge a r) j
 unfolding judge first
 wrong-kind room a r j v h e = quiet-in room a _ (judge a r) j e (rw (v, h, e) (tells-quiet (refused a 3 0)))
-
-pub past : (n k : ℕ) → n ≤ k → (k ≡ n → ⊥) → n + 1 ≤ k
-past n k l h = omega arith
-
--- a kind that is none of the eight
-pub no-kind : (k : ℕ) → (k ≡ 1 → ⊥) → (k ≡ 2 → ⊥) → (k ≡ 3 → ⊥) → (k ≡ 4 → ⊥) → (k ≡ 5 → ⊥) → (k ≡ 6 → ⊥) → (k ≡ 7 → ⊥) → (k ≡ 8 → ⊥) → leb 1 k && leb k 8 ≡ false
-no-kind k h1 h2 h3 h4 h5 h6 h7 h8 = go (leb 1 k) (leb k 8) refl refl
-  where
-    above : 1 ≤ k → 9 ≤ k
-    above l = past 8 k (past 7 k (past 6 k (past 5 k (past 4 k (past 3 k (past 2 k (past 1 k l h1) h2) h3) h4) h5) h6) h7) h8
-
-    not-both : (l m : ℕ) → l ≤ m → m < l → ⊥
-    not-both l m p q = omega arith
-
-    go : (x y : Bool) → leb 1 k ≡ x → leb k 8 ≡ y → x && y ≡ false
-    go false y d e = refl
-    go true false d e = refl
-    go true true d e = absurd (not-both k 8 (leb-true _ _ e) (above (leb-true _ _ d)))

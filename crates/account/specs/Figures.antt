@@ -3,7 +3,7 @@
 use Prim.Native.Nat.{ℕ, _+_}
 use mathlib.Core.List.{List}
 use lib.ListN.{getD}
-use lib.Dec.{leb, eqb}
+use lib.Dec.{eqb}
 use Rattle.codec.specs.Codec.{pick}
 use Rattle.grams.specs.Cattle as cattle
 use Rattle.grams.specs.Pig as pig
@@ -32,7 +32,7 @@ added f g =
       land = f .land + g .land;
     }
 
--- a group's subtotal, of kinds 3 to 5: nothing yet
+-- a group's subtotal: nothing yet
 abbrev pub noSubtotal : Subtotal
 noSubtotal = record { ch4 = 0; n2o = gramsN2o 0; excreted = 0; land = 0 }
 
@@ -43,10 +43,6 @@ grouped s f = record { ch4 = s .ch4 + f .ch4; n2o = gramsN2o (s .n2o .0 + f .n2o
 -- as the figures of a line: a group has no CO2
 abbrev pub groupFigures : Subtotal → Figures
 groupFigures s = record { ch4 = s .ch4; n2o = s .n2o; co2 = 0; excreted = s .excreted; land = s .land }
-
--- kinds 3 to 5 count in the subtotal, 6 and 7 belong to the farm
-abbrev pub subtotalAfter : Subtotal → ℕ → Figures → Subtotal
-subtotalAfter s k f = pick (leb k 5) (grouped s f) s
 
 -- 0 where the rule gives none: enteric CH4 alone, and CO2 alone
 abbrev pub ch4Alone : ℕ → Figures

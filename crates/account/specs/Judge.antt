@@ -13,7 +13,8 @@ use Rattle.account.specs.declared.Account.{Account}
 use Rattle.account.specs.declared.Days.{Days}
 use Rattle.account.specs.declared.Figures.{Figures}
 use Rattle.account.specs.declared.Subtotal.{Subtotal}
-use Rattle.account.specs.Figures.{noFigures, noSubtotal, added, subtotalAfter, cattleRation, figuresOf}
+use Rattle.account.specs.Sorts.{sortOf, bySort}
+use Rattle.account.specs.Figures.{noFigures, noSubtotal, added, grouped, cattleRation, figuresOf}
 use Rattle.account.specs.Line.{lineOf, subtotals, totalOf}
 
 -- ---- a record and its parts
@@ -131,10 +132,6 @@ headingServes class k =
 unfoldable pub inPlace : Account → ℕ → Bool
 inPlace a k = pick (eqb k 1) (eqb (a .records) 0) (headingServes (a .heading .class) k && not (eqb (a .records) 0))
 
--- the days so far of kinds 3, 4 and 5, each kind for itself
-abbrev pub daysOf : Days → ℕ → ℕ
-daysOf d k = pick (eqb k 3) (d .enteric) (pick (eqb k 4) (d .nitrogen) (d .pig))
-
 -- so many days more of kinds 3, 4 and 5; other kinds have none
 abbrev pub daysAfter : Days → ℕ → ℕ → Days
 daysAfter d k more =
@@ -144,9 +141,12 @@ daysAfter d k more =
       pig = pick (eqb k 5) (d .pig + more) (d .pig);
     }
 
--- days over 366 with this record
+-- days over 366 with this record, each of kinds 3, 4 and 5 for itself
 abbrev pub daysOver : Days → ℕ → List ℕ → Bool
-daysOver d k v = (leb 3 k && leb k 5) && ltb 366 (daysOf d k + getD v 0 0)
+daysOver d k v =
+    pick (eqb k 3) (ltb 366 (d .enteric + getD v 0 0))
+    (pick (eqb k 4) (ltb 366 (d .nitrogen + getD v 0 0))
+    (pick (eqb k 5) (ltb 366 (d .pig + getD v 0 0)) false))
 
 -- cattle shares not 10000 together, or pig parts over 1000 together
 abbrev pub partsWrong : ℕ → List ℕ → Bool
@@ -198,16 +198,22 @@ pub record Step : Type 0 where
   pub account : Account
   pub lines : List (List ℕ)
 
--- a record that is not refused
+-- a detail that leaves this subtotal
+abbrev pub withLine : Account → ℕ → List ℕ → Subtotal → Step
+withLine a k v subtotal =
+    record {
+      account = withDetail a (daysAfter (a .days) k (getD v 0 0)) subtotal (figuresOf (a .heading) k v);
+      lines = lineOf (a .heading) k v ∷ [];
+    }
+
+-- a record that is not refused, by its sort; a detail of the group alone counts in the subtotal
 unfoldable pub accepted : Account → ℕ → List ℕ → Step
 accepted a k v =
-    pick (eqb k 1) (record { account = opened a (getD v 2 0); lines = [] })
-    (pick (eqb k 2) (record { account = underHeading a (getD v 0 0) (getD v 1 0) (getD v 2 0); lines = subtotals a })
-    (pick (eqb k 8) (record { account = closed a; lines = subtotals a ++ (totalOf a ∷ []) })
-    (record {
-      account = withDetail a (daysAfter (a .days) k (getD v 0 0)) (subtotalAfter (a .subtotal) k (figuresOf (a .heading) k v)) (figuresOf (a .heading) k v);
-      lines = lineOf (a .heading) k v ∷ [];
-    })))
+    bySort (sortOf k) (record { account = opened a (getD v 2 0); lines = [] })
+    (record { account = underHeading a (getD v 0 0) (getD v 1 0) (getD v 2 0); lines = subtotals a })
+    (withLine a k v (grouped (a .subtotal) (figuresOf (a .heading) k v)))
+    (withLine a k v (a .subtotal))
+    (record { account = closed a; lines = subtotals a ++ (totalOf a ∷ []) })
 
 -- by the number of its first refusal; the field is given for 7 alone
 abbrev pub decided : ℕ → Account → ℕ → List ℕ → Step

@@ -1,3 +1,4 @@
+pub mod Sorts
 pub mod Figures
 pub mod Line
 pub mod Range

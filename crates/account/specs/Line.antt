@@ -2,22 +2,23 @@
 -- Assumes nothing.
 use Prim.Native.Nat.{ℕ}
 use mathlib.Core.List.{List, [], _∷_, _++_}
-use lib.Dec.{eqb, leb}
+use lib.Dec.{eqb}
 use Rattle.codec.specs.Codec.{pick, lineBytes, totalBytes}
 use Rattle.grams.specs.Farm.{co2eOf, warmingOf}
 use Rattle.account.specs.declared.Account.{Account}
 use Rattle.account.specs.declared.Figures.{Figures}
 use Rattle.account.specs.declared.Heading.{Heading}
 use Rattle.account.specs.declared.Judged.{Judged}
+use Rattle.account.specs.Sorts.{sortOf, bySort}
 use Rattle.account.specs.Figures.{groupFigures, figuresOf}
 
 -- a line of kind k, with a group and five figures
 abbrev pub lineWith : ℕ → ℕ → Figures → List ℕ
 lineWith k group f = lineBytes k group (f .ch4) (f .n2o .0) (f .co2) (f .excreted) (f .land)
 
--- the group that a line bears: the heading's, 0 for kinds 6 and 7
+-- the group that a line bears: the heading's for a detail of the group, else 0
 abbrev pub groupOf : Heading → ℕ → ℕ
-groupOf h k = pick (leb k 5) (h .group) 0
+groupOf h k = bySort (sortOf k) 0 0 (h .group) 0 0
 
 -- a detail's line is a function of its heading and its values alone
 abbrev pub lineOf : Heading → ℕ → List ℕ → List ℕ

@@ -1,4 +1,4 @@
-// The account that a book's records have made so far. What a record does to it is said in specs/Judge and carried out by weighing and judging.
+// The account that a book's records have made so far. What a record does to it is said in specs/Judge and carried out by rules.
 mod fair;
 pub mod line;
 
@@ -31,7 +31,7 @@ pub struct Figures {
     pub land: u64,
 }
 
-// Grams of one group: the running subtotal of kinds 3 to 5. A group has no CO2.
+// Grams of one group: the running subtotal of its details. A group has no CO2.
 pub struct Subtotal {
     pub ch4: u64,
     pub n2o: N2o,

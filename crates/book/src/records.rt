@@ -4,7 +4,7 @@ use crate::bytes::rest_of;
 use crate::front::ready;
 use account::Account;
 use account::line::write;
-use judging::judge_within;
+use rules::judge;
 ghost use mathlib.Core.Path.{_≡_};
 ghost use Prim.Native.Nat.{_<_};
 ghost use Rattle.account.specs.Range.{Fair};
@@ -35,7 +35,7 @@ pub(crate) fn judge_all(from: Account, src: &[u8], out: &mut [u8]) -> Records
             return Records { account, at, w };
         }
         let record = first_of(rest, n);
-        let j = judge_within(account, record, out.len() - w);
+        let j = judge(account, record, out.len() - w);
         let line = j.line;
         account = j.account;
         if out.len() - w < line.len {

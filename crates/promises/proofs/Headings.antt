@@ -7,18 +7,20 @@ use mathlib.Core.List.{List, [], _∷_, _++_, map, append-assoc, append-nil}
 use mathlib.Core.Bool.{Bool, true, false, _&&_, _||_, not}
 use mathlib.Core.Logic.{_⊎_, inl, inr, ⊎-elim}
 use native.Mathlib.Omega.{arith}
-use borrow.Author.Tests.{leb-true, eqb-true, le-leb, ne-eqb}
+use borrow.Author.Tests.{leb-true, eqb-true}
 use lib.ListN.{length, getD, take, drop, length-append, length-drop}
 use lib.Dec.{leb, eqb}
 use Rattle.codec.specs.Table.{table, fields, lineFields, totalFields}
 use Rattle.codec.specs.Codec.{pick, valAt, be, valuesAt, bytesOf, lineBytes, totalBytes}
 use Rattle.account.specs.declared.Account.{Account}
 use Rattle.account.specs.declared.Heading.{Heading}
+use Rattle.account.specs.Sorts.{heads, ofGroup, sortOf}
 use Rattle.account.specs.Line.{lineWith, subtotals, totalOf}
 use Rattle.account.specs.Figures.{groupFigures}
 use Rattle.account.specs.Range.{Headed, Unheaded, Fair}
 use Rattle.account.specs.Judge.{kindOf, valuesOf, underHeading, first, refusals, Step, accepted, judge}
 use Rattle.account.proofs.Tests.{by-test, not-false, and-r, lt-or-ge}
+use Rattle.account.proofs.Sorts.{by-sort, heads-two}
 use Rattle.account.proofs.First.{first-clear}
 use Rattle.account.proofs.Keeps.{fair-judge}
 use Rattle.book.specs.declared.State.{State}
@@ -27,7 +29,7 @@ use Rattle.book.specs.State.{heldOf, holding, InRange}
 use Rattle.book.specs.Run.{Run, book, run}
 use Rattle.book.proofs.FrontLaws.{meaning}
 use Rattle.book.proofs.RunLaws.{book-ended, book-unfinished, book-bad, book-whole}
-use Rattle.promises.specs.Headings.{beginsWith, recordsBy, recordsOf, lastGroup, Mark, markOf, subtotalMark, ownMark, marksOf}
+use Rattle.promises.specs.Headings.{beginsWith, recordsBy, recordsOf, groupBy, lastGroup, Mark, markOf, subtotalMark, ownMark, marksOf}
 
 -- ---- the records of some bytes
 
@@ -90,9 +92,6 @@ record Stopped (a : Account) (j : Step) : Type 0 where
   none : j .lines ≡ []
 
 module _ (a : Account) (r : List ℕ) (f : Fair a) (kinds : leb 1 (kindOf r) && leb (kindOf r) 8 ≡ true) where
-  bound : pick (leb (kindOf r) 5) (a .heading .group) 0 < 65536
-  bound = by-test (λ (n : ℕ). n < 65536) (leb (kindOf r) 5) (λ e. omega (arith, group-most a f)) (λ e. omega arith)
-
   small-kind : kindOf r < 256
   small-kind = omega (arith, leb-true (kindOf r) 8 (and-r (leb 1 (kindOf r)) (leb (kindOf r) 8) kinds))
 
@@ -105,10 +104,15 @@ module _ (a : Account) (r : List ℕ) (f : Fair a) (kinds : leb 1 (kindOf r) && 
       go true = refl
       go false = ap (λ (m : Mark). m ∷ []) (line-mark _ _ _ _ _ _ _ (omega arith) (omega (arith, group-most a f)))
 
-  new-heading : eqb (kindOf r) 2 ≡ true
+  -- a heading's first value is its group
+  first-value : kindOf r ≡ 2 → getD (valuesOf r) 0 0 ≡ valAt r 4 2
+  unfolding table valuesAt
+  first-value k = rw k refl
+
+  new-heading : sortOf (kindOf r) ≡ heads
       → Grown a r (record { account = underHeading a (getD (valuesOf r) 0 0) (getD (valuesOf r) 1 0) (getD (valuesOf r) 2 0); lines = subtotals a })
   unfolding table valuesAt lastGroup
-  new-heading e = let k = eqb-true (kindOf r) 2 e in record { counted = refl; marks = group-marks ∙ rw k refl; group = rw k refl }
+  new-heading e = let k = heads-two (kindOf r) e in record { counted = refl; marks = group-marks ∙ rw e refl; group = rw e (first-value k) }
 
   close-marks : map markOf (subtotals a ++ (totalOf a ∷ [])) ≡ subtotalMark (a .heading .group) ++ (record { kind = 8; group = 0 } ∷ [])
   close-marks =
@@ -117,12 +121,12 @@ module _ (a : Account) (r : List ℕ) (f : Fair a) (kinds : leb 1 (kindOf r) && 
   grown : Grown a r (accepted a (kindOf r) (valuesOf r))
   unfolding accepted lastGroup
   grown =
-      by-test (Grown a r) (eqb (kindOf r) 1)
-      (λ e1. let k = eqb-true (kindOf r) 1 e1 in record { counted = refl; marks = rw k refl; group = rw k refl })
-      (λ e1. by-test (Grown a r) (eqb (kindOf r) 2) new-heading
-      (λ e2. by-test (Grown a r) (eqb (kindOf r) 8)
-      (λ e8. let k = eqb-true (kindOf r) 8 e8 in record { counted = refl; marks = close-marks ∙ rw k refl; group = rw k refl })
-      (λ e8. record { counted = refl; marks = rw (e1, e2, e8) (ap (λ (m : Mark). m ∷ []) (line-mark _ _ _ _ _ _ _ small-kind bound)); group = rw e2 refl })))
+      by-sort (Grown a r) (sortOf (kindOf r))
+      (λ e. record { counted = refl; marks = rw e refl; group = rw e refl })
+      new-heading
+      (λ e. record { counted = refl; marks = rw e (ap (λ (m : Mark). m ∷ []) (line-mark _ _ _ _ _ _ _ small-kind (omega (arith, group-most a f)))); group = rw e refl })
+      (λ e. record { counted = refl; marks = rw e (ap (λ (m : Mark). m ∷ []) (line-mark _ _ _ _ _ _ _ small-kind (omega arith))); group = rw e refl })
+      (λ e. record { counted = refl; marks = close-marks ∙ rw e refl; group = rw e refl })
 
 pub kind-in : (a : Account) (r : List ℕ) → first (refusals a r) ≡ 0 → leb 1 (kindOf r) && leb (kindOf r) 8 ≡ true
 kind-in a r e =
@@ -201,23 +205,19 @@ headings s xs v = marked (suc (length (heldOf s ++ xs))) (s .account) (heldOf s 
 marks-append : (g : ℕ) (xs ys : List (List ℕ)) → marksOf g (xs ++ ys) ≡ marksOf g xs ++ marksOf (lastGroup g xs) ys
 unfolding marksOf lastGroup
 marks-append g [] ys = refl
-marks-append g (x ∷ xs) ys = rw (marks-append (pick (eqb (kindOf x) 2) (valAt x 4 2) g) xs ys, append-assoc)
+marks-append g (x ∷ xs) ys = rw (marks-append (groupBy g x) xs ys, append-assoc)
 
-under-heading : (g : ℕ) (r : List ℕ) (rs : List (List ℕ)) → 3 ≤ kindOf r → kindOf r ≤ 5 → marksOf g (r ∷ rs) ≡ record { kind = kindOf r; group = g } ∷ marksOf g rs
+under-heading : (g : ℕ) (r : List ℕ) (rs : List (List ℕ)) → sortOf (kindOf r) ≡ ofGroup → marksOf g (r ∷ rs) ≡ record { kind = kindOf r; group = g } ∷ marksOf g rs
 unfolding marksOf lastGroup
-under-heading g r rs p q =
-    let one : eqb (kindOf r) 1 ≡ false = ne-eqb (kindOf r) 1 (λ e. omega (arith, e)) in
-    let two : eqb (kindOf r) 2 ≡ false = ne-eqb (kindOf r) 2 (λ e. omega (arith, e)) in
-    let eight : eqb (kindOf r) 8 ≡ false = ne-eqb (kindOf r) 8 (λ e. omega (arith, e)) in
-    rw (one, two, eight, le-leb _ _ q) refl
+under-heading g r rs e = rw e refl
 
--- Every ration and manure line bears the last group heading before it: where the records accepted are some, then r of kind 3, 4 or 5, then
+-- Every ration and manure line bears the last group heading before it: where the records accepted are some, then r, a detail of a group, then
 -- others, the lines are those of the first ones, then one of r's kind with the group of the last heading among the first ones (the
 -- state's where there is none), then those of the others.
-pub bears-last-heading : (s : State) (xs : List ℕ) → InRange s → (before after : List (List ℕ)) (r : List ℕ) → acceptedRecords s xs ≡ before ++ (r ∷ after) → 3 ≤ kindOf r → kindOf r ≤ 5
+pub bears-last-heading : (s : State) (xs : List ℕ) → InRange s → (before after : List (List ℕ)) (r : List ℕ) → acceptedRecords s xs ≡ before ++ (r ∷ after) → sortOf (kindOf r) ≡ ofGroup
     → map markOf (run s xs .lines)
     ≡ marksOf (s .account .heading .group) before
     ++ (record { kind = kindOf r; group = lastGroup (s .account .heading .group) before } ∷ marksOf (lastGroup (s .account .heading .group) before) after)
-bears-last-heading s xs v before after r e p q =
+bears-last-heading s xs v before after r e q =
     headings s xs v
-    ∙ rw (e, marks-append (s .account .heading .group) before (r ∷ after), under-heading (lastGroup (s .account .heading .group) before) r after p q) refl
+    ∙ rw (e, marks-append (s .account .heading .group) before (r ∷ after), under-heading (lastGroup (s .account .heading .group) before) r after q) refl

@@ -58,17 +58,17 @@ one-feed κs args f g e e′ p q = (p .0 ∙ sym (q .0), p .1 .0 ∙ sym (q .1 .
 pub one-equation : {A : Type 0} (value one other : A) → one ≡ value → other ≡ value → one ≡ other
 one-equation value one other p q = p ∙ sym q
 
--- Two answers that meet judge's contract have the same account, the same bytes of lines, and as many of them.
-pub one-judge : (j : Step) (one other : Judged) → Tells j one → Tells j other
+-- Two answers that tell the same step where its lines fit have the same account, the same bytes of lines, and as many of them.
+pub one-told : (j : Step) (one other : Judged) → Tells j one → Tells j other
     → (one .account ≡ other .account) × ((bytesOf one ≡ bytesOf other) × (one .line .len ≡ other .line .len))
-one-judge j one other p q =
+one-told j one other p q =
     let b : bytesOf one ≡ bytesOf other = p .bytes ∙ sym (q .bytes) in
     (p .account ∙ sym (q .account), (b, sym (p .long) ∙ ap length b ∙ q .long))
 
--- Two answers that meet judge_within's contract have the same account and as many bytes of lines; where those fit, both tell what judge's would.
-pub one-judge-within : (room : ℕ) (a : Account) (j : Step) (one other : Judged) → TellsIn room a j one → TellsIn room a j other
+-- Two answers that meet judge's contract (rules) have the same account and as many bytes of lines; where those fit, both tell the step whole.
+pub one-judge : (room : ℕ) (a : Account) (j : Step) (one other : Judged) → TellsIn room a j one → TellsIn room a j other
     → (one .account ≡ other .account) × (one .line .len ≡ other .line .len)
-one-judge-within room a j one other p q =
+one-judge room a j one other p q =
     let l : one .line .len ≡ other .line .len = sym (lines-long p) ∙ lines-long q in
     let b : one .account ≡ other .account =
     ⊎-elim (λ (h : room < one .line .len). account-kept p h ∙ sym (account-kept q (rw l at h)))

@@ -17,6 +17,7 @@ use Rattle.grams.specs.Farm.{energyOf, soilOf, co2eOf}
 use Rattle.grams.specs.Cases.{every}
 use Rattle.account.specs.Figures.{figuresOf}
 use Rattle.account.specs.Range.{fair}
+use Rattle.account.specs.Sorts.{sortOf}
 use Rattle.account.specs.Judge.{kindOf, noRecord, refused, first, inPlace, accepted, judge}
 use Rattle.book.specs.Front.{front}
 use Rattle.book.specs.State.{noRecordYet, holding, inRange, InRange}
@@ -31,20 +32,20 @@ use Rattle.promises.proofs.StaysInRange.{new-in-range}
 
 -- P1 to P12: each row of the table gives what document 01 prints.
 pub figures-to-meet : T (every paper)
-unfolding table size valAt be valuesAt bytesOf firstBad recordBytes roundDiv cattle.entericOf cattle.belowZero cattle.manureOf pig.manureOf soilOf figuresOf first inPlace accepted judge front bookBy book run
+unfolding table size valAt be valuesAt bytesOf firstBad recordBytes roundDiv cattle.entericOf cattle.belowZero cattle.manureOf pig.manureOf soilOf figuresOf first inPlace accepted sortOf judge front bookBy book run
 figures-to-meet = tt
 
 -- The sample book is accepted and closed, gives document 01's lines and total, and leaves nothing.
 pub sample-lines : run noRecordYet sample .lines ≡ sampleLines
-unfolding table size valAt valuesAt firstBad roundDiv cattle.entericOf energyOf co2eOf figuresOf first inPlace accepted judge front bookBy book run
+unfolding table size valAt valuesAt firstBad roundDiv cattle.entericOf energyOf co2eOf figuresOf first inPlace accepted sortOf judge front bookBy book run
 sample-lines = refl
 
 pub sample-closed : verdictOf (run noRecordYet sample .state .account) ≡ 2 ∷ 6 ∷ 0 ∷ 0 ∷ 0 ∷ []
-unfolding table size valAt valuesAt firstBad roundDiv cattle.entericOf energyOf co2eOf figuresOf first inPlace accepted judge front bookBy book run
+unfolding table size valAt valuesAt firstBad roundDiv cattle.entericOf energyOf co2eOf figuresOf first inPlace accepted sortOf judge front bookBy book run
 sample-closed = refl
 
 pub sample-left : run noRecordYet sample .left ≡ []
-unfolding table size valAt valuesAt firstBad first inPlace accepted judge front bookBy book run
+unfolding table size valAt valuesAt firstBad first inPlace accepted sortOf judge front bookBy book run
 sample-left = refl
 
 -- ---- the premises are met
@@ -77,11 +78,11 @@ parts =
     ∷ []
 
 pub ended-way : Ended (way noRecordYet sample parts)
-unfolding table size valAt be valuesAt firstBad bytesOf lineBytes totalBytes lineFields totalFields roundDiv cattle.entericOf energyOf co2eOf figuresOf fair first inPlace accepted judge front bookBy book run inRange longest answerOf call way
+unfolding table size valAt be valuesAt firstBad bytesOf lineBytes totalBytes lineFields totalFields roundDiv cattle.entericOf energyOf co2eOf figuresOf fair first inPlace accepted sortOf judge front bookBy book run inRange longest answerOf call way
 ended-way = inl refl
 
 -- A ration after a heading: the third record of the sample, under group 12.
 pub ration-under-heading : (acceptedRecords noRecordYet sample ≡ take 2 (recordsOf sample) ++ (getD (recordsOf sample) 2 [] ∷ drop 3 (recordsOf sample)))
     × ((kindOf (getD (recordsOf sample) 2 []) ≡ 3) × (lastGroup 0 (take 2 (recordsOf sample)) ≡ 12))
-unfolding table size valAt valuesAt firstBad first inPlace accepted judge front bookBy book run recordsBy recordsOf lastGroup
+unfolding table size valAt valuesAt firstBad first inPlace accepted sortOf judge front bookBy book run recordsBy recordsOf lastGroup
 ration-under-heading = (refl, (refl, refl))

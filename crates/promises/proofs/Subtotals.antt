@@ -7,7 +7,7 @@ use mathlib.Core.List.{List, [], _∷_, _++_, map, append-assoc, append-nil}
 use mathlib.Core.Bool.{Bool, true, false, _&&_, _||_, not}
 use mathlib.Core.Logic.{_⊎_, inl, inr, ⊎-elim}
 use native.Mathlib.Omega.{arith}
-use borrow.Author.Tests.{leb-true, eqb-true, eqb-false, le-leb, lt-leb, ne-eqb, eq-eqb}
+use borrow.Author.Tests.{eqb-true, ne-eqb}
 use lib.ListN.{length, getD, take, drop, length-drop}
 use lib.Dec.{leb, eqb}
 use Rattle.codec.specs.Table.{fields}
@@ -16,13 +16,14 @@ use Rattle.account.specs.declared.Account.{Account}
 use Rattle.account.specs.declared.Heading.{Heading}
 use Rattle.account.specs.declared.Figures.{Figures}
 use Rattle.account.specs.declared.Subtotal.{Subtotal}
-use Rattle.account.specs.Figures.{noFigures, noSubtotal, added, grouped, groupFigures, subtotalAfter, co2Alone, figuresOf}
-use Rattle.account.specs.Line.{lineWith, lineOf, subtotals, totalOf}
+use Rattle.account.specs.Sorts.{Sort, opens, heads, ofGroup, ofFarm, closes, sortOf, bySort}
+use Rattle.account.specs.Figures.{noFigures, noSubtotal, added, grouped, groupFigures, co2Alone, figuresOf}
+use Rattle.account.specs.Line.{lineWith, subtotals, totalOf}
 use Rattle.account.specs.Range.{Ungrouped, Fair}
-use Rattle.account.specs.Judge.{kindOf, valuesOf, noRecord, opened, underHeading, withDetail, closed, daysAfter, first, refusals, Step, accepted, judge}
-use Rattle.account.proofs.Tests.{by-test, no-bool, and-l, and-r, lt-or-ge, true-or-false}
+use Rattle.account.specs.Judge.{kindOf, valuesOf, noRecord, first, refusals, Step, accepted, judge}
+use Rattle.account.proofs.Tests.{by-test, no-bool, lt-or-ge, true-or-false}
+use Rattle.account.proofs.Sorts.{by-sort, not-of-group, kind-most}
 use Rattle.account.proofs.Keeps.{fair-judge}
-use Rattle.account.proofs.Told.{past}
 use Rattle.book.specs.declared.State.{State}
 use Rattle.book.specs.Front.{Front, unfinished, badLength, whole, need, front}
 use Rattle.book.specs.State.{heldOf, noRecordYet, InRange}
@@ -31,7 +32,7 @@ use Rattle.book.proofs.FrontLaws.{meaning}
 use Rattle.promises.proofs.StaysInRange.{new-in-range}
 use Rattle.book.proofs.RunLaws.{book-ended, book-unfinished, book-bad, book-whole}
 use Rattle.promises.specs.Headings.{Mark, markOf, recordsOf}
-use Rattle.promises.specs.Subtotals.{detailOf, headingAfter, groupAfter, farmAfter, Group, ends, groupsOf, farmOf, addedUp, lineOfGroup, subtotalLines}
+use Rattle.promises.specs.Subtotals.{detailOf, headingAfter, groupAfter, farmAfter, Group, groupUnder, ends, groupsOf, farmOf, addedUp, lineOfGroup, subtotalLines}
 use Rattle.promises.proofs.Headings.{line-mark, total-mark, group-most, records-whole, kind-in, acceptedRecords}
 
 -- ---- lines of kind 16
@@ -70,9 +71,9 @@ record Gas : Type 0 where
   air : (g : ℕ) → farm (co2Alone g) ≡ 0
   ungrouped : (s : Subtotal) → Ungrouped s → group s ≡ 0
 
--- two numbers are not one
-differ : {A : Type 0} {k : ℕ} (m n : ℕ) → k ≡ m → k ≡ n → m < n → A
-differ m n p q h = absurd (omega arith)
+-- whether a record closes the book
+abbrev closing : List ℕ → Bool
+closing r = bySort (sortOf (kindOf r)) false false false false true
 
 -- it is accepted, with the kind k: heading, subtotal, sums and subtotal lines are those that the records make
 record Made (a : Account) (r : List ℕ) (j : Step) : Type 0 where
@@ -81,12 +82,12 @@ record Made (a : Account) (r : List ℕ) (j : Step) : Type 0 where
   subtotal : j .account .subtotal ≡ groupAfter (a .heading) (a .subtotal) r
   sums : j .account .sums ≡ farmAfter (a .heading) (a .sums) r
   lines : subtotalLines (j .lines) ≡ map lineOfGroup (ends (a .heading) (a .subtotal) r)
-  still : a .stage < 2 → eqb (kindOf r) 8 ≡ false → j .account .stage < 2
-  shut : eqb (kindOf r) 8 ≡ true → j .account .stage ≡ 2
+  still : a .stage < 2 → closing r ≡ false → j .account .stage < 2
+  shut : closing r ≡ true → j .account .stage ≡ 2
 
 module _ (a : Account) (r : List ℕ) (f : Fair a) (kinds : leb 1 (kindOf r) && leb (kindOf r) 8 ≡ true) where
   -- the subtotal of the group that ends
-  ending : subtotalLines (subtotals a) ≡ map lineOfGroup (pick (eqb (a .heading .group) 0) [] (record { number = a .heading .group; subtotal = a .subtotal } ∷ []))
+  ending : subtotalLines (subtotals a) ≡ map lineOfGroup (groupUnder (a .heading) (a .subtotal))
   unfolding subtotalLines
   ending = go (eqb (a .heading .group) 0)
     where
@@ -96,63 +97,64 @@ module _ (a : Account) (r : List ℕ) (f : Fair a) (kinds : leb 1 (kindOf r) && 
       go true = refl
       go false = own-line (lineWith 16 (a .heading .group) (groupFigures (a .subtotal))) (line-kind 16 (a .heading .group) _ _ _ _ _ (omega arith) (omega (arith, group-most a f)))
 
-  made-heading : eqb (kindOf r) 2 ≡ true → Made a r (record { account = underHeading a (getD (valuesOf r) 0 0) (getD (valuesOf r) 1 0) (getD (valuesOf r) 2 0); lines = subtotals a })
-  made-heading e = let k = eqb-true (kindOf r) 2 e in record { counted = refl; heading = rw e refl; subtotal = rw e refl; sums = rw k refl; lines = ending ∙ rw e refl; still = λ h n. h; shut = λ q. differ 2 8 k (eqb-true _ _ q) (omega arith) }
+  -- a detail gives no subtotal line
+  detail-line : (g : ℕ) → g < 65536 → subtotalLines (lineWith (kindOf r) g (detailOf (a .heading) r) ∷ []) ≡ []
+  detail-line g b =
+      let most = kind-most (kindOf r) kinds in
+      other-line (lineWith (kindOf r) g (detailOf (a .heading) r)) (kindOf r) (line-kind (kindOf r) _ _ _ _ _ _ (omega arith) b) (λ q. omega (arith, q, most))
 
-  made-close : eqb (kindOf r) 8 ≡ true → Made a r (record { account = closed a; lines = subtotals a ++ (totalOf a ∷ []) })
-  made-close e =
-      let k = eqb-true (kindOf r) 8 e in
-      let t : subtotalLines (totalOf a ∷ []) ≡ [] = other-line (totalOf a) 8 (ap (λ (m : Mark). m .kind) (total-mark _ _ _ _ _ _)) (λ q. omega (arith, q)) in
-      record {
-        counted = refl;
-        heading = rw k refl;
-        subtotal = rw k refl;
-        sums = rw k refl;
-        lines = lines-append (subtotals a) (totalOf a ∷ []) ∙ rw (t, append-nil) (ending ∙ rw k refl);
-        still = λ h n. no-bool (sym n ∙ e);
-        shut = λ q. refl;
-      }
-
-  -- a detail, of kinds 3 to 7
-  made-detail : eqb (kindOf r) 1 ≡ false → eqb (kindOf r) 2 ≡ false → eqb (kindOf r) 8 ≡ false
-      → Made a r (record {
-        account = withDetail a (daysAfter (a .days) (kindOf r) (getD (valuesOf r) 0 0)) (subtotalAfter (a .subtotal) (kindOf r) (detailOf (a .heading) r)) (detailOf (a .heading) r);
-        lines = lineOf (a .heading) (kindOf r) (valuesOf r) ∷ [];
-      })
-  made-detail e1 e2 e8 =
-      let low : 1 ≤ kindOf r = leb-true 1 (kindOf r) (and-l (leb 1 (kindOf r)) (leb (kindOf r) 8) kinds) in
-      let high : kindOf r ≤ 8 = leb-true (kindOf r) 8 (and-r (leb 1 (kindOf r)) (leb (kindOf r) 8) kinds) in
-      let three : 3 ≤ kindOf r = past 2 (kindOf r) (past 1 (kindOf r) low (eqb-false _ _ e1)) (eqb-false _ _ e2) in
-      let seven : kindOf r ≤ 7 = below (kindOf r) high (eqb-false _ _ e8) in
-      record {
-        counted = refl;
-        heading = rw e2 refl;
-        subtotal = rw (e2, le-leb _ _ three) refl;
-        sums = rw (le-leb _ _ three, le-leb _ _ seven) refl;
-        lines = other-line (lineOf (a .heading) (kindOf r) (valuesOf r)) (kindOf r) (line-kind (kindOf r) _ _ _ _ _ _ (less seven) bounded) (λ q. not-both (kindOf r) seven q) ∙ rw (e2, e8) refl;
-        still = λ h n. h;
-        shut = λ q. no-bool (sym e8 ∙ q);
-      }
-    where
-      below : (k : ℕ) → k ≤ 8 → (k ≡ 8 → ⊥) → k ≤ 7
-      below k p n = omega arith
-
-      less : kindOf r ≤ 7 → kindOf r < 256
-      less p = omega arith
-
-      not-both : (k : ℕ) → k ≤ 7 → k ≡ 16 → ⊥
-      not-both k p q = omega arith
-
-      bounded : pick (leb (kindOf r) 5) (a .heading .group) 0 < 65536
-      bounded = by-test (λ (n : ℕ). n < 65536) (leb (kindOf r) 5) (λ e. omega (arith, group-most a f)) (λ e. omega arith)
+  total-line : subtotalLines (totalOf a ∷ []) ≡ []
+  total-line = other-line (totalOf a) 8 (ap (λ (m : Mark). m .kind) (total-mark _ _ _ _ _ _)) (λ q. omega (arith, q))
 
   made : Made a r (accepted a (kindOf r) (valuesOf r))
   unfolding accepted subtotalLines
   made =
-      by-test (Made a r) (eqb (kindOf r) 1)
-      (λ e1. let k = eqb-true (kindOf r) 1 e1 in record { counted = refl; heading = rw k refl; subtotal = rw k refl; sums = rw k refl; lines = rw k refl; still = λ h n. omega arith; shut = λ q. differ 1 8 k (eqb-true _ _ q) (omega arith) })
-      (λ e1. by-test (Made a r) (eqb (kindOf r) 2) made-heading
-      (λ e2. by-test (Made a r) (eqb (kindOf r) 8) made-close (made-detail e1 e2)))
+      by-sort (Made a r) (sortOf (kindOf r))
+      (λ e. record {
+        counted = refl;
+        heading = rw e refl;
+        subtotal = rw e refl;
+        sums = rw e refl;
+        lines = rw e refl;
+        still = λ h n. omega arith;
+        shut = λ q. no-bool (rw e at q);
+      })
+      (λ e. record {
+        counted = refl;
+        heading = rw e refl;
+        subtotal = rw e refl;
+        sums = rw e refl;
+        lines = ending ∙ rw e refl;
+        still = λ h n. h;
+        shut = λ q. no-bool (rw e at q);
+      })
+      (λ e. record {
+        counted = refl;
+        heading = rw e refl;
+        subtotal = rw e refl;
+        sums = rw e refl;
+        lines = rw e (detail-line (a .heading .group) (omega (arith, group-most a f)));
+        still = λ h n. h;
+        shut = λ q. no-bool (rw e at q);
+      })
+      (λ e. record {
+        counted = refl;
+        heading = rw e refl;
+        subtotal = rw e refl;
+        sums = rw e refl;
+        lines = rw e (detail-line 0 (omega arith));
+        still = λ h n. h;
+        shut = λ q. no-bool (rw e at q);
+      })
+      (λ e. record {
+        counted = refl;
+        heading = rw e refl;
+        subtotal = rw e refl;
+        sums = rw e refl;
+        lines = lines-append (subtotals a) (totalOf a ∷ []) ∙ rw (total-line, append-nil, e) ending;
+        still = λ h n. no-bool (sym n ∙ rw e refl);
+        shut = λ q. refl;
+      })
 
 -- ---- a run of records
 
@@ -185,7 +187,7 @@ none-summed a xs r e s n c =
     record { grows = omega arith; summed = rw z (record { sums = s; lines = rw n refl; closed = λ x early q. absurd (c early q) }) }
 
 -- what the group that r ends has, where there is one; none has nothing
-ended-group : (a : Account) → Fair a → (x : Gas) → addedUp (x .group) (pick (eqb (a .heading .group) 0) [] (record { number = a .heading .group; subtotal = a .subtotal } ∷ [])) ≡ x .group (a .subtotal)
+ended-group : (a : Account) → Fair a → (x : Gas) → addedUp (x .group) (groupUnder (a .heading) (a .subtotal)) ≡ x .group (a .subtotal)
 unfolding addedUp
 ended-group a f x = go (eqb (a .heading .group) 0) refl
   where
@@ -195,51 +197,39 @@ ended-group a f x = go (eqb (a .heading .group) 0) refl
 
 -- the balance of one record that does not close the book: what the farm gains is what its groups gain
 module _ (a : Account) (r : List ℕ) (f : Fair a) (x : Gas) where
-  -- kinds 6 and 7 give CO2 alone
-  air-alone : 6 ≤ kindOf r → x .farm (detailOf (a .heading) r) ≡ 0
+  -- a detail of the farm gives CO2 alone
+  air-alone : sortOf (kindOf r) ≡ ofFarm → x .farm (detailOf (a .heading) r) ≡ 0
   unfolding figuresOf
-  air-alone h =
-      let n3 : eqb (kindOf r) 3 ≡ false = ne-eqb (kindOf r) 3 (λ q. omega (arith, q)) in
-      let n4 : eqb (kindOf r) 4 ≡ false = ne-eqb (kindOf r) 4 (λ q. omega (arith, q)) in
-      let n5 : eqb (kindOf r) 5 ≡ false = ne-eqb (kindOf r) 5 (λ q. omega (arith, q)) in
-      rw (n3, n4, n5) (by-test (λ (g : Figures). x .farm g ≡ 0) (eqb (kindOf r) 6) (λ e. x .air _) (λ e. x .air _))
+  air-alone e =
+      let n = not-of-group (kindOf r) e in
+      rw (n .0, n .1 .0, n .1 .1) (by-test (λ (g : Figures). x .farm g ≡ 0) (eqb (kindOf r) 6) (λ e. x .air _) (λ e. x .air _))
 
-  balance : eqb (kindOf r) 8 ≡ false
+  abbrev Balanced : Sort → Type 0
+  Balanced s =
+      x .farm (bySort s (a .sums) (a .sums) (added (a .sums) (detailOf (a .heading) r)) (added (a .sums) (detailOf (a .heading) r)) (a .sums)) + x .group (a .subtotal)
+      ≡ x .farm (a .sums) + addedUp (x .group) (bySort s [] (groupUnder (a .heading) (a .subtotal)) [] [] (groupUnder (a .heading) (a .subtotal)))
+      + x .group (bySort s (a .subtotal) noSubtotal (grouped (a .subtotal) (detailOf (a .heading) r)) (a .subtotal) (a .subtotal))
+
+  balance-by : (s : Sort) → sortOf (kindOf r) ≡ s → bySort s false false false false true ≡ false → Balanced s
+  unfolding addedUp
+  balance-by opens e n = omega arith
+  balance-by heads e n = omega (arith, ended-group a f x, x .none)
+  balance-by ofGroup e n = omega (arith, x .adds (a .sums) (detailOf (a .heading) r), x .groups (a .subtotal) (detailOf (a .heading) r))
+  balance-by ofFarm e n = omega (arith, x .adds (a .sums) (detailOf (a .heading) r), air-alone e)
+  balance-by closes e n = no-bool (sym n)
+
+  balance : closing r ≡ false
       → x .farm (farmAfter (a .heading) (a .sums) r) + x .group (a .subtotal)
       ≡ x .farm (a .sums) + addedUp (x .group) (ends (a .heading) (a .subtotal) r) + x .group (groupAfter (a .heading) (a .subtotal) r)
-  unfolding addedUp
-  balance e8 = ⊎-elim at-heading elsewhere (true-or-false (eqb (kindOf r) 2))
-    where
-      at-heading : eqb (kindOf r) 2 ≡ true
-          → x .farm (farmAfter (a .heading) (a .sums) r) + x .group (a .subtotal)
-          ≡ x .farm (a .sums) + addedUp (x .group) (ends (a .heading) (a .subtotal) r) + x .group (groupAfter (a .heading) (a .subtotal) r)
-      at-heading e = let k = eqb-true (kindOf r) 2 e in rw k (omega (arith, ended-group a f x, x .none))
+  balance n = balance-by (sortOf (kindOf r)) refl n
 
-      elsewhere : eqb (kindOf r) 2 ≡ false
-          → x .farm (farmAfter (a .heading) (a .sums) r) + x .group (a .subtotal)
-          ≡ x .farm (a .sums) + addedUp (x .group) (ends (a .heading) (a .subtotal) r) + x .group (groupAfter (a .heading) (a .subtotal) r)
-      elsewhere e2 =
-          ⊎-elim
-          (λ (h : kindOf r < 3). rw (e2, e8, lt-leb _ _ h) (omega arith))
-          (λ (h : 3 ≤ kindOf r).
-          ⊎-elim
-          (λ (i : kindOf r < 6).
-          let five : kindOf r ≤ 5 = omega arith in
-          let seven : kindOf r ≤ 7 = omega arith in
-          rw (e2, e8, le-leb _ _ h, le-leb _ _ five, le-leb _ _ seven)
-          (omega (arith, x .adds (a .sums) (detailOf (a .heading) r), x .groups (a .subtotal) (detailOf (a .heading) r))))
-          (λ (i : 6 ≤ kindOf r).
-          let five : leb (kindOf r) 5 ≡ false = lt-leb (kindOf r) 5 (omega arith) in
-          ⊎-elim
-          (λ (l : kindOf r < 8).
-          let seven : kindOf r ≤ 7 = omega arith in
-          rw (e2, e8, le-leb _ _ h, five, le-leb _ _ seven) (omega (arith, x .adds (a .sums) (detailOf (a .heading) r), air-alone i)))
-          (λ (l : 8 ≤ kindOf r).
-          let seven : leb (kindOf r) 7 ≡ false = lt-leb (kindOf r) 7 (omega arith) in
-          rw (e2, e8, le-leb _ _ h, five, seven) (omega arith))
-          (lt-or-ge (kindOf r) 8))
-          (lt-or-ge (kindOf r) 6))
-          (lt-or-ge (kindOf r) 3)
+-- only the close closes
+closes-by : (s : Sort) → bySort s false false false false true ≡ true → s ≡ closes
+closes-by opens e = no-bool e
+closes-by heads e = no-bool e
+closes-by ofGroup e = no-bool e
+closes-by ofFarm e = no-bool e
+closes-by closes e = refl
 
 -- one record accepted, and then those behind it
 module _ (a : Account) (xs : List ℕ) (j : Step) (b : Run) (f : Fair a) (early : a .stage < 2) (e : front xs ≡ whole) (m : Made a (take (need xs) xs) j)
@@ -257,7 +247,7 @@ module _ (a : Account) (xs : List ℕ) (j : Step) (b : Run) (f : Fair a) (early 
   behind : groupsOf (j .account .heading) (j .account .subtotal) rs ≡ groupsOf (headingAfter (a .heading) r) (groupAfter (a .heading) (a .subtotal) r) rs
   behind = rw (m .heading, m .subtotal) refl
 
-  open-balance : (x : Gas) → eqb (kindOf r) 8 ≡ false → b .state .account .stage ≡ 2
+  open-balance : (x : Gas) → closing r ≡ false → b .state .account .stage ≡ 2
       → x .farm (b .state .account .sums) + x .group (a .subtotal) ≡ x .farm (a .sums) + addedUp (x .group) (ends (a .heading) (a .subtotal) r ++ groupsOf (headingAfter (a .heading) r) (groupAfter (a .heading) (a .subtotal) r) rs)
   open-balance x e8 q =
       let i = g .summed .closed x (m .still early e8) q in
@@ -265,11 +255,11 @@ module _ (a : Account) (xs : List ℕ) (j : Step) (b : Run) (f : Fair a) (early 
       rw (m .sums, m .subtotal) (balance a r f x e8) in
       rw (added-append (x .group) (ends (a .heading) (a .subtotal) r) (groupsOf (headingAfter (a .heading) r) (groupAfter (a .heading) (a .subtotal) r) rs), ← behind) (omega arith)
 
-  closing-balance : (x : Gas) → eqb (kindOf r) 8 ≡ true
+  closing-balance : (x : Gas) → closing r ≡ true
       → x .farm (b .state .account .sums) + x .group (a .subtotal) ≡ x .farm (a .sums) + addedUp (x .group) (ends (a .heading) (a .subtotal) r ++ groupsOf (headingAfter (a .heading) r) (groupAfter (a .heading) (a .subtotal) r) rs)
   unfolding groupsOf
   closing-balance x e8 =
-      let k = eqb-true (kindOf r) 8 e8 in
+      let k = closes-by (sortOf (kindOf r)) e8 in
       let same = shut (m .shut e8) in
       let z : b .state .account .records - j .account .records ≡ 0 = omega (arith, ap (λ (c : Account). c .records) same) in
       let sums : b .state .account .sums ≡ a .sums = ap (λ (c : Account). c .sums) same ∙ m .sums ∙ rw k refl in
@@ -285,7 +275,7 @@ module _ (a : Account) (xs : List ℕ) (j : Step) (b : Run) (f : Fair a) (early 
             (record {
               sums = rw (m .heading, m .sums) at (g .summed .sums);
               lines = lines-append (j .lines) (b .lines) ∙ rw (m .lines, g .summed .lines, behind, map-append (ends (a .heading) (a .subtotal) r)) refl;
-              closed = λ x h q. ⊎-elim (λ (e8 : eqb (kindOf r) 8 ≡ true). closing-balance x e8) (λ (e8 : eqb (kindOf r) 8 ≡ false). open-balance x e8 q) (true-or-false (eqb (kindOf r) 8));
+              closed = λ x h q. ⊎-elim (λ (e : closing r ≡ true). closing-balance x e) (λ (e : closing r ≡ false). open-balance x e q) (true-or-false (closing r));
             });
       }
 

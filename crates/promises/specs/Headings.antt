@@ -4,8 +4,9 @@
 use Prim.Native.Nat.{ℕ, zero, suc}
 use mathlib.Core.List.{List, [], _∷_, _++_}
 use lib.ListN.{length, take, drop}
-use lib.Dec.{leb, eqb}
+use lib.Dec.{eqb}
 use Rattle.codec.specs.Codec.{pick, valAt}
+use Rattle.account.specs.Sorts.{sortOf, bySort}
 use Rattle.account.specs.Judge.{kindOf}
 use Rattle.book.specs.Front.{Front, unfinished, badLength, whole, need, front}
 
@@ -24,10 +25,14 @@ recordsBy (suc n) xs = beginsWith (front xs) xs (recordsBy n (drop (need xs) xs)
 unfoldable pub recordsOf : List ℕ → List (List ℕ)
 recordsOf xs = recordsBy (suc (length xs)) xs
 
--- the group of the last heading record (kind 2) of rs; g where there is none
+-- the group after the record r, g being the one before it: a heading brings its own
+abbrev pub groupBy : ℕ → List ℕ → ℕ
+groupBy g r = bySort (sortOf (kindOf r)) g (valAt r 4 2) g g g
+
+-- the group of the last heading record of rs; g where there is none
 unfoldable pub lastGroup : ℕ → List (List ℕ) → ℕ
 lastGroup g [] = g
-lastGroup g (r ∷ rs) = lastGroup (pick (eqb (kindOf r) 2) (valAt r 4 2) g) rs
+lastGroup g (r ∷ rs) = lastGroup (groupBy g r) rs
 
 -- what a line bears: its kind and its group, read from its bytes
 pub record Mark : Type 0 where
@@ -41,14 +46,15 @@ markOf l = record { kind = valAt l 3 1; group = valAt l 4 2 }
 abbrev pub subtotalMark : ℕ → List Mark
 subtotalMark g = pick (eqb g 0) [] (record { kind = 16; group = g } ∷ [])
 
--- what the lines of a record of kind k bear, g being the last group before it: kinds 3 to 5 bear g, 6 and 7 bear 0; a new heading has the
--- subtotal of g, the close that and the total, and a farm record has no line
+-- what the lines of a record of kind k bear, g being the last group before it: what opens the book has no line, a new heading the subtotal of g;
+-- a detail of the group bears g, one of the farm 0; the close has the subtotal of g and the total
 abbrev pub ownMark : ℕ → ℕ → List Mark
 ownMark g k =
-    pick (eqb k 1) []
-    (pick (eqb k 2) (subtotalMark g)
-    (pick (eqb k 8) (subtotalMark g ++ (record { kind = 8; group = 0 } ∷ []))
-    (record { kind = k; group = pick (leb k 5) g 0 } ∷ [])))
+    bySort (sortOf k) []
+    (subtotalMark g)
+    (record { kind = k; group = g } ∷ [])
+    (record { kind = k; group = 0 } ∷ [])
+    (subtotalMark g ++ (record { kind = 8; group = 0 } ∷ []))
 
 -- what the lines of the records rs bear, g being the last group before them
 unfoldable pub marksOf : ℕ → List (List ℕ) → List Mark

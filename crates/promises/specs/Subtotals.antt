@@ -3,13 +3,13 @@
 -- Assumes nothing.
 use Prim.Native.Nat.{ℕ, _+_}
 use mathlib.Core.List.{List, [], _∷_, _++_}
-use mathlib.Core.Bool.{_&&_, _||_}
 use lib.ListN.{getD}
-use lib.Dec.{leb, eqb}
+use lib.Dec.{eqb}
 use Rattle.codec.specs.Codec.{pick, valAt}
 use Rattle.account.specs.declared.Heading.{Heading}
 use Rattle.account.specs.declared.Figures.{Figures}
 use Rattle.account.specs.declared.Subtotal.{Subtotal}
+use Rattle.account.specs.Sorts.{sortOf, bySort}
 use Rattle.account.specs.Figures.{added, noSubtotal, grouped, groupFigures, figuresOf}
 use Rattle.account.specs.Line.{lineWith}
 use Rattle.account.specs.Judge.{kindOf, valuesOf}
@@ -18,26 +18,33 @@ use Rattle.account.specs.Judge.{kindOf, valuesOf}
 abbrev pub detailOf : Heading → List ℕ → Figures
 detailOf h r = figuresOf h (kindOf r) (valuesOf r)
 
--- a record of kind 2 is the new heading
+-- a record that heads a group is the new heading
 abbrev pub headingAfter : Heading → List ℕ → Heading
-headingAfter h r = pick (eqb (kindOf r) 2) (record { group = getD (valuesOf r) 0 0; class = getD (valuesOf r) 1 0; head = getD (valuesOf r) 2 0 }) h
+headingAfter h r =
+    bySort (sortOf (kindOf r)) h
+    (record { group = getD (valuesOf r) 0 0; class = getD (valuesOf r) 1 0; head = getD (valuesOf r) 2 0 })
+    h h h
 
--- a group's subtotal is that of its records of kinds 3 to 5; a new heading begins with nothing
+-- a group's subtotal is that of its details; a new heading begins with nothing
 abbrev pub groupAfter : Heading → Subtotal → List ℕ → Subtotal
-groupAfter h s r = pick (eqb (kindOf r) 2) noSubtotal (pick (leb 3 (kindOf r) && leb (kindOf r) 5) (grouped s (detailOf h r)) s)
+groupAfter h s r = bySort (sortOf (kindOf r)) s noSubtotal (grouped s (detailOf h r)) s s
 
--- the farm's figures are those of all its records of kinds 3 to 7
+-- the farm's figures are those of all details, of groups and of the farm
 abbrev pub farmAfter : Heading → Figures → List ℕ → Figures
-farmAfter h f r = pick (leb 3 (kindOf r) && leb (kindOf r) 7) (added f (detailOf h r)) f
+farmAfter h f r = bySort (sortOf (kindOf r)) f f (added f (detailOf h r)) (added f (detailOf h r)) f
 
 -- a group that has ended: its number and its subtotal
 pub record Group : Type 0 where
   pub number : ℕ
   pub subtotal : Subtotal
 
--- a new heading and the close end the group before them, where there is one
+-- the group under the heading h, where there is one
+abbrev pub groupUnder : Heading → Subtotal → List Group
+groupUnder h s = pick (eqb (h .group) 0) [] (record { number = h .group; subtotal = s } ∷ [])
+
+-- a new heading and the close end the group before them
 abbrev pub ends : Heading → Subtotal → List ℕ → List Group
-ends h s r = pick (eqb (kindOf r) 2 || eqb (kindOf r) 8) (pick (eqb (h .group) 0) [] (record { number = h .group; subtotal = s } ∷ [])) []
+ends h s r = bySort (sortOf (kindOf r)) [] (groupUnder h s) [] [] (groupUnder h s)
 
 -- the groups that end in the records rs, in order, the heading h and its subtotal s so far being before them
 unfoldable pub groupsOf : Heading → Subtotal → List (List ℕ) → List Group

@@ -10,7 +10,8 @@ use Rattle.codec.specs.Codec.{firstBad, recordBytes}
 use Rattle.account.specs.declared.Account.{Account}
 use Rattle.account.specs.declared.Judged.{Judged}
 use Rattle.account.specs.Judge.{weigh}
-use Rattle.account.specs.Told.{Tells}
+use Rattle.account.specs.Told.{Tells, TellsIn}
+use Rattle.account.proofs.Told.{tells-fit, lines-short}
 
 -- the kind is k, and w are the values
 module _ {kind : ℕ} {v : List ℕ} (k : ℕ) (e : kind ≡ k) where
@@ -18,8 +19,9 @@ module _ {kind : ℕ} {v : List ℕ} (k : ℕ) (e : kind ≡ k) where
   counted n f o = o .count ∙ ap (λ (i : ℕ). length (fields i)) e ∙ f
 
   module _ {w : List ℕ} (s : w ≡ v) where
-    pub told : (a : Account) {j : Judged} → Tells (weigh a k w) j → Tells (weigh a kind v) j
-    told a t = rw (e, ← s) t
+    -- any record's lines fit 100 bytes
+    pub told : (a : Account) {j : Judged} → TellsIn 100 a (weigh a k w) j → Tells (weigh a kind v) j
+    told a t = rw (e, ← s) (tells-fit t (lines-short t))
 
     pub fitting : {n : ℕ} → 2 + lengthOf kind ≤ n → firstBad (fields kind) v 0 ≡ 0 → (2 + lengthOf k ≤ n) × (firstBad (fields k) w 0 ≡ 0)
     fitting h f = rw (← e, s) (h, f)

@@ -1,7 +1,6 @@
 // The eight kinds, each by its number: what its values do, and its record.
 use account::Account;
 use account::Judged;
-use judging::weigh;
 ghost use mathlib.Core.Path.{_≡_};
 ghost use Prim.Native.Nat.{_+_, _<_, _≤_};
 ghost use lib.ListN.{length};
@@ -53,20 +52,20 @@ fn twelve(v: &[u64]) -> [u64; 12]
     ]
 }
 
-// What a record with these values does to the reader's account.
+// What a record with these values does to the reader's account: 100 bytes hold any record's lines.
 pub(crate) fn weighed(a: Account, kind: u64, v: &[u64]) -> Judged
     requires { ⌜ Fair a × (a .stage < 2) × Of kind (now v) ⌝ }
     ensures { λ j. ⌜ Tells (weigh a kind (now (v .entry))) j ⌝ }
 {
     match kind {
-        1 => weigh::farm(a, three(v)),
-        2 => weigh::heading(a, three(v)),
-        3 => weigh::enteric(a, three(v)),
-        4 => weigh::cattle(a, nine(v)),
-        5 => weigh::pig(a, twelve(v)),
-        6 => weigh::energy(a, three(v)),
-        7 => weigh::soil(a, one(v)),
-        _ => weigh::close(a, one(v)),
+        1 => rules::farm::weigh(a, three(v), 100),
+        2 => rules::heading::weigh(a, three(v), 100),
+        3 => rules::enteric::weigh(a, three(v), 100),
+        4 => rules::cattle::weigh(a, nine(v), 100),
+        5 => rules::pig::weigh(a, twelve(v), 100),
+        6 => rules::energy::weigh(a, three(v), 100),
+        7 => rules::soil::weigh(a, one(v), 100),
+        _ => rules::close::weigh(a, one(v), 100),
     }
 }
 

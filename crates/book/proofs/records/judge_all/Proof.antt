@@ -13,14 +13,14 @@ abbrev μ-loop : tie.MeasureT-loop
 μ-loop src out₀ account₀ at₀ w₀ out account at w = length src - at
 
 -- the place of the entry, from that after a record is judged
-abbrev entry : tie.After-judge-within Inv-loop μ-loop → tie.Start Inv-loop μ-loop
+abbrev entry : tie.After-judge Inv-loop μ-loop → tie.Start Inv-loop μ-loop
 entry c = c .before .before .before .before .before .before .before .before .before .before .before
 
 -- what is known once a record is judged
-next : (c : tie.After-judge-within Inv-loop μ-loop)
+next : (c : tie.After-judge Inv-loop μ-loop)
     → let l = c .before .before .before .before .before .before .before .before .loop in
     let a = entry c .args in
-    Next (a .from) (a .src .now) (a .out .now) (l .out) (l .account) (l .at) (l .w) (c .before .before .before .ready .result) (c .judge-within .result)
+    Next (a .from) (a .src .now) (a .out .now) (l .out) (l .account) (l .at) (l .w) (c .before .before .before .ready .result) (c .judge .result)
 next c =
     let y = c .before .before .before in
     let t = y .before .before in
@@ -29,7 +29,7 @@ next c =
       still = t .if1 .left;
       ready = rw (y .before .rest-of .ensures) at (y .ready .ensures);
       some = omega (arith, c .before .before .if2 .left);
-      tells = rw (c .before .first-of .ensures, y .before .rest-of .ensures) at (c .judge-within .ensures);
+      tells = rw (c .before .first-of .ensures, y .before .rest-of .ensures) at (c .judge .ensures);
     }
 
 pub judge-all-spec : {M : Type 1} → statement M

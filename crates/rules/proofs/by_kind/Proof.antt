@@ -1,0 +1,62 @@
+-- What the kind's own function tells. Assumes nothing.
+use mathlib.Core.Path.{_≡_, refl, sym, _∙_}
+use Rattle.codec.specs.Table.{table, size}
+use Rattle.account.specs.Judge.{kindOf}
+use Rattle.account.proofs.Sorts.{kind-least, kind-most, eighth}
+use Rattle.rules.proofs.ByKind.{there, by-kind}
+use Rattle.rules.proofs.by_kind.Statement.{statement}
+use Rattle.rules.proofs.by_kind.Tie as tie
+
+eight : (c : tie.At-match-rest) → c .before .before .args .kind ≡ 8
+eight c =
+    let r = c .match .rest in
+    let p = c .before .before .pre in
+    let k = p .2 .kinds in
+    eighth _ (rw (p .3) (kind-least _ k)) (rw (p .3) (kind-most _ k))
+    (r .0 .0 .0 .0 .0 .0 .1) (r .0 .0 .0 .0 .0 .1) (r .0 .0 .0 .0 .1) (r .0 .0 .0 .1) (r .0 .0 .1) (r .0 .1) (r .1)
+
+pub by-kind-spec : {M : Type 1} → statement M
+unfolding table size
+by-kind-spec =
+    tie.close
+    (tie.spec
+    (λ c κs. let p = c .before .before .pre in there (p .2) 1 (sym (p .3) ∙ c .match .keys1) 11 refl)
+    (λ c κs. let p = c .before .before .before .pre in (p .0, p .1))
+    (λ c κs. let p = c .before .before .pre in there (p .2) 2 (sym (p .3) ∙ c .match .keys2) 9 refl)
+    (λ c κs. let p = c .before .before .before .pre in (p .0, p .1))
+    (λ c κs. let p = c .before .before .pre in there (p .2) 3 (sym (p .3) ∙ c .match .keys3) 12 refl)
+    (λ c κs. let p = c .before .before .before .pre in (p .0, p .1))
+    (λ c κs. let p = c .before .before .pre in there (p .2) 4 (sym (p .3) ∙ c .match .keys4) 22 refl)
+    (λ c κs. let p = c .before .before .before .pre in (p .0, p .1))
+    (λ c κs. let p = c .before .before .pre in there (p .2) 5 (sym (p .3) ∙ c .match .keys5) 28 refl)
+    (λ c κs. let p = c .before .before .before .pre in (p .0, p .1))
+    (λ c κs. let p = c .before .before .pre in there (p .2) 6 (sym (p .3) ∙ c .match .keys6) 13 refl)
+    (λ c κs. let p = c .before .before .before .pre in (p .0, p .1))
+    (λ c κs. let p = c .before .before .pre in there (p .2) 7 (sym (p .3) ∙ c .match .keys7) 8 refl)
+    (λ c κs. let p = c .before .before .before .pre in (p .0, p .1))
+    (λ c κs. let p = c .before .before .pre in there (p .2) 8 (sym (p .3) ∙ eight c) 6 refl)
+    (λ c κs. let p = c .before .before .before .pre in (p .0, p .1))
+    (λ c.
+    let p = c .before .before .before .before .pre in
+    by-kind (p .2) 1 (sym (p .3) ∙ c .before .before .match .keys1) _ _ _ _ (c .before .read .ensures) (c .weigh .ensures))
+    (λ c.
+    let p = c .before .before .before .before .pre in
+    by-kind (p .2) 2 (sym (p .3) ∙ c .before .before .match .keys2) _ _ _ _ (c .before .read2 .ensures) (c .weigh2 .ensures))
+    (λ c.
+    let p = c .before .before .before .before .pre in
+    by-kind (p .2) 3 (sym (p .3) ∙ c .before .before .match .keys3) _ _ _ _ (c .before .read3 .ensures) (c .weigh3 .ensures))
+    (λ c.
+    let p = c .before .before .before .before .pre in
+    by-kind (p .2) 4 (sym (p .3) ∙ c .before .before .match .keys4) _ _ _ _ (c .before .read4 .ensures) (c .weigh4 .ensures))
+    (λ c.
+    let p = c .before .before .before .before .pre in
+    by-kind (p .2) 5 (sym (p .3) ∙ c .before .before .match .keys5) _ _ _ _ (c .before .read5 .ensures) (c .weigh5 .ensures))
+    (λ c.
+    let p = c .before .before .before .before .pre in
+    by-kind (p .2) 6 (sym (p .3) ∙ c .before .before .match .keys6) _ _ _ _ (c .before .read6 .ensures) (c .weigh6 .ensures))
+    (λ c.
+    let p = c .before .before .before .before .pre in
+    by-kind (p .2) 7 (sym (p .3) ∙ c .before .before .match .keys7) _ _ _ _ (c .before .read7 .ensures) (c .weigh7 .ensures))
+    (λ c.
+    let p = c .before .before .before .before .pre in
+    by-kind (p .2) 8 (sym (p .3) ∙ eight (c .before .before)) _ _ _ _ (c .before .read8 .ensures) (c .weigh8 .ensures)))

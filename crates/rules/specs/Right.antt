@@ -1,0 +1,17 @@
+-- Document 01, "Refusal numbers": a whole record that 2, 3 and 4 let through.
+-- Assumes nothing.
+use Prim.Native.Nat.{ℕ, _+_}
+use mathlib.Core.Path.{_≡_}
+use mathlib.Core.List.{List}
+use mathlib.Core.Bool.{true, _&&_}
+use lib.ListN.{length}
+use lib.Dec.{leb}
+use Rattle.codec.specs.Table.{lengthOf}
+use Rattle.account.specs.Judge.{Whole, versionOf, kindOf}
+
+-- r is a whole record of version 1, of one of the eight kinds, and as long as its kind
+pub record Right (r : List ℕ) : Type 0 where
+  pub whole : Whole r
+  pub version : versionOf r ≡ 1
+  pub kinds : leb 1 (kindOf r) && leb (kindOf r) 8 ≡ true
+  pub long : length r ≡ 2 + lengthOf (kindOf r)

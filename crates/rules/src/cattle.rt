@@ -1,0 +1,75 @@
+// Kind 4: nitrogen and N2O of a cattle group's manure.
+use crate::lines::grouped_detail;
+use crate::refusals::barred;
+use crate::refusals::cattle_placed;
+use crate::refusals::stopped;
+use crate::refusals::wrong;
+use account::Account;
+use account::Figures;
+use account::Judged;
+use grams::cattle::CattleManure;
+use grams::cattle::CattleNitrogen;
+use grams::cattle::CattleRation;
+ghost use mathlib.Core.Path.{_≡_};
+ghost use Prim.Native.Nat.{_<_};
+ghost use Rattle.account.specs.Figures.{cattleRation, cattleFigures};
+ghost use Rattle.account.specs.Range.{Fair};
+ghost use Rattle.account.specs.Judge.{weigh};
+ghost use Rattle.account.specs.Told.{TellsIn};
+
+fn cattle_ration(v: [u64; 9]) -> CattleRation
+    ensures { λ r. ⌜ r ≡ cattleRation v ⌝ }
+{
+    CattleRation {
+        days: v[0],
+        feed: v[1],
+        protein: v[2],
+        milk: v[3],
+        milkprotein: v[4],
+        gain: v[5],
+        solid: v[6],
+        liquid: v[7],
+    }
+}
+
+fn manure_figures(m: CattleManure) -> Figures
+    ensures { λ r. ⌜ r ≡ cattleFigures m ⌝ }
+{
+    let n2o = m.n2o;
+    Figures {
+        ch4: 0,
+        n2o: n2o,
+        co2: 0,
+        excreted: m.excreted,
+        land: 0,
+    }
+}
+
+pub fn weigh(a: Account, v: [u64; 9], room: usize) -> Judged
+    requires { ⌜ Fair a × (a .stage < 2) ⌝ }
+    ensures { λ j. ⌜ TellsIn room a (weigh a 4 v) j ⌝ }
+{
+    let h = a.heading;
+    let bad = codec::cattle::first_bad(v);
+    let code = barred(a.records, cattle_placed(a.records, h.class), bad);
+    if code != 0 {
+        return stopped(a, code, bad);
+    }
+    let mut days = a.days;
+    let sum = days.nitrogen as u64 + v[0];
+    if 366 < sum {
+        return wrong(a, 9, 0);
+    }
+    if v[6] + v[7] + v[8] != 10000 {
+        return wrong(a, 10, 0);
+    }
+    days.nitrogen = sum as u16;
+    let n = grams::cattle::nitrogen(cattle_ration(v), h.head as u64);
+    match n {
+        CattleNitrogen::BelowZero => wrong(a, 11, 0),
+        CattleNitrogen::Given(m) => {
+            let f = manure_figures(m);
+            grouped_detail(a, 4, h.group, days, f, room)
+        }
+    }
+}

@@ -1,0 +1,83 @@
+// Kind 8 closes the book: the last group's line, and the sums with their CO2e.
+use crate::figures::group_figures;
+use crate::lines::full;
+use crate::refusals::barred;
+use crate::refusals::begun;
+use crate::refusals::stopped;
+use crate::refusals::wrong;
+use account::Account;
+use account::Judged;
+use account::line::Line;
+use grams::farm::Warming;
+ghost use mathlib.Core.Path.{_≡_};
+ghost use Prim.Native.Nat.{_<_};
+ghost use lib.Dec.{eqb};
+ghost use Rattle.codec.specs.Codec.{pick};
+ghost use Rattle.grams.specs.Farm.{warmingOf};
+ghost use Rattle.account.specs.Range.{Fair, Bounded};
+ghost use Rattle.account.specs.Judge.{weigh};
+ghost use Rattle.account.specs.Told.{TellsIn, inRoom, closing};
+
+fn warming(set: u8) -> Warming
+    ensures { λ r. ⌜ r ≡ warmingOf set ⌝ }
+{
+    if set == 1 {
+        Warming::First
+    } else {
+        Warming::Second
+    }
+}
+
+// 54 bytes for the total alone, 100 with the last group's subtotal before it.
+fn closing_length(group: u16) -> usize
+    ensures { λ r. ⌜ r ≡ pick (eqb group 0) 54 100 ⌝ }
+{
+    if group == 0 { 54 } else { 100 }
+}
+
+// The close's lines: the last group's subtotal, where there is a heading, and the sums with their CO2e.
+fn totalled(a: Account, room: usize) -> Judged
+    requires { ⌜ (a .records < 4096) × Bounded (a .sums) 4096 ⌝ }
+    ensures { λ r. ⌜ r ≡ inRoom room a (closing a) ⌝ }
+{
+    let sums = a.sums;
+    let n2o = sums.n2o;
+    let w = warming(a.set);
+    let co2e = grams::farm::co2e(w, sums.co2, sums.ch4, n2o);
+    let h = a.heading;
+    let s = a.subtotal;
+    let f = group_figures(s);
+    let len = closing_length(h.group);
+    let line = Line {
+        len: len,
+        kind: 16,
+        group: h.group,
+        figures: f,
+        co2e: co2e,
+    };
+    if room < len {
+        return full(a, line);
+    }
+    let mut next = a.by_fields();
+    next.stage = 2;
+    next.records = a.records + 1;
+    Judged {
+        account: next,
+        line: line,
+    }
+}
+
+pub fn weigh(a: Account, v: [u64; 1], room: usize) -> Judged
+    requires { ⌜ Fair a × (a .stage < 2) ⌝ }
+    ensures { λ j. ⌜ TellsIn room a (weigh a 8 v) j ⌝ }
+{
+    let bad = codec::close::first_bad(v);
+    let code = barred(a.records, begun(a.records), bad);
+    if code != 0 {
+        return stopped(a, code, bad);
+    }
+    if v[0] != a.records as u64 {
+        return wrong(a, 12, 0);
+    }
+    totalled(a, room)
+}

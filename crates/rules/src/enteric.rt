@@ -1,0 +1,49 @@
+// Kind 3: CH4 of a cattle group's rations.
+use crate::lines::grouped_detail;
+use crate::refusals::barred;
+use crate::refusals::cattle_placed;
+use crate::refusals::stopped;
+use crate::refusals::wrong;
+use account::Account;
+use account::Figures;
+use account::Judged;
+use grams::units::N2o;
+ghost use mathlib.Core.Path.{_≡_};
+ghost use Prim.Native.Nat.{_<_};
+ghost use Rattle.account.specs.Figures.{ch4Alone};
+ghost use Rattle.account.specs.Range.{Fair};
+ghost use Rattle.account.specs.Judge.{weigh};
+ghost use Rattle.account.specs.Told.{TellsIn};
+
+fn ch4_alone(g: u64) -> Figures
+    ensures { λ r. ⌜ r ≡ ch4Alone g ⌝ }
+{
+    Figures {
+        ch4: g,
+        n2o: N2o(0),
+        co2: 0,
+        excreted: 0,
+        land: 0,
+    }
+}
+
+pub fn weigh(a: Account, v: [u64; 3], room: usize) -> Judged
+    requires { ⌜ Fair a × (a .stage < 2) ⌝ }
+    ensures { λ j. ⌜ TellsIn room a (weigh a 3 v) j ⌝ }
+{
+    let h = a.heading;
+    let bad = codec::enteric::first_bad(v);
+    let code = barred(a.records, cattle_placed(a.records, h.class), bad);
+    if code != 0 {
+        return stopped(a, code, bad);
+    }
+    let mut days = a.days;
+    let sum = days.enteric as u64 + v[0];
+    if 366 < sum {
+        return wrong(a, 9, 0);
+    }
+    days.enteric = sum as u16;
+    let ch4 = grams::cattle::enteric(v[1], v[2], h.head as u64, v[0]);
+    let f = ch4_alone(ch4);
+    grouped_detail(a, 3, h.group, days, f, room)
+}

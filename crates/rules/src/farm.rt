@@ -1,0 +1,26 @@
+// Kind 1 opens the book.
+use crate::lines::silent;
+use crate::refusals::barred;
+use crate::refusals::stopped;
+use account::Account;
+use account::Judged;
+ghost use Prim.Native.Nat.{_<_};
+ghost use Rattle.account.specs.Range.{Fair};
+ghost use Rattle.account.specs.Judge.{weigh};
+ghost use Rattle.account.specs.Told.{TellsIn};
+
+pub fn weigh(a: Account, v: [u64; 3], room: usize) -> Judged
+    requires { ⌜ Fair a × (a .stage < 2) ⌝ }
+    ensures { λ j. ⌜ TellsIn room a (weigh a 1 v) j ⌝ }
+{
+    let bad = codec::farm::first_bad(v);
+    let code = barred(a.records, a.records == 0, bad);
+    if code != 0 {
+        return stopped(a, code, bad);
+    }
+    let mut next = a.by_fields();
+    next.stage = 1;
+    next.records = a.records + 1;
+    next.set = v[2] as u8;
+    silent(next)
+}

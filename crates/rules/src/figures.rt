@@ -1,0 +1,66 @@
+// The figures of a line, the sums and the subtotal with them.
+use account::Figures;
+use account::Subtotal;
+use grams::units::N2o;
+ghost use mathlib.Core.Path.{_≡_};
+ghost use Rattle.account.specs.Figures.{added, grouped, groupFigures, co2Alone};
+ghost use Rattle.account.specs.Range.{Bounded, Grouped};
+ghost use Rattle.account.specs.Told.{Small};
+
+// The sums with a line's figures.
+pub(crate) fn summed(f: Figures, g: Figures) -> Figures
+    requires { ⌜ Bounded f 4096 × Small g ⌝ }
+    ensures { λ r. ⌜ r ≡ added f g ⌝ }
+{
+    let n = f.n2o;
+    let m = g.n2o;
+    let n2o = n.plus(m);
+    Figures {
+        ch4: f.ch4 + g.ch4,
+        n2o: n2o,
+        co2: f.co2 + g.co2,
+        excreted: f.excreted + g.excreted,
+        land: f.land + g.land,
+    }
+}
+
+// The subtotal with a line's figures.
+pub(crate) fn sub_summed(s: Subtotal, f: Figures) -> Subtotal
+    requires { ⌜ Grouped s 4096 × Small f ⌝ }
+    ensures { λ r. ⌜ r ≡ grouped s f ⌝ }
+{
+    let n = s.n2o;
+    let m = f.n2o;
+    let n2o = n.plus(m);
+    Subtotal {
+        ch4: s.ch4 + f.ch4,
+        n2o: n2o,
+        excreted: s.excreted + f.excreted,
+        land: s.land + f.land,
+    }
+}
+
+pub(crate) fn group_figures(s: Subtotal) -> Figures
+    ensures { λ r. ⌜ r ≡ groupFigures s ⌝ }
+{
+    let n2o = s.n2o;
+    Figures {
+        ch4: s.ch4,
+        n2o: n2o,
+        co2: 0,
+        excreted: s.excreted,
+        land: s.land,
+    }
+}
+
+pub(crate) fn co2_alone(g: u64) -> Figures
+    ensures { λ r. ⌜ r ≡ co2Alone g ⌝ }
+{
+    Figures {
+        ch4: 0,
+        n2o: N2o(0),
+        co2: g,
+        excreted: 0,
+        land: 0,
+    }
+}

@@ -1,0 +1,81 @@
+// The rules: what one record does to an account where its lines fit the room; where they do not, the account is handed back as it came, so that the
+// caller keeps no second one. A file for each kind has its own refusals and its figures.
+pub mod cattle;
+pub mod close;
+pub mod energy;
+pub mod enteric;
+pub mod farm;
+pub mod heading;
+pub mod pig;
+pub mod soil;
+mod figures; // figures.rt: sums and subtotals
+mod lines; // lines.rt: an account with its line
+mod refusals; // refusals.rt: what all kinds share
+
+use account::Account;
+use account::Judged;
+use refusals::wrong;
+ghost use mathlib.Core.Path.{_≡_};
+ghost use Prim.Native.Nat.{_+_, _<_};
+ghost use mathlib.Core.Bool.{_&&_};
+ghost use lib.Dec.{leb};
+ghost use Rattle.codec.specs.Table.{lengthOf};
+ghost use Rattle.codec.specs.Codec.{pick};
+ghost use Rattle.account.specs.Range.{Fair};
+ghost use Rattle.account.specs.Judge.{Whole, kindOf, judge};
+ghost use Rattle.account.specs.Told.{TellsIn};
+ghost use Rattle.rules.specs.Right.{Right};
+
+// How many bytes a record of the kind has, the two of its length among them; 0 where there is no such kind.
+fn size_of(kind: u8) -> usize
+    ensures { λ r. ⌜ r ≡ pick (leb 1 kind && leb kind 8) (2 + lengthOf kind) 0 ⌝ }
+{
+    match kind {
+        1 => 11,
+        2 => 9,
+        3 => 12,
+        4 => 22,
+        5 => 28,
+        6 => 13,
+        7 => 8,
+        8 => 6,
+        _ => 0,
+    }
+}
+
+// What the values of a record do that is as long as its kind: a function of its own, else the compiler keeps copies of the account.
+fn by_kind(a: Account, kind: u8, r: &[u8], room: usize) -> Judged
+    requires { ⌜ Fair a × (a .stage < 2) × Right (now r) × (kind ≡ kindOf (now r)) ⌝ }
+    ensures { λ j. ⌜ TellsIn room a (judge a (now (r .entry))) j ⌝ }
+{
+    match kind {
+        1 => farm::weigh(a, codec::farm::read(r, 4), room),
+        2 => heading::weigh(a, codec::heading::read(r, 4), room),
+        3 => enteric::weigh(a, codec::enteric::read(r, 4), room),
+        4 => cattle::weigh(a, codec::cattle::read(r, 4), room),
+        5 => pig::weigh(a, codec::pig::read(r, 4), room),
+        6 => energy::weigh(a, codec::energy::read(r, 4), room),
+        7 => soil::weigh(a, codec::soil::read(r, 4), room),
+        _ => close::weigh(a, codec::close::read(r, 4), room),
+    }
+}
+
+// What the whole record r does: its version, its kind and its length are looked at here, its values in the kind's file.
+pub fn judge(a: Account, r: &[u8], room: usize) -> Judged
+    requires { ⌜ Fair a × (a .stage < 2) × Whole (now r) ⌝ }
+    ensures { λ j. ⌜ TellsIn room a (judge a (now (r .entry))) j ⌝ }
+{
+    let version = r[2];
+    if version != 1 {
+        return wrong(a, 2, 0);
+    }
+    let kind = r[3];
+    let size = size_of(kind);
+    if size == 0 {
+        return wrong(a, 3, 0);
+    }
+    if r.len() != size {
+        return wrong(a, 4, 0);
+    }
+    by_kind(a, kind, r, room)
+}

@@ -1,0 +1,110 @@
+// What a record that is not refused leaves: the account after it with its line, as far as the line fits the room.
+use crate::figures::group_figures;
+use crate::figures::sub_summed;
+use crate::figures::summed;
+use account::Account;
+use account::Days;
+use account::Figures;
+use account::Judged;
+use account::Subtotal;
+use account::line;
+use account::line::Line;
+ghost use mathlib.Core.Path.{_≡_};
+ghost use Prim.Native.Nat.{_<_};
+ghost use lib.Dec.{eqb};
+ghost use Rattle.codec.specs.Codec.{pick};
+ghost use Rattle.account.specs.Figures.{grouped, groupFigures};
+ghost use Rattle.account.specs.Range.{Bounded, Grouped};
+ghost use Rattle.account.specs.Told.{Small, inRoom, noLine, quiet, detailing};
+
+// No line.
+pub(crate) fn silent(a: Account) -> Judged
+    ensures { λ r. ⌜ r ≡ quiet a ⌝ }
+{
+    let none = line::none();
+    Judged {
+        account: a,
+        line: none,
+    }
+}
+
+// The lines do not fit: the account as it was, and what they would be.
+pub(crate) fn full(a: Account, line: Line) -> Judged
+    ensures { λ r. ⌜ r ≡ record { account = a; line = line } ⌝ }
+{
+    let same = a.by_fields();
+    Judged {
+        account: same,
+        line: line,
+    }
+}
+
+// One record more, with its days, its group's subtotal, its figures and its line.
+pub(crate) fn detailed(
+    a: Account,
+    kind: u8,
+    group: u16,
+    days: Days,
+    subtotal: Subtotal,
+    f: Figures,
+    room: usize,
+) -> Judged
+    requires { ⌜ (a .records < 4096) × Bounded (a .sums) 4096 × Small f ⌝ }
+    ensures { λ r. ⌜ r ≡ inRoom room a (detailing a kind group days subtotal f) ⌝ }
+{
+    let line = Line {
+        len: 46,
+        kind: kind,
+        group: group,
+        figures: f,
+        co2e: 0,
+    };
+    if room < 46 {
+        return full(a, line);
+    }
+    let sums = a.sums;
+    let more = summed(sums, f);
+    let mut next = a.by_fields();
+    next.records = a.records + 1;
+    next.days = days;
+    next.subtotal = subtotal;
+    next.sums = more;
+    Judged {
+        account: next,
+        line: line,
+    }
+}
+
+// The same under a heading, whose subtotal takes the figures too.
+pub(crate) fn grouped_detail(
+    a: Account,
+    kind: u8,
+    group: u16,
+    days: Days,
+    f: Figures,
+    room: usize,
+) -> Judged
+    requires { ⌜ (a .records < 4096) × Bounded (a .sums) 4096 × Grouped (a .subtotal) 4096 × Small f ⌝ }
+    ensures { λ r. ⌜ r ≡ inRoom room a (detailing a kind group days (grouped (a .subtotal) f) f) ⌝ }
+{
+    let s = a.subtotal;
+    let subtotal = sub_summed(s, f);
+    detailed(a, kind, group, days, subtotal, f, room)
+}
+
+// The line of a group with this subtotal; no line where there was no heading.
+pub(crate) fn group_line(group: u16, s: Subtotal) -> Line
+    ensures { λ r. ⌜ r ≡ pick (eqb group 0) noLine (record { len = 46; kind = 16; group = group; figures = groupFigures s; co2e = 0 }) ⌝ }
+{
+    if group == 0 {
+        return line::none();
+    }
+    let f = group_figures(s);
+    Line {
+        len: 46,
+        kind: 16,
+        group: group,
+        figures: f,
+        co2e: 0,
+    }
+}

@@ -1,0 +1,81 @@
+// Kind 5: CH4, N2O and nitrogen of a pig group's manure.
+use crate::lines::grouped_detail;
+use crate::refusals::barred;
+use crate::refusals::stopped;
+use crate::refusals::wrong;
+use account::Account;
+use account::Figures;
+use account::Judged;
+use grams::pig::PigManure;
+use grams::pig::PigRation;
+ghost use mathlib.Core.Path.{_≡_};
+ghost use mathlib.Core.Bool.{_&&_, not};
+ghost use Prim.Native.Nat.{_<_};
+ghost use lib.Dec.{eqb};
+ghost use Rattle.account.specs.Figures.{pigRation, pigFigures};
+ghost use Rattle.account.specs.Range.{Fair};
+ghost use Rattle.account.specs.Judge.{weigh};
+ghost use Rattle.account.specs.Told.{TellsIn};
+
+// After the first record, under a pig heading.
+fn pig_placed(records: u16, class: u8) -> bool
+    ensures { λ r. ⌜ r ≡ (eqb class 4 && not (eqb records 0)) ⌝ }
+{
+    (class == 4) & !(records == 0)
+}
+
+fn pig_ration(v: [u64; 12]) -> PigRation
+    ensures { λ r. ⌜ r ≡ pigRation v ⌝ }
+{
+    PigRation {
+        days: v[0],
+        feed: v[1],
+        vs: v[2],
+        vsfactor: v[3],
+        mcf: v[4],
+        protein: v[5],
+        nfactor: v[6],
+        direct: v[7],
+        volatilised: v[8],
+        volatilisedef: v[9],
+        leached: v[10],
+        leachedef: v[11],
+    }
+}
+
+fn pig_figures(m: PigManure) -> Figures
+    ensures { λ r. ⌜ r ≡ pigFigures m ⌝ }
+{
+    let n2o = m.n2o;
+    Figures {
+        ch4: m.ch4,
+        n2o: n2o,
+        co2: 0,
+        excreted: m.excreted,
+        land: m.land,
+    }
+}
+
+pub fn weigh(a: Account, v: [u64; 12], room: usize) -> Judged
+    requires { ⌜ Fair a × (a .stage < 2) ⌝ }
+    ensures { λ j. ⌜ TellsIn room a (weigh a 5 v) j ⌝ }
+{
+    let h = a.heading;
+    let bad = codec::pig::first_bad(v);
+    let code = barred(a.records, pig_placed(a.records, h.class), bad);
+    if code != 0 {
+        return stopped(a, code, bad);
+    }
+    let mut days = a.days;
+    let sum = days.pig as u64 + v[0];
+    if 366 < sum {
+        return wrong(a, 9, 0);
+    }
+    if 1000 < v[8] + v[10] {
+        return wrong(a, 10, 0);
+    }
+    days.pig = sum as u16;
+    let m = grams::pig::manure(pig_ration(v), h.head as u64);
+    let f = pig_figures(m);
+    grouped_detail(a, 5, h.group, days, f, room)
+}

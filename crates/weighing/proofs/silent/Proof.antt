@@ -1,7 +1,0 @@
--- Assumes nothing.
-use borrow.Author.Needs.{needs}
-use Rattle.weighing.proofs.silent.Statement.{statement}
-use Rattle.weighing.proofs.silent.Tie as tie
-
-pub silent-spec : {M : Type 1} → statement M
-silent-spec = tie.close (tie.spec (λ c κs. tt) (λ c. cc))
