@@ -1,3 +1,4 @@
 pub mod Calls
 pub mod Fates
 pub mod HeadingTyped
+pub mod OneAnswer
