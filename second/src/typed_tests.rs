@@ -422,7 +422,7 @@ fn what_is_written_is_a_beginning_of_a_book() {
         );
         right += u64::from(all_well);
     }
-    assert!((200..600).contains(&right), "{right} of 1000 texts are right");
+    assert!((150..600).contains(&right), "{right} of 1000 texts are right");
 }
 
 /// The texts by chance come to every refusal of a typed line, and to every other remark.

@@ -12,6 +12,8 @@ use lib.Dec.{eqb, leb, ltb}
 use Rattle.codec.specs.Codec.{pick, recordBytes}
 use Rattle.account.specs.declared.Account.{Account}
 use Rattle.account.specs.Judge.{Step, headingServes, inPlace, accepted, weigh}
+use Rattle.account.specs.Sorts.{sortOf}
+use Rattle.account.proofs.Sorts.{by-sort, heads-two}
 use Rattle.account.proofs.Tests.{by-test, and-l, and-r, or-l, or-r}
 use Rattle.account.specs.declared.Refusal.{Refusal}
 use Rattle.account.specs.Judge.{noRecord}
@@ -44,8 +46,8 @@ group-no-head : (k : ℕ) → inGroup k ≡ true → (eqb k 2 ≡ false) × (may
 group-no-head k g =
     let low = leb-true 3 k (and-l (leb 3 k) (leb k 5) g) in
     let high = leb-true k 5 (and-r (leb 3 k) (leb k 5) g) in
-    let two : eqb k 2 ≡ false = ne-eqb k 2 (λ e. omega arith) in
-    (two, rw (two, le-ltb 1 k (omega arith), le-ltb k 8 (omega arith)))
+    let two : eqb k 2 ≡ false = ne-eqb k 2 (λ (e : k ≡ 2). omega arith) in
+    (two, rw (two, le-ltb k 1 (omega arith), le-ltb 8 k (omega arith)))
 
 -- ---- what a written record does to the heading
 
@@ -53,9 +55,8 @@ group-no-head k g =
 heading-after : (a : Account) (k : ℕ) (v : List ℕ) → (weigh a k v .account .stage ≡ 3 → ⊥) → (k ≡ 2 → ⊥) → weigh a k v .account .heading ≡ a .heading
 unfolding weigh accepted
 heading-after a k v h n =
-    rw (not-refused a k v h, ne-eqb k 2 n)
-    (by-test (λ (s : Step). s .account .heading ≡ a .heading) (eqb k 1) (λ e. refl)
-    (λ e. by-test (λ (s : Step). s .account .heading ≡ a .heading) (eqb k 8) (λ e. refl) (λ e. refl)))
+    rw (not-refused a k v h)
+    (by-sort (λ (s : Step). s .account .heading ≡ a .heading) (sortOf k) (λ _. refl) (λ e. absurd (n (heads-two k e))) (λ _. refl) (λ _. refl) (λ _. refl))
 
 -- a detail of the group is written under a heading only
 needs-class : (a : Account) (k : ℕ) (v : List ℕ) → (weigh a k v .account .stage ≡ 3 → ⊥) → inGroup k ≡ true → a .heading .class ≡ 0 → ⊥
@@ -64,18 +65,25 @@ needs-class a k v h g z =
     let place = clear a k v (not-refused a k v h) .passes .place in
     let low = leb-true 3 k (and-l (leb 3 k) (leb k 5) g) in
     let high = leb-true k 5 (and-r (leb 3 k) (leb k 5) g) in
-    let one : eqb k 1 ≡ false = ne-eqb k 1 (λ e. omega arith) in
+    let one : eqb k 1 ≡ false = ne-eqb k 1 (λ (e : k ≡ 1). omega arith) in
     let serves = and-l (headingServes (a .heading .class) k) _ (rw one at place) in
     no-class k low high (rw z at serves)
   where
+    zero-one : false ≡ true → ⊥
+    zero-one q = let z : _≡_ {A = ℕ} 0 1 = cc in omega arith
+
+    by-tests : (b c : Bool) → (b ≡ false → c ≡ true) → pick b (leb 1 0 && leb 0 3) (pick c (eqb 0 4) true) ≡ true → ⊥
+    by-tests true c f q = zero-one q
+    by-tests false true f q = zero-one q
+    by-tests false false f q = zero-one (f refl)
+
     no-class : (k : ℕ) → 3 ≤ k → k ≤ 5 → headingServes 0 k ≡ true → ⊥
-    no-class k low high e = ⊎-elim (λ t. absurd (zero-one (rw t at e))) (λ f. absurd (zero-one (rw f at e))) (test (eqb k 3 || eqb k 4))
+    no-class k low high q =
+        by-tests (eqb k 3 || eqb k 4) (eqb k 5)
+        (λ f. let three = eqb-false k 3 (or-l (eqb k 3) (eqb k 4) f) in let four = eqb-false k 4 (or-r (eqb k 3) (eqb k 4) f) in eq-eqb k 5 (only k low high three four)) q
       where
-        zero-one : false ≡ true → ⊥
-        zero-one q = let z : _≡_ {A = ℕ} 0 1 = cc in omega arith
-        test : (b : Bool) → (b ≡ true) ⊎ (b ≡ false)
-        test true = inl refl
-        test false = inr refl
+        only : (k : ℕ) → 3 ≤ k → k ≤ 5 → (k ≡ 3 → ⊥) → (k ≡ 4 → ⊥) → k ≡ 5
+        only k low high three four = omega arith
 
 -- ---- what is kept from line to line
 
@@ -94,7 +102,7 @@ three : (s : State) (k : ℕ) (v : List ℕ) (room : ℕ) → inRange s ≡ true
     → writer.write s k v room .answer ≡ answers.Refused (writer.refusalBy 3 (s .account .records))
 unfolding writer.write writer.refusals writer.answerOf
 three s k v room r early c g =
-    rw (r, ne-eqb (s .account .stage) 3 (λ e. omega arith), ne-eqb (s .account .stage) 2 (λ e. omega arith), c, g)
+    rw (r, ne-eqb (s .account .stage) 3 (λ (e : s .account .stage ≡ 3). omega arith), ne-eqb (s .account .stage) 2 (λ (e : s .account .stage ≡ 2). omega arith), c, g)
 
 completed-kind : (e : Entry) (records : ℕ) → completedOf e records .kind ≡ e .kind
 unfolding completedOf
@@ -113,7 +121,7 @@ module _ (m : Mark) (h : List ℕ) (t : Typist) (k : Kept m h t) (e : Entry) whe
   -- nothing but counts move, and the kind is no heading and one of the book's
   stays : eqb (e .kind) 2 ≡ false → mayHead (e .kind) ≡ false → (x : Typist) → x .state ≡ t .state → x .lost ≡ t .lost → Kept (markSaid said.Record e m) h x
   stays p q x a b =
-      rw (p, q)
+      rw (q, p)
       (record {
         range = rw a (k .range);
         empty = rw a (k .empty);
