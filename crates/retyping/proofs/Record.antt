@@ -14,7 +14,7 @@ use Rattle.text.specs.Decimal.{decimal, spaced}
 use Rattle.names.specs.Names.{kindName, decimalsAt}
 use Rattle.lines.specs.Lines.{has, kept, unmarked, isMarked}
 use Rattle.lines.proofs.Bytes.{before-all, has-behind}
-use Rattle.codec.specs.Table.{fields}
+use Rattle.codec.specs.Table.{fields, Of}
 use Rattle.codec.specs.Codec.{pick}
 use Rattle.codec.proofs.BigEndian.{Bytes}
 use Rattle.account.specs.Judge.{Whole as WholeRecord, kindOf, valuesOf, judge}
@@ -22,7 +22,6 @@ use Rattle.book.specs.declared.State.{State}
 use Rattle.book.specs.State.{holding}
 use Rattle.writing.specs.Write.{write}
 use Rattle.writing.specs.declared.Answer.the-variants as answers
-use Rattle.writing.specs.Values.{Of}
 use Rattle.writing.proofs.Answers.{Ready, written-so}
 use Rattle.writing.proofs.RoundTrip.{written-again}
 use Rattle.typed.specs.declared.Entry.{Entry}

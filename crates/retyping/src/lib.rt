@@ -5,7 +5,6 @@ use book::Fed;
 use book::State;
 use codec::numbers::be8;
 use codec::numbers::be16;
-use codec::read;
 use names::field_count;
 use names::say_kind;
 use names::say_sentence;
@@ -84,14 +83,14 @@ fn values_of(bytes: &[u8], kind: u64) -> [u64; 12]
     ensures { λ r. ⌜ r ≡ inTwelve (valuesOf (now (bytes .entry))) ⌝ }
 {
     match kind {
-        1 => from_three(read::farm(bytes, 4)),
-        2 => from_three(read::heading(bytes, 4)),
-        3 => from_three(read::enteric(bytes, 4)),
-        4 => from_nine(read::cattle(bytes, 4)),
-        5 => read::pig(bytes, 4),
-        6 => from_three(read::energy(bytes, 4)),
-        7 => from_one(read::soil(bytes, 4)),
-        _ => from_one(read::close(bytes, 4)),
+        1 => from_three(codec::farm::read(bytes, 4)),
+        2 => from_three(codec::heading::read(bytes, 4)),
+        3 => from_three(codec::enteric::read(bytes, 4)),
+        4 => from_nine(codec::cattle::read(bytes, 4)),
+        5 => codec::pig::read(bytes, 4),
+        6 => from_three(codec::energy::read(bytes, 4)),
+        7 => from_one(codec::soil::read(bytes, 4)),
+        _ => from_one(codec::close::read(bytes, 4)),
     }
 }
 

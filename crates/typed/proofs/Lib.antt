@@ -1,3 +1,3 @@
-pub mod Lines
 pub mod Examples
+pub mod Lines
 pub mod OneAnswer

@@ -69,11 +69,20 @@ one-more vs v = ⊎-elim inside behind (lt-or-ge (length vs) 13)
   where
     more : length (vs ++ (v ∷ [])) ≡ length vs + 1
     more = length-append vs (v ∷ [])
+
     inside : length vs < 13 → storedOf (padded vs) (length vs) v ≡ padded (vs ++ (v ∷ []))
     inside h =
         let k : 13 - length vs ≡ suc (13 - (length vs + 1)) = omega arith in
-        rw (lt-ltb _ _ h, more, take-all 13 (vs ++ (v ∷ [])) (omega (arith, more)), take-all 13 vs (omega arith), k,
-        set-at vs 0 (replicate (13 - (length vs + 1)) 0) v (length vs) refl, append-snoc)
+        rw (
+          lt-ltb _ _ h,
+          more,
+          take-all 13 (vs ++ (v ∷ [])) (omega (arith, more)),
+          take-all 13 vs (omega arith),
+          k,
+          set-at vs 0 (replicate (13 - (length vs + 1)) 0) v (length vs) refl,
+          append-snoc,
+        )
+
     behind : 13 ≤ length vs → storedOf (padded vs) (length vs) v ≡ padded (vs ++ (v ∷ []))
     behind h =
         let k : 13 - length vs ≡ 0 = omega arith in

@@ -85,13 +85,7 @@ impl Typist {
 }
 
 // Line `number`, which says `text`: its record goes to the start of out, what is said of it to the start of remarks.
-fn type_line(
-    t: Typist,
-    number: u64,
-    text: &[u8],
-    out: &mut [u8],
-    remarks: &mut [u8],
-) -> Lined
+fn type_line(t: Typist, number: u64, text: &[u8], out: &mut [u8], remarks: &mut [u8]) -> Lined
     ensures typist { λ r. ⌜ r .typist ≡ lineBy t number (now (text .entry)) (length (now (out .entry))) .typist ⌝ }
     ensures bytes { λ r. ⌜ r .written ≡ length (lineBy t number (now (text .entry)) (length (now (out .entry))) .bytes) ⌝ }
     ensures record { λ r. ⌜ now (out .exit) ≡ laidIn (lineBy t number (now (text .entry)) (length (now (out .entry))) .bytes) (now (out .entry)) ⌝ }

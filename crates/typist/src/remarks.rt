@@ -1,9 +1,9 @@
 // What the person who types is told.
+use crate::Fate;
+use crate::Typist;
 use account::Account;
 use account::Days;
 use account::Refusal;
-use crate::Fate;
-use crate::Typist;
 use text::say;
 use text::say_number;
 ghost use mathlib.Core.Path.{_≡_};

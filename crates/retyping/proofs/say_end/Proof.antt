@@ -1,7 +1,6 @@
 -- By the stage. Assumes nothing.
-use native.Mathlib.Omega.{arith}
 use borrow.Author.Needs.{needs}
-use Rattle.text.proofs.Sayings.{then-said}
+use Rattle.text.proofs.Sayings.{_⟫_}
 use Rattle.retyping.proofs.Steps.{fits, end-refused, end-unfinished, end-closed, end-behind}
 use Rattle.retyping.proofs.say_end.Statement.{statement}
 use Rattle.retyping.proofs.say_end.Tie as tie
@@ -49,4 +48,4 @@ say-end-spec =
     let c15 = c12 .before .before .before in
     let a = c15 .args in
     let e = c7 .say-sentence .ensures in
-    rw (end-behind (a .account) (a .behind) (c12 .if1 .left) (c10 .if2 .left) (c9 .if3 .left)) (then-said (omega arith) e (c2 .say3 .ensures))))
+    rw (end-behind (a .account) (a .behind) (c12 .if1 .left) (c10 .if2 .left) (c9 .if3 .left)) (e ⟫ c2 .say3 .ensures)))

@@ -1,7 +1,6 @@
 -- One after the other. Assumes nothing.
-use native.Mathlib.Omega.{arith}
 use borrow.Author.Needs.{needs}
-use Rattle.text.proofs.Sayings.{then-said}
+use Rattle.text.proofs.Sayings.{_⟫_}
 use Rattle.retyping.proofs.Steps.{fits}
 use Rattle.retyping.proofs.say_refusal.Statement.{statement}
 use Rattle.retyping.proofs.say_refusal.Tie as tie
@@ -35,4 +34,4 @@ say-refusal-spec =
     let e2 = c17 .say-three .ensures in
     let e3 = c12 .say2 .ensures in
     let e4 = c7 .say-sentence .ensures in
-    then-said (omega arith) e1 (then-said (fits e1) e2 (then-said (fits e2) e3 (then-said (fits e3) e4 (c2 .say3 .ensures))))))
+    e1 ⟫ e2 ⟫ e3 ⟫ e4 ⟫ c2 .say3 .ensures))

@@ -1,6 +1,6 @@
 -- One after the other. Assumes nothing.
 use borrow.Author.Needs.{needs}
-use Rattle.text.proofs.Sayings.{then-said}
+use Rattle.text.proofs.Sayings.{_⟫_}
 use Rattle.retyping.proofs.Steps.{fits, three-said}
 use Rattle.retyping.proofs.say_three.Statement.{statement}
 use Rattle.retyping.proofs.say_three.Tie as tie
@@ -30,4 +30,4 @@ say-three-spec =
     let e3 = c11 .say-number2 .ensures in
     let e4 = c6 .say2 .ensures in
     three-said (s .args .a) (s .args .b) (s .args .c)
-    (then-said (s .pre) e1 (then-said (fits e1) e2 (then-said (fits e2) e3 (then-said (fits e3) e4 (c2 .say-number3 .ensures)))))))
+    (e1 ⟫ e2 ⟫ e3 ⟫ e4 ⟫ c2 .say-number3 .ensures)))

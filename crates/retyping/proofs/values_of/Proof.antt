@@ -4,7 +4,7 @@ use Prim.Native.Nat.{_≤_}
 use native.Mathlib.Omega.{arith}
 use borrow.Author.Needs.{needs}
 use Rattle.codec.specs.Table.{table, size}
-use Rattle.writing.proofs.Listed.{eighth}
+use Rattle.codec.proofs.Rows.{eighth}
 use Rattle.retyping.proofs.Steps.{long-by, values-by, twelve-by}
 use Rattle.retyping.proofs.values_of.Statement.{statement}
 use Rattle.retyping.proofs.values_of.Tie as tie
@@ -40,29 +40,29 @@ values-of-spec =
     (λ c.
     let c4 = c .before .before .before .before in
     let s = c4 in values-by 1 (c .before .before .match .keys1) (s .args .bytes .now) (s .pre .1)
-    (c .before .farm .ensures) (c .from-three .ensures))
+    (c .before .read .ensures) (c .from-three .ensures))
     (λ c.
     let c4 = c .before .before .before .before in
     let s = c4 in values-by 2 (c .before .before .match .keys2) (s .args .bytes .now) (s .pre .1)
-    (c .before .heading .ensures) (c .from-three2 .ensures))
+    (c .before .read2 .ensures) (c .from-three2 .ensures))
     (λ c.
     let c4 = c .before .before .before .before in
     let s = c4 in values-by 3 (c .before .before .match .keys3) (s .args .bytes .now) (s .pre .1)
-    (c .before .enteric .ensures) (c .from-three3 .ensures))
+    (c .before .read3 .ensures) (c .from-three3 .ensures))
     (λ c.
     let c4 = c .before .before .before .before in
     let s = c4 in values-by 4 (c .before .before .match .keys4) (s .args .bytes .now) (s .pre .1)
-    (c .before .cattle .ensures) (c .from-nine .ensures))
-    (λ c. let s = c .before .before .before in twelve-by (s .args .bytes .now) (c .before .match .keys5) (s .pre .1) (c .pig .ensures))
+    (c .before .read4 .ensures) (c .from-nine .ensures))
+    (λ c. let s = c .before .before .before in twelve-by (s .args .bytes .now) (c .before .match .keys5) (s .pre .1) (c .read5 .ensures))
     (λ c.
     let c4 = c .before .before .before .before in
     let s = c4 in values-by 6 (c .before .before .match .keys6) (s .args .bytes .now) (s .pre .1)
-    (c .before .energy .ensures) (c .from-three4 .ensures))
+    (c .before .read6 .ensures) (c .from-three4 .ensures))
     (λ c.
     let c4 = c .before .before .before .before in
     let s = c4 in values-by 7 (c .before .before .match .keys7) (s .args .bytes .now) (s .pre .1)
-    (c .before .soil .ensures) (c .from-one .ensures))
+    (c .before .read7 .ensures) (c .from-one .ensures))
     (λ c.
     let c4 = c .before .before .before .before in
     let s = c4 in values-by 8 (eight (c .before .before)) (s .args .bytes .now) (s .pre .1)
-    (c .before .close .ensures) (c .from-one2 .ensures)))
+    (c .before .read8 .ensures) (c .from-one2 .ensures)))

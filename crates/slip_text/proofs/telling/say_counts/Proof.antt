@@ -1,7 +1,5 @@
 -- The parts, one behind the other. Assumes nothing.
-use native.Mathlib.Omega.{arith}
-use Rattle.text.proofs.Sayings.{then-said}
-use Rattle.slip_text.proofs.Tellings.{behind}
+use Rattle.text.proofs.Sayings.{_⟫_}
 use borrow.Author.Needs.{needs}
 use Rattle.slip_text.proofs.telling.say_counts.Statement.{statement}
 use Rattle.slip_text.proofs.telling.say_counts.Tie as tie
@@ -33,4 +31,4 @@ say-counts-spec =
     let e4 = say2 .say2 .ensures in
     let e5 = say-number3 .say-number3 .ensures in
     let e6 = say3 .say3 .ensures in
-    then-said (omega arith) e1 (then-said (behind e1) e2 (then-said (behind e2) e3 (then-said (behind e3) e4 (then-said (behind e4) e5 e6))))))
+    e1 ⟫ e2 ⟫ e3 ⟫ e4 ⟫ e5 ⟫ e6))

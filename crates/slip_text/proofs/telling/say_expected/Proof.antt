@@ -1,7 +1,7 @@
 -- A piece of the table. Assumes nothing.
 use Rattle.slip_text.specs.Told.{ranges}
 use Rattle.text.specs.Said.{Said}
-use Rattle.text.proofs.Sayings.{then-said}
+use Rattle.text.proofs.Sayings.{_⟫_}
 use borrow.Author.Needs.{needs}
 use Rattle.slip_text.proofs.telling.say_expected.Statement.{statement}
 use Rattle.slip_text.proofs.telling.say_expected.Tie as tie
@@ -20,5 +20,4 @@ say-expected-spec =
     let say2 = c .before .before in
     let part = say2 .before in
     let say = part .before .before .before .before .before in
-    let start = say .before .before .before .before .before in
-    then-said (start .pre) (say .say .ensures) (rw (part .part .ensures) at (say2 .say2 .ensures))))
+    (say .say .ensures) ⟫ (rw (part .part .ensures) at (say2 .say2 .ensures))))

@@ -1,6 +1,6 @@
 -- By the fault. Assumes nothing.
 use borrow.Author.Tests.{eq-eqb, ne-eqb}
-use Rattle.text.proofs.Sayings.{then-said}
+use Rattle.text.proofs.Sayings.{_⟫_}
 use Rattle.slip_text.specs.Told.{faultText}
 use Rattle.text.specs.Said.{Said}
 use borrow.Author.Needs.{needs}
@@ -47,7 +47,7 @@ say-fault-spec =
       ne-eqb (start .args .fault) 8 (if2 .if2 .left),
       eq-eqb (start .args .fault) 7
           (if3 .if3 .taken),
-    ) (then-said (start .pre) (say3 .say3 .ensures) (rw (word .word .ensures) at (say-quoted .say-quoted .ensures))))
+    ) ((say3 .say3 .ensures) ⟫ (rw (word .word .ensures) at (say-quoted .say-quoted .ensures))))
     (λ c κs. search needs)
     (λ c κs. search needs)
     (λ c. search needs)
@@ -69,7 +69,7 @@ say-fault-spec =
           (if3 .if3 .left),
       eq-eqb (start .args .fault) 5 (if4 .if4 .taken),
     )
-    (then-said (start .pre) (rw (word2 .word2 .ensures) at (say-quoted2 .say-quoted2 .ensures)) (say4 .say4 .ensures)))
+    ((rw (word2 .word2 .ensures) at (say-quoted2 .say-quoted2 .ensures)) ⟫ (say4 .say4 .ensures)))
     (λ c κs. search needs)
     (λ c κs. search needs)
     (λ c. search needs)

@@ -1,6 +1,5 @@
 -- The parts, one behind the other. Assumes nothing.
-use Rattle.text.proofs.Sayings.{then-said}
-use Rattle.slip_text.proofs.Tellings.{behind}
+use Rattle.text.proofs.Sayings.{_⟫_}
 use borrow.Author.Needs.{needs}
 use Rattle.slip_text.proofs.telling.say_out.Statement.{statement}
 use Rattle.slip_text.proofs.telling.say_out.Tie as tie
@@ -24,9 +23,8 @@ say-out-spec =
     let say-changed = say-column .before .before .before .before in
     let row-of = say-changed .before .before in
     let out-place = row-of .before in
-    let start = out-place .before .before in
     let e1 = say-changed .say-changed .ensures in
     let e2 = rw (out-place .out-place .ensures) at (say-column .say-column .ensures) in
     let e3 = say .say .ensures in
     let e4 = rw (row-of .row-of .ensures, out-place .out-place .ensures) at (say-expected .say-expected .ensures) in
-    then-said (start .pre) e1 (then-said (behind e1) e2 (then-said (behind e2) e3 e4))))
+    e1 ⟫ e2 ⟫ e3 ⟫ e4))

@@ -1,6 +1,5 @@
 -- The parts, one behind the other. Assumes nothing.
-use Rattle.text.proofs.Sayings.{then-said}
-use Rattle.slip_text.proofs.Tellings.{behind}
+use Rattle.text.proofs.Sayings.{_⟫_}
 use borrow.Author.Needs.{needs}
 use Rattle.slip_text.proofs.telling.say_quoted.Statement.{statement}
 use Rattle.slip_text.proofs.telling.say_quoted.Tie as tie
@@ -19,8 +18,7 @@ say-quoted-spec =
     let say2 = c .before .before in
     let say-shown = say2 .before .before .before .before .before in
     let say = say-shown .before .before .before .before in
-    let start = say .before .before .before .before .before in
     let e1 = say .say .ensures in
     let e2 = say-shown .say-shown .ensures in
     let e3 = say2 .say2 .ensures in
-    then-said (start .pre) e1 (then-said (behind e1) e2 e3)))
+    e1 ⟫ e2 ⟫ e3))

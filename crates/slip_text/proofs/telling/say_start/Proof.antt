@@ -1,5 +1,5 @@
 -- The parts, one behind the other. Assumes nothing.
-use Rattle.text.proofs.Sayings.{then-said}
+use Rattle.text.proofs.Sayings.{_⟫_}
 use borrow.Author.Needs.{needs}
 use Rattle.slip_text.proofs.telling.say_start.Statement.{statement}
 use Rattle.slip_text.proofs.telling.say_start.Tie as tie
@@ -15,5 +15,4 @@ say-start-spec =
     (λ c.
     let say-number = c .before .before in
     let say = say-number .before .before .before .before in
-    let start = say .before .before .before .before in
-    then-said (start .pre) (say .say .ensures) (say-number .say-number .ensures)))
+    (say .say .ensures) ⟫ (say-number .say-number .ensures)))

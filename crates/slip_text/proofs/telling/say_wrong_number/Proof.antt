@@ -1,6 +1,5 @@
 -- The parts, one behind the other. Assumes nothing.
-use Rattle.text.proofs.Sayings.{then-said}
-use Rattle.slip_text.proofs.Tellings.{behind}
+use Rattle.text.proofs.Sayings.{_⟫_}
 use Rattle.slip_text.specs.Told.{wrongNumber}
 use Rattle.text.specs.Said.{Said}
 use borrow.Author.Needs.{needs}
@@ -31,10 +30,9 @@ say-wrong-number-spec =
     let say-column = say .before .before .before .before .before in
     let row-of = say-column .before .before in
     let change-in = row-of .before in
-    let start = change-in .before .before .before in
     let e1 = say-column .say-column .ensures in
     let e2 = say .say .ensures in
     let e3 = rw (word .word .ensures) at (say-quoted .say-quoted .ensures) in
     let e4 = say-no-number .say-no-number .ensures in
     let e5 = rw (row-of .row-of .ensures, change-in .change-in .ensures) at (say-expected .say-expected .ensures) in
-    then-said (start .pre) e1 (then-said (behind e1) e2 (then-said (behind e2) e3 (then-said (behind e3) e4 e5)))))
+    e1 ⟫ e2 ⟫ e3 ⟫ e4 ⟫ e5))

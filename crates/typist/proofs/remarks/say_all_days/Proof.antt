@@ -21,7 +21,7 @@ say-all-days-spec =
     (λ c. search needs)
     (λ c κs. search needs)
     (λ c. search needs)
-    (λ c. 
+    (λ c.
     let p1 = c .before .before in
     let p2 = p1 .before .before .before .before .before .before .before in
     let p3 = p2 .before .before .before .before .before .before in

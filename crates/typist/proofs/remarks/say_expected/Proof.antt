@@ -11,14 +11,14 @@ say-expected-spec =
     tie.close
     (tie.spec
     (λ c κs. search needs)
-    (λ c. 
+    (λ c.
     let none = sym (c .before .has-field .ensures) ∙ not-true _ (c .if1 .taken) in
     rw none (said-none (c .before .before .before .pre)))
     (λ c. search needs)
     (λ c κs. search needs)
     (λ c κs. search needs)
     (λ c. search needs)
-    (λ c. 
+    (λ c.
     let test = c .before .before .before .before .before .before .before .before .before in
     let some = sym (test .before .has-field .ensures) ∙ not-false _ (test .if1 .left) in
     rw some (c .before .before .before .before .before .before .say .ensures ⟫ c .before .before .say-expected .ensures)))

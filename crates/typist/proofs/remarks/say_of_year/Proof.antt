@@ -13,7 +13,7 @@ say-of-year-spec =
     (λ c κs. search needs)
     (λ c κs. search needs)
     (λ c. search needs)
-    (λ c. 
+    (λ c.
     let p1 = c .before .before in
     let p2 = p1 .before .before .before .before in
     rw (c .before .before .before .before .before .before .before .before .before .if1 .left) (p2 .say .ensures ⟫ p1 .say-number .ensures)))

@@ -16,10 +16,10 @@ say-remark-spec =
     (λ c κs. search needs)
     (λ c κs. search needs)
     (λ c. search needs)
-    (λ c. 
+    (λ c.
     let none = sym (c .before .before .before .before .before .failed .ensures) ∙ not-true _ (c .before .before .before .before .if1 .taken) in
     rw none (c .before .before .say-ended .ensures))
-    (λ c. 
+    (λ c.
     let some = sym (c .before .before .before .failed .ensures) ∙ not-false _ (c .before .before .if1 .left) in
     rw (some, le-leb _ _ (c .if2 .taken)) (said-none (omega arith)))
     (λ c κs. search needs)
@@ -27,7 +27,7 @@ say-remark-spec =
     (λ c. search needs)
     (λ c κs. search needs)
     (λ c. search needs)
-    (λ c. 
+    (λ c.
     let p1 = c .before .before in
     let p2 = p1 .before .before .before .before .before in
     let p3 = p2 .before .before .before .before in
