@@ -1,11 +1,12 @@
 -- A typed text that arrives in parts: what one call over a part does. A call goes up to the end of a line, or of the part where no line ends in it.
-use Prim.Native.Nat.{ℕ}
-use mathlib.Core.List.{List, [], _++_}
+use Prim.Native.Nat.{ℕ, zero, suc}
+use mathlib.Core.List.{List, [], _∷_, _++_}
 use lib.ListN.{length, take, drop}
 use Rattle.codec.specs.Codec.{pick}
 use Rattle.lines.specs.declared.Cut.{Cut}
 use Rattle.lines.specs.declared.Cutting.{Cutting}
 use Rattle.lines.specs.Lines.{nextOf, cuttingOf, cutIn, unmarked}
+use Rattle.lines.specs.Parts.{Numbered, Cutter}
 use Rattle.typist.specs.declared.Typist.{Typist}
 use Rattle.typist.specs.declared.Typing.{Typing}
 use Rattle.typist.specs.Typist.{Turn, turn}
@@ -58,3 +59,63 @@ lastOf typing line room = lineBy (typing .typist) (typing .cut .number) (inBuffe
 -- a buffer with the bytes at its start; those past them stay
 abbrev pub laidIn : List ℕ → List ℕ → List ℕ
 laidIn bytes out = bytes ++ drop (length bytes) out
+
+-- ---- a whole text, and the calls over its parts
+
+-- the typist behind some lines, the bytes written and what is said, all together
+pub record Output : Type 0 where
+  pub typist : Typist
+  pub bytes : List ℕ
+  pub said : List ℕ
+
+abbrev pub behind : Line → Output → Output
+behind l o = record { typist = o .typist; bytes = l .bytes ++ o .bytes; said = l .remark ++ o .said }
+
+-- line after line
+unfoldable pub output : Typist → List Numbered → Output
+output t [] = record { typist = t; bytes = []; said = [] }
+output t (l ∷ ls) =
+    let x = lineBy t (l .number) (unmarked (l .number) (l .bytes)) 28 in
+    behind x (output (x .typist) ls)
+
+-- what some calls have given, and the cutter behind them
+pub record Calls : Type 0 where
+  pub output : Output
+  pub cutter : Cutter
+
+-- what one call over a part gives
+abbrev pub oneCall : Typist → Cutter → List ℕ → Calls
+oneCall t c part =
+    let r = callOf (record { typist = t; cut = c .cut }) (c .line) part 28 in
+    record {
+      output = record { typist = r .typing .typist; bytes = r .bytes; said = r .remark };
+      cutter = record { line = cutIn (c .line) (c .cut) part; cut = r .typing .cut };
+    }
+
+abbrev pub andThen : Calls → Calls → Calls
+andThen a b =
+    record {
+      output = record { typist = b .output .typist; bytes = a .output .bytes ++ b .output .bytes; said = a .output .said ++ b .output .said };
+      cutter = b .cutter;
+    }
+
+-- a part, call after call while a line ends in what is left; it has fewer than the first number of lines
+unfoldable pub callsIn : ℕ → Typist → Cutter → List ℕ → Calls
+callsIn zero t c part = record { output = record { typist = t; bytes = []; said = [] }; cutter = c }
+callsIn (suc n) t c part =
+    let one = oneCall t c part in
+    let r = cuttingOf (length (c .line)) (c .cut) part in
+    pick (r .ended) (andThen one (callsIn n (one .output .typist) (one .cutter) (drop (r .taken) part))) one
+
+-- the parts of a text, one after the other
+unfoldable pub callsOver : Typist → Cutter → List (List ℕ) → Calls
+callsOver t c [] = record { output = record { typist = t; bytes = []; said = [] }; cutter = c }
+callsOver t c (part ∷ parts) =
+    let first = callsIn (suc (length part)) t c part in
+    andThen first (callsOver (first .output .typist) (first .cutter) parts)
+
+-- at the end of the text the unfinished line is entered
+abbrev pub withLast : Calls → Output
+withLast c =
+    let x = lastOf (record { typist = c .output .typist; cut = c .cutter .cut }) (c .cutter .line) 28 in
+    record { typist = x .typist; bytes = c .output .bytes ++ x .bytes; said = c .output .said ++ x .remark }
