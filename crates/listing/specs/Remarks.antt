@@ -1,10 +1,12 @@
 -- What the lister tells beside document 01's lines: a remark where a typed text was given for a book, and the byte of its exit status.
 use Prim.Native.Nat.{ℕ}
 use mathlib.Core.Bool.{Bool, false, _&&_, _||_}
-use mathlib.Core.List.{List, [], _∷_}
+use mathlib.Core.List.{List, [], _∷_, _++_}
 use lib.Dec.{leb, eqb}
 use Rattle.codec.specs.Codec.{pick}
 use Rattle.text.specs.Ascii.{ascii}
+use Rattle.text.specs.Decimal.{decimal}
+use Rattle.names.specs.Names.{sentence}
 use Rattle.account.specs.declared.Account.{Account}
 
 -- a byte that a typed text can begin with: a tab, a line's end, a printed character, or the first byte of a byte order mark
@@ -20,9 +22,17 @@ beginsTyped (b ∷ bs) = isTyped b
 abbrev pub looksTyped : Account → Bool → Bool
 looksTyped a begins = ((eqb (a .stage) 3 && eqb (a .refusal .code) 1) && eqb (a .refusal .number) 0) && begins
 
+-- a refusal's number with its sentence
+unfoldable pub whyText : Account → List ℕ
+whyText a =
+    pick (eqb (a .stage) 3) (ascii "refused " ++ (decimal (a .refusal .code) ++ (ascii ": " ++ (sentence (a .refusal .code) ++ ascii "\n")))) []
+
+abbrev pub hintText : Account → Bool → List ℕ
+hintText a begins = pick (looksTyped a begins) (ascii "this looks like a typed book: bin/writer makes a book of it\n") []
+
 -- what is remarked to a person
-unfoldable pub remarkText : Account → Bool → List ℕ
-remarkText a begins = pick (looksTyped a begins) (ascii "this looks like a typed book: bin/writer makes a book of it\n") []
+abbrev pub remarkText : Account → Bool → List ℕ
+remarkText a begins = whyText a ++ hintText a begins
 
 -- `0` where the book is closed, all of it was read and everything was written, else `1`
 abbrev pub statusByte : Account → Bool → Bool → ℕ

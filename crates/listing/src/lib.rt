@@ -8,6 +8,7 @@ use codec::lines::total_numbers;
 use text::put_numbers;
 use text::put_text;
 use text::say;
+use text::say_number;
 ghost use mathlib.Core.Path.{_≡_};
 ghost use mathlib.Core.List.{_∷_, []};
 ghost use Prim.Native.Nat.{_+_, _*_, _≤_};
@@ -18,7 +19,7 @@ ghost use Rattle.text.specs.Decimal.{Put, numbersLine};
 ghost use Rattle.text.specs.Said.{Said};
 ghost use Rattle.book.specs.Call.{call};
 ghost use Rattle.listing.specs.Listing.{lineNumbers, linesText, endText, Lists};
-ghost use Rattle.listing.specs.Remarks.{isTyped, beginsTyped, looksTyped, remarkText, statusByte};
+ghost use Rattle.listing.specs.Remarks.{isTyped, beginsTyped, looksTyped, whyText, hintText, remarkText, statusByte};
 
 // What one call over a part of a book makes: the new state, the bytes taken, and the bytes of text.
 pub struct Listed {
@@ -137,18 +138,42 @@ fn looks_typed(account: Account, begins: bool) -> bool
     (account.stage == 3) & (refusal.code == 1) & (refusal.number == 0) & begins
 }
 
-// What is said to a person beside the last word, from the start of out.
-pub fn say_remark(out: &mut [u8], account: Account, begins: bool) -> usize
-    ensures { λ r. ⌜ Said (now (out .entry)) (now (out .exit)) 0 (remarkText account begins) r ⌝ }
+// A refusal's number with its sentence.
+fn say_why(out: &mut [u8], account: Account) -> usize
+    ensures { λ r. ⌜ Said (now (out .entry)) (now (out .exit)) 0 (whyText account) r ⌝ }
+{
+    if account.stage != 3 {
+        return 0;
+    }
+    let refusal = account.refusal;
+    let code = refusal.code as u64;
+    let word = say(out, 0, b"refused ");
+    let number = say_number(out, word, code);
+    let colon = say(out, number, b": ");
+    let sentence = names::say_sentence(out, colon, code);
+    say(out, sentence, b"\n")
+}
+
+fn say_hint(out: &mut [u8], at: usize, account: Account, begins: bool) -> usize
+    requires { ⌜ at ≤ length (now out) ⌝ }
+    ensures { λ r. ⌜ Said (now (out .entry)) (now (out .exit)) at (hintText account begins) r ⌝ }
 {
     if looks_typed(account, begins) {
         return say(
             out,
-            0,
+            at,
             b"this looks like a typed book: bin/writer makes a book of it\n",
         );
     }
-    say(out, 0, b"")
+    at
+}
+
+// What is said to a person beside the last word, from the start of out.
+pub fn say_remark(out: &mut [u8], account: Account, begins: bool) -> usize
+    ensures { λ r. ⌜ Said (now (out .entry)) (now (out .exit)) 0 (remarkText account begins) r ⌝ }
+{
+    let why = say_why(out, account);
+    say_hint(out, why, account, begins)
 }
 
 // The status byte: 0 only where the book is closed, all of it was read, and everything was written.
