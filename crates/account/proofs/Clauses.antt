@@ -14,7 +14,7 @@ use Rattle.account.specs.declared.Days.{Days}
 use Rattle.account.specs.declared.Figures.{Figures}
 use Rattle.account.specs.declared.Subtotal.{Subtotal}
 use Rattle.account.specs.declared.Refusal.{Refusal}
-use Rattle.account.specs.Range.{Counted, Warmed, Headed, Unheaded, Bounded, Grouped, Ungrouped, Numbered, Unrefused, Fair, countedTest, warmedTest, headedTest, unheadedTest, boundedTest, groupedTest, ungroupedTest, numberedTest, unrefusedTest, fair}
+use Rattle.account.specs.Range.{Counted, Warmed, Headed, Unheaded, Bounded, Grouped, Ungrouped, Numbered, Unrefused, AccountInRange, countedTest, warmedTest, headedTest, unheadedTest, boundedTest, groupedTest, ungroupedTest, numberedTest, unrefusedTest, accountInRange}
 use Rattle.account.proofs.Tests.{and-l, and-r, all-each, each-all, implied, implies, or-cases, or-left, or-right, Each}
 
 -- ---- clause by clause, from the test
@@ -206,7 +206,7 @@ module _ (r : Refusal) where
   abbrev numberedRest : ℕ → List Bool
   numberedRest records =
       leb (r .code) 12
-      ∷ eqb (r .number) records
+      ∷ eqb (r .accepted) records
       ∷ leb (r .field) 12
       ∷ (not (eqb (r .code) 7) || leb 1 (r .field))
       ∷ (eqb (r .code) 7 || eqb (r .field) 0)
@@ -218,7 +218,7 @@ module _ (r : Refusal) where
       record {
         code-least = leb-true _ _ (t .0);
         code-most = leb-true _ _ (t .1 .0);
-        number = eqb-true _ _ (t .1 .1 .0);
+        accepted = eqb-true _ _ (t .1 .1 .0);
         field-most = leb-true _ _ (t .1 .1 .1 .0);
         field-some = λ h. leb-true _ _ (implied _ _ (t .1 .1 .1 .1 .0) (eq-eqb _ _ h));
         field-none = λ h. eqb-true _ _ (or-right _ _ (t .1 .1 .1 .1 .1 .0) (ne-eqb _ _ h));
@@ -229,7 +229,7 @@ module _ (r : Refusal) where
       each-all (leb 1 (r .code)) (numberedRest records) (le-leb _ _ (n .code-least)) (
         le-leb _ _ (n .code-most),
         (
-          eq-eqb _ _ (n .number),
+          eq-eqb _ _ (n .accepted),
           (
             le-leb _ _ (n .field-most),
             (
@@ -242,12 +242,12 @@ module _ (r : Refusal) where
 
   unrefused-parts : unrefusedTest r ≡ true → Unrefused r
   unrefused-parts e =
-      let t = all-each (eqb (r .code) 0) (eqb (r .number) 0 ∷ eqb (r .field) 0 ∷ []) e in
-      record { code = eqb-true _ _ (t .0); number = eqb-true _ _ (t .1 .0); field = eqb-true _ _ (t .1 .1 .0) }
+      let t = all-each (eqb (r .code) 0) (eqb (r .accepted) 0 ∷ eqb (r .field) 0 ∷ []) e in
+      record { code = eqb-true _ _ (t .0); accepted = eqb-true _ _ (t .1 .0); field = eqb-true _ _ (t .1 .1 .0) }
 
   unrefused-test : Unrefused r → unrefusedTest r ≡ true
   unrefused-test u =
-      each-all (eqb (r .code) 0) (eqb (r .number) 0 ∷ eqb (r .field) 0 ∷ []) (eq-eqb _ _ (u .code)) (eq-eqb _ _ (u .number), (eq-eqb _ _ (u .field), tt))
+      each-all (eqb (r .code) 0) (eqb (r .accepted) 0 ∷ eqb (r .field) 0 ∷ []) (eq-eqb _ _ (u .code)) (eq-eqb _ _ (u .accepted), (eq-eqb _ _ (u .field), tt))
 
 -- ---- all of it
 
@@ -262,9 +262,9 @@ module _ (a : Account) where
       ∷ (eqb (a .stage) 3 || unrefusedTest (a .refusal))
       ∷ []
 
-  pub fair-parts : fair a ≡ true → Fair a
-  unfolding fair
-  fair-parts e =
+  pub in-range-parts : accountInRange a ≡ true → AccountInRange a
+  unfolding accountInRange
+  in-range-parts e =
       let t = all-each (countedTest (a .stage) (a .records)) fairRest e in
       record {
         counted = counted-parts _ _ (t .0);
@@ -277,9 +277,9 @@ module _ (a : Account) where
         unrefused = λ h. unrefused-parts (a .refusal) (or-right _ _ (t .1 .1 .1 .1 .1 .1 .0) (ne-eqb _ _ h));
       }
 
-  pub fair-test : Fair a → fair a ≡ true
-  unfolding fair
-  fair-test f =
+  pub in-range-test : AccountInRange a → accountInRange a ≡ true
+  unfolding accountInRange
+  in-range-test f =
       each-all (countedTest (a .stage) (a .records)) fairRest (counted-test _ _ (f .counted)) (
         warmed-test _ _ (f .warmed),
         (

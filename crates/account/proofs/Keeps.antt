@@ -22,7 +22,7 @@ use Rattle.account.specs.declared.Subtotal.{Subtotal}
 use Rattle.account.specs.Sorts.{sortOf}
 use Rattle.account.specs.Figures.{figuresOf, grouped, groupFigures}
 use Rattle.account.specs.Line.{joined, lineWith, lineOf, subtotals, totalOf}
-use Rattle.account.specs.Range.{Headed, Unheaded, Grouped, Ungrouped, Unrefused, Fair}
+use Rattle.account.specs.Range.{Headed, Unheaded, Grouped, Ungrouped, Unrefused, AccountInRange}
 use Rattle.account.specs.Judge.{kindOf, valuesOf, noRecord, refused, opened, underHeading, withDetail, closed, headingServes, inPlace, daysOver, partsWrong, valueRefusals, refusals, first, Step, accepted, decided, weigh, judge}
 use Rattle.account.specs.Told.{Small}
 use Rattle.account.proofs.Tests.{by-test, not-true, not-false, and-l, and-r}
@@ -32,13 +32,13 @@ use Rattle.account.proofs.First.{first-most, first-other, first-clear}
 use Rattle.account.proofs.Ranges.{FarmIn, farm-in, HeadingIn, heading-in, enteric-in, cattle-in, pig-in, energy-in, soil-in}
 use Rattle.account.proofs.Told.{head-most, small-ch4, small-co2, both-long, Passes}
 
--- ---- a fair account
+-- ---- an account in range
 
-pub stage-most : (a : Account) → Fair a → a .stage ≤ 3
+pub stage-most : (a : Account) → AccountInRange a → a .stage ≤ 3
 stage-most a f = f .counted .stage-most
 
-pub fair-none : Fair noRecord
-fair-none =
+pub in-range-none : AccountInRange noRecord
+in-range-none =
     record {
       counted = record { stage-most = omega arith; records-most = omega arith; in-zero = λ e. refl; in-one = λ e. absurd (omega arith); in-two = λ e. absurd (omega arith) };
       warmed = record { set-most = omega arith; none = λ e. refl; some = λ e. refl };
@@ -47,11 +47,11 @@ fair-none =
       grouped = grouped-none 0;
       ungrouped = λ e. ungrouped-none;
       refused = λ e. absurd (omega arith);
-      unrefused = λ e. record { code = refl; number = refl; field = refl };
+      unrefused = λ e. record { code = refl; accepted = refl; field = refl };
     }
 
-fair-refused : (a : Account) (code field : ℕ) → Fair a → 1 ≤ code → code ≤ 12 → field ≤ 12 → (code ≡ 7 → 1 ≤ field) → ((code ≡ 7 → ⊥) → field ≡ 0) → Fair (refused a code field)
-fair-refused a code field f low high most some none =
+in-range-refused : (a : Account) (code field : ℕ) → AccountInRange a → 1 ≤ code → code ≤ 12 → field ≤ 12 → (code ≡ 7 → 1 ≤ field) → ((code ≡ 7 → ⊥) → field ≡ 0) → AccountInRange (refused a code field)
+in-range-refused a code field f low high most some none =
     record {
       counted = record { stage-most = omega arith; records-most = f .counted .records-most; in-zero = λ e. absurd (omega arith); in-one = λ e. absurd (omega arith); in-two = λ e. absurd (omega arith) };
       warmed = f .warmed;
@@ -59,13 +59,13 @@ fair-refused a code field f low high most some none =
       sums = f .sums;
       grouped = f .grouped;
       ungrouped = f .ungrouped;
-      refused = λ e. record { code-least = low; code-most = high; number = refl; field-most = most; field-some = some; field-none = none };
+      refused = λ e. record { code-least = low; code-most = high; accepted = refl; field-most = most; field-some = some; field-none = none };
       unrefused = λ n. absurd (n refl);
     }
 
 -- a length outside 4..26
-pub fair-length : (a : Account) → Fair a → Fair (refused a 1 0)
-fair-length a f = fair-refused a 1 0 f (omega arith) (omega arith) (omega arith) (λ e. absurd (omega arith)) (λ n. refl)
+pub in-range-length : (a : Account) → AccountInRange a → AccountInRange (refused a 1 0)
+in-range-length a f = in-range-refused a 1 0 f (omega arith) (omega arith) (omega arith) (λ e. absurd (omega arith)) (λ n. refl)
 
 -- ---- the refusals of a whole record
 
@@ -141,17 +141,17 @@ clear a k v e =
 -- ---- an account after a record that is not refused
 
 abbrev Kept : Step → Type 0
-Kept s = Fair (s .account)
+Kept s = AccountInRange (s .account)
 
-module _ (a : Account) (f : Fair a) (early : a .stage < 2) where
+module _ (a : Account) (f : AccountInRange a) (early : a .stage < 2) where
   not-three : a .stage ≡ 3 → ⊥
   not-three e = omega arith
 
   zeros : Unrefused (a .refusal)
   zeros = f .unrefused not-three
 
-  fair-opened : (set : ℕ) → 1 ≤ set → set ≤ 2 → a .records ≡ 0 → Fair (opened a set)
-  fair-opened set low high none =
+  in-range-opened : (set : ℕ) → 1 ≤ set → set ≤ 2 → a .records ≡ 0 → AccountInRange (opened a set)
+  in-range-opened set low high none =
       record {
         counted = record { stage-most = omega arith; records-most = omega arith; in-zero = λ e. absurd (omega arith); in-one = λ e. omega arith; in-two = λ e. absurd (omega arith) };
         warmed = record { set-most = high; none = λ e. absurd (omega arith); some = λ e. absurd (omega arith) };
@@ -168,8 +168,8 @@ module _ (a : Account) (f : Fair a) (early : a .stage < 2) where
     warm-on : (a .set ≡ 0 → ⊥)
     warm-on e = let z = f .warmed .none e in omega arith
 
-    fair-heading : (group class head : ℕ) → 1 ≤ group → group ≤ 65535 → 1 ≤ class → class ≤ 4 → head ≤ 20000 → Fair (underHeading a group class head)
-    fair-heading group class head g1 g2 c1 c2 h =
+    in-range-heading : (group class head : ℕ) → 1 ≤ group → group ≤ 65535 → 1 ≤ class → class ≤ 4 → head ≤ 20000 → AccountInRange (underHeading a group class head)
+    in-range-heading group class head g1 g2 c1 c2 h =
         record {
           counted = record { stage-most = omega arith; records-most = omega arith; in-zero = λ e. let z = f .counted .in-zero e in absurd (omega arith); in-one = λ e. omega arith; in-two = λ e. absurd (omega arith) };
           warmed = record { set-most = f .warmed .set-most; none = λ e. absurd (warm-on e); some = λ e. absurd (omega arith) };
@@ -215,8 +215,8 @@ module _ (a : Account) (f : Fair a) (early : a .stage < 2) where
     headed-by : 1 ≤ a .heading .class → Headed (a .heading) (a .days) (a .records)
     headed-by c = ⊎-elim (λ (h : Headed (a .heading) (a .days) (a .records)). h) (λ (u : Unheaded (a .heading) (a .days)). absurd (omega arith)) (f .heading)
 
-    fair-closed : Fair (closed a)
-    fair-closed =
+    in-range-closed : AccountInRange (closed a)
+    in-range-closed =
         record {
           counted = record { stage-most = omega arith; records-most = omega arith; in-zero = λ e. absurd (omega arith); in-one = λ e. absurd (omega arith); in-two = λ e. omega arith };
           warmed = record { set-most = f .warmed .set-most; none = λ e. absurd (warm-on e); some = λ e. absurd (omega arith) };
@@ -228,9 +228,9 @@ module _ (a : Account) (f : Fair a) (early : a .stage < 2) where
           unrefused = λ e. zeros;
         }
 
-    fair-detail : (d : Days) (t : Subtotal) (g : Figures) → Small g → Headed (a .heading) d (a .records + 1) ⊎ Unheaded (a .heading) d → Grouped t (a .records + 1)
-        → (a .heading .group ≡ 0 → Ungrouped t) → Fair (withDetail a d t g)
-    fair-detail d t g small h grouped ungrouped =
+    in-range-detail : (d : Days) (t : Subtotal) (g : Figures) → Small g → Headed (a .heading) d (a .records + 1) ⊎ Unheaded (a .heading) d → Grouped t (a .records + 1)
+        → (a .heading .group ≡ 0 → Ungrouped t) → AccountInRange (withDetail a d t g)
+    in-range-detail d t g small h grouped ungrouped =
         record {
           counted = record { stage-most = omega arith; records-most = omega arith; in-zero = λ e. let z = f .counted .in-zero e in absurd (omega arith); in-one = λ e. omega arith; in-two = λ e. absurd (omega arith) };
           warmed = record { set-most = f .warmed .set-most; none = λ e. absurd (warm-on e); some = λ e. absurd (omega arith) };
@@ -243,15 +243,15 @@ module _ (a : Account) (f : Fair a) (early : a .stage < 2) where
         }
 
     -- under a heading the subtotal takes the figures too
-    fair-grouped : (d : Days) (g : Figures) → Small g → Headed (a .heading) d (a .records + 1) → Fair (withDetail a d (grouped (a .subtotal) g) g)
-    fair-grouped d g small h =
-        fair-detail d _ g small (inl h) (grouped-added (f .grouped) small)
+    in-range-grouped : (d : Days) (g : Figures) → Small g → Headed (a .heading) d (a .records + 1) → AccountInRange (withDetail a d (grouped (a .subtotal) g) g)
+    in-range-grouped d g small h =
+        in-range-detail d _ g small (inl h) (grouped-added (f .grouped) small)
         (λ e. let least = h .group-least in absurd (omega arith))
 
     -- without one it stays
-    fair-farm : (g : Figures) → Small g → Fair (withDetail a (a .days) (a .subtotal) g)
-    fair-farm g small =
-        fair-detail (a .days) (a .subtotal) g small heading-on (grouped-next (f .grouped)) (f .ungrouped)
+    in-range-farm : (g : Figures) → Small g → AccountInRange (withDetail a (a .days) (a .subtotal) g)
+    in-range-farm g small =
+        in-range-detail (a .days) (a .subtotal) g small heading-on (grouped-next (f .grouped)) (f .ungrouped)
 
     -- ---- the details, kind by kind
 
@@ -261,7 +261,7 @@ module _ (a : Account) (f : Fair a) (early : a .stage < 2) where
       detail-enteric c =
           let i = enteric-in v (a .heading .head) (head-most a f) (c .passes .ranges) in
           let h = headed-by (leb-true _ _ (and-l _ _ (and-l _ _ (c .passes .place)))) in
-          fair-grouped _ _ (small-ch4 _ _ refl (enteric-small i))
+          in-range-grouped _ _ (small-ch4 _ _ refl (enteric-small i))
           (headed-on h _ (ltb-false _ _ (c .days)) (h .nitrogen-most) (h .pig-most))
 
       detail-cattle : Clear a 4 v → Kept (accepted a 4 v)
@@ -269,7 +269,7 @@ module _ (a : Account) (f : Fair a) (early : a .stage < 2) where
       detail-cattle c =
           let i = cattle-in v (a .heading .head) (head-most a f) (c .passes .ranges) in
           let h = headed-by (leb-true _ _ (and-l _ _ (and-l _ _ (c .passes .place)))) in
-          fair-grouped _ _ (record { ch4 = omega arith; n2o = cattle-n2o-small i; co2 = omega arith; excreted = cattle-excreted-small i; land = omega arith })
+          in-range-grouped _ _ (record { ch4 = omega arith; n2o = cattle-n2o-small i; co2 = omega arith; excreted = cattle-excreted-small i; land = omega arith })
           (headed-on h _ (h .enteric-most) (ltb-false _ _ (c .days)) (h .pig-most))
 
       detail-pig : Clear a 5 v → Kept (accepted a 5 v)
@@ -278,34 +278,34 @@ module _ (a : Account) (f : Fair a) (early : a .stage < 2) where
           let i = pig-in v (a .heading .head) (head-most a f) (c .passes .ranges) (ltb-false _ _ (c .parts)) in
           let four : a .heading .class ≡ 4 = eqb-true _ _ (and-l _ _ (c .passes .place)) in
           let h = headed-by (omega arith) in
-          fair-grouped _ _ (record { ch4 = pig-ch4-small i; n2o = pig-n2o-small i; co2 = omega arith; excreted = pig-excreted-small i; land = pig-land-small i })
+          in-range-grouped _ _ (record { ch4 = pig-ch4-small i; n2o = pig-n2o-small i; co2 = omega arith; excreted = pig-excreted-small i; land = pig-land-small i })
           (headed-on h _ (h .enteric-most) (h .nitrogen-most) (ltb-false _ _ (c .days)))
 
       detail-energy : Clear a 6 v → Kept (accepted a 6 v)
       unfolding figuresOf accepted sortOf
       detail-energy c =
-          fair-farm _ (small-co2 _ _ refl (energy-small (energy-in v (c .passes .ranges))))
+          in-range-farm _ (small-co2 _ _ refl (energy-small (energy-in v (c .passes .ranges))))
 
       detail-soil : Clear a 7 v → Kept (accepted a 7 v)
       unfolding figuresOf accepted sortOf
       detail-soil c =
-          fair-farm _ (small-co2 _ _ refl (soil-small (soil-in v (c .passes .ranges))))
+          in-range-farm _ (small-co2 _ _ refl (soil-small (soil-in v (c .passes .ranges))))
 
       kept-heading : Clear a 2 v → Kept (accepted a 2 v)
       unfolding accepted sortOf
       kept-heading c =
           let i = heading-in v (c .passes .ranges) in
-          fair-heading _ _ _ (i .group-least) (i .group-most) (i .class-least) (i .class-most) (i .head-most)
+          in-range-heading _ _ _ (i .group-least) (i .group-most) (i .class-least) (i .class-most) (i .head-most)
 
       kept-close : Clear a 8 v → Kept (accepted a 8 v)
       unfolding accepted sortOf
-      kept-close c = fair-closed
+      kept-close c = in-range-closed
 
   -- ---- by its kind
 
   kept-farm : (v : List ℕ) → Clear a 1 v → Kept (accepted a 1 v)
   unfolding inPlace accepted sortOf
-  kept-farm v c = let i = farm-in v (c .passes .ranges) in fair-opened _ (i .set-least) (i .set-most) (eqb-true _ _ (c .passes .place))
+  kept-farm v c = let i = farm-in v (c .passes .ranges) in in-range-opened _ (i .set-least) (i .set-most) (eqb-true _ _ (c .passes .place))
 
   after-first : (k : ℕ) (v : List ℕ) → Clear a k v → eqb k 1 ≡ false → 1 ≤ a .records
   unfolding inPlace
@@ -319,8 +319,8 @@ module _ (a : Account) (f : Fair a) (early : a .stage < 2) where
       → Clear a k v → Kept (accepted a k v)
   later k v e kept c = kept (after-first k v c e) (c .passes .room) v c
 
-  pub fair-accepted : (k : ℕ) (v : List ℕ) → Clear a k v → leb 1 k && leb k 8 ≡ true → Kept (accepted a k v)
-  fair-accepted k v c both =
+  pub in-range-accepted : (k : ℕ) (v : List ℕ) → Clear a k v → leb 1 k && leb k 8 ≡ true → Kept (accepted a k v)
+  in-range-accepted k v c both =
       each-kind (λ (n : ℕ). Clear a n v → Kept (accepted a n v)) (kept-farm v) (later 2 v refl kept-heading) (later 3 v refl detail-enteric)
       (later 4 v refl detail-cattle) (later 5 v refl detail-pig) (later 6 v refl detail-energy) (later 7 v refl detail-soil)
       (later 8 v refl kept-close) k both c
@@ -336,17 +336,17 @@ no-refusal a r e =
 field-of : (c x : ℕ) → x ≤ 12 → pick (eqb c 7) x 0 ≤ 12
 field-of c x h = by-test (λ (n : ℕ). n ≤ 12) (eqb c 7) (λ e. h) (λ e. omega arith)
 
-pub fair-judge : (a : Account) (r : List ℕ) → Fair a → a .stage < 2 → Fair (judge a r .account)
+pub in-range-judge : (a : Account) (r : List ℕ) → AccountInRange a → a .stage < 2 → AccountInRange (judge a r .account)
 unfolding judge
-fair-judge a r f early =
+in-range-judge a r f early =
     let code = first (refusals a r) in
     let bad = firstBad (fields (kindOf r)) (valuesOf r) 0 in
     let short : bad ≤ 12 = omega (arith, bad-position (fields (kindOf r)) (valuesOf r) 0, row-short (kindOf r)) in
     by-test Kept (eqb code 0)
-    (λ e. let n = no-refusal a r (eqb-true _ _ e) in fair-accepted a f early (kindOf r) (valuesOf r) (clear a (kindOf r) (valuesOf r) (n .1)) (n .0))
+    (λ e. let n = no-refusal a r (eqb-true _ _ e) in in-range-accepted a f early (kindOf r) (valuesOf r) (clear a (kindOf r) (valuesOf r) (n .1)) (n .0))
     (λ e.
     let some : code ≡ 0 → ⊥ = eqb-false _ _ e in
-    fair-refused a code (pick (eqb code 7) bad 0) f (omega arith) (number-most a r) (field-of code bad short)
+    in-range-refused a code (pick (eqb code 7) bad 0) f (omega arith) (number-most a r) (field-of code bad short)
     (λ q. let z = seven-field a r q in rw (eq-eqb _ _ q) (omega arith))
     (λ n. rw (ne-eqb _ _ n)))
 

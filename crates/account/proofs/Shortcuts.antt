@@ -12,7 +12,7 @@ use Rattle.account.specs.declared.Account.{Account}
 use Rattle.account.specs.declared.Heading.{Heading}
 use Rattle.account.specs.declared.Days.{Days}
 use Rattle.account.specs.declared.Subtotal.{Subtotal}
-use Rattle.account.specs.Range.{countedTest, warmedTest, headedTest, unheadedTest, boundedTest, groupedTest, ungroupedTest, numberedTest, unrefusedTest, fair}
+use Rattle.account.specs.Range.{countedTest, warmedTest, headedTest, unheadedTest, boundedTest, groupedTest, ungroupedTest, numberedTest, unrefusedTest, accountInRange}
 use Rattle.account.proofs.Sums.{ungrouped-bounded}
 use Rattle.account.proofs.Tests.{and-l, and-r, all-each, each-all, implied, or-cases}
 use Rattle.account.proofs.Clauses.{counted-parts, counted-test, warmed-parts, warmed-test, headed-parts, unheaded-parts, grouped-test, ungrouped-parts}
@@ -133,6 +133,6 @@ module _ (a : Account) where
   abbrev noRefusal : Bool
   noRefusal = eqb (a .stage) 3 || unrefusedTest (a .refusal)
 
-  pub in-parts : countedTest (a .stage) (a .records) && warmedTest (a .set) (a .records) && boundedTest (a .sums) (a .records) && (serves && subtotal) && (refusal && noRefusal) ≡ fair a
-  unfolding fair
+  pub in-parts : countedTest (a .stage) (a .records) && warmedTest (a .set) (a .records) && boundedTest (a .sums) (a .records) && (serves && subtotal) && (refusal && noRefusal) ≡ accountInRange a
+  unfolding accountInRange
   in-parts = regrouped (countedTest (a .stage) (a .records) && warmedTest (a .set) (a .records)) (boundedTest (a .sums) (a .records)) serves subtotal refusal noRefusal

@@ -27,16 +27,16 @@ use Rattle.account.specs.declared.Subtotal.{Subtotal}
 use Rattle.account.specs.declared.Judged.{Judged}
 use Rattle.account.specs.Figures.{groupFigures, cattleRation, ch4Alone, co2Alone, cattleFigures, pigFigures}
 use Rattle.account.specs.Line.{joined, bytesOf, lineWith, co2eIn, subtotals, totalOf}
-use Rattle.account.specs.Range.{Headed, Unheaded, Bounded, Grouped, Fair}
+use Rattle.account.specs.Range.{Headed, Unheaded, Bounded, Grouped, AccountInRange}
 use Rattle.account.specs.Judge.{versionOf, kindOf, judge, first, inPlace, daysOver, partsWrong, valueRefusals, refused, underHeading, withDetail, closed, Step, accepted, decided, weigh}
 use Rattle.account.specs.Told.{Tells, TellsIn, inRoom, Kind, Small, noLine, quiet, refusing, detailing, heading, closing}
 use Rattle.account.proofs.Tests.{not-false, no-bool}
 use Rattle.account.proofs.Sums.{bounded-more, grouped-more}
 use Rattle.account.proofs.First.{three-clear, three-first}
 
--- ---- a fair account, in what the arithmetic asks
+-- ---- an account in range, in what the arithmetic asks
 
-pub head-most : (a : Account) → Fair a → a .heading .head ≤ 20000
+pub head-most : (a : Account) → AccountInRange a → a .heading .head ≤ 20000
 head-most a f = ⊎-elim (λ (h : Headed (a .heading) (a .days) (a .records)). h .head-most) (λ (u : Unheaded (a .heading) (a .days)). omega arith) (f .heading)
 
 pub record DaysMost (d : Days) : Type 0 where
@@ -44,17 +44,17 @@ pub record DaysMost (d : Days) : Type 0 where
   pub nitrogen : d .nitrogen ≤ 366
   pub pig : d .pig ≤ 366
 
-pub days-most : (a : Account) → Fair a → DaysMost (a .days)
+pub days-most : (a : Account) → AccountInRange a → DaysMost (a .days)
 days-most a f =
     ⊎-elim
     (λ (h : Headed (a .heading) (a .days) (a .records)). record { enteric = h .enteric-most; nitrogen = h .nitrogen-most; pig = h .pig-most })
     (λ (u : Unheaded (a .heading) (a .days)). record { enteric = omega arith; nitrogen = omega arith; pig = omega arith })
     (f .heading)
 
-pub sums-most : (a : Account) → Fair a → Bounded (a .sums) 4096
+pub sums-most : (a : Account) → AccountInRange a → Bounded (a .sums) 4096
 sums-most a f = bounded-more (f .counted .records-most) (f .sums)
 
-pub subtotal-most : (a : Account) → Fair a → Grouped (a .subtotal) 4096
+pub subtotal-most : (a : Account) → AccountInRange a → Grouped (a .subtotal) 4096
 subtotal-most a f = grouped-more (f .counted .records-most) (f .grouped)
 
 -- ---- figures of one line
@@ -123,7 +123,7 @@ tells-heading a group class head = go (eqb (a .heading .group) 0)
         → Tells (step (underHeading a group class head) (pick b [] (lineWith 16 (a .heading .group) (groupFigures (a .subtotal)) ∷ [])))
         (record {
           account = underHeading a group class head;
-          line = pick b noLine (record { len = 46; kind = 16; group = a .heading .group; figures = groupFigures (a .subtotal); co2e = 0 });
+          line = pick b noLine (record { given = 46; kind = 16; group = a .heading .group; figures = groupFigures (a .subtotal); co2e = 0 });
         })
     go true = record { account = refl; bytes = refl; long = refl; short = omega arith }
     go false = record { account = refl; bytes = sym (append-nil _); long = line-length _ _ _ _ _ _ _; short = omega arith }
@@ -137,7 +137,7 @@ tells-close a = go (eqb (a .heading .group) 0)
         → Tells (step (closed a) (pick b [] (lineWith 16 (a .heading .group) (groupFigures (a .subtotal)) ∷ []) ++ (totalOf a ∷ [])))
         (record {
           account = closed a;
-          line = record { len = pick b 54 100; kind = 16; group = a .heading .group; figures = groupFigures (a .subtotal); co2e = co2eIn a };
+          line = record { given = pick b 54 100; kind = 16; group = a .heading .group; figures = groupFigures (a .subtotal); co2e = co2eIn a };
         })
     go true = record { account = refl; bytes = sym (append-nil _); long = total-length _ _ _ _ _ _; short = omega arith }
     go false =
@@ -155,11 +155,11 @@ pub quiet-in : (room : ℕ) (a b : Account) (s : Step) (r : Judged) → r ≡ qu
 quiet-in room a b s r e t = record { whole = r; tells = t; is = rw (e, le-leb 0 room (omega arith)) refl }
 
 -- what fits is told whole; of what does not fit the account is the one before
-pub in-fit : (room : ℕ) (a : Account) (j : Judged) → j .line .len ≤ room → inRoom room a j ≡ j
-in-fit room a j h = rw (le-leb (j .line .len) room h) refl
+pub in-fit : (room : ℕ) (a : Account) (j : Judged) → j .line .given ≤ room → inRoom room a j ≡ j
+in-fit room a j h = rw (le-leb (j .line .given) room h) refl
 
-pub in-full : (room : ℕ) (a : Account) (j : Judged) → room < j .line .len → inRoom room a j ≡ record { account = a; line = j .line }
-in-full room a j h = rw (lt-leb (j .line .len) room h) refl
+pub in-full : (room : ℕ) (a : Account) (j : Judged) → room < j .line .given → inRoom room a j ≡ record { account = a; line = j .line }
+in-full room a j h = rw (lt-leb (j .line .given) room h) refl
 
 pub told-in : (room : ℕ) (a : Account) (s : Step) (r w : Judged) → r ≡ inRoom room a w → Tells s w → TellsIn room a s r
 told-in room a s r w e t = record { whole = w; tells = t; is = e }
@@ -169,23 +169,23 @@ module _ {room : ℕ} {a : Account} {s : Step} {r : Judged} (t : TellsIn room a 
   same-line = rw (t .is) refl
 
   -- the lines fit
-  pub tells-fit : r .line .len ≤ room → Tells s r
+  pub tells-fit : r .line .given ≤ room → Tells s r
   tells-fit h =
-      let h2 : t .whole .line .len ≤ room = rw same-line at h in
+      let h2 : t .whole .line .given ≤ room = rw same-line at h in
       let same : r ≡ t .whole = t .is ∙ in-fit room a (t .whole) h2 in
       rw same (t .tells)
 
   -- they do not: the account is the one before
-  pub account-kept : room < r .line .len → r .account ≡ a
+  pub account-kept : room < r .line .given → r .account ≡ a
   account-kept h =
-      let h2 : room < t .whole .line .len = rw same-line at h in
+      let h2 : room < t .whole .line .given = rw same-line at h in
       ap (λ (j : Judged). j .account) (t .is ∙ in-full room a (t .whole) h2)
 
   -- their length is that of what the rules say, whether they fit or not
-  pub lines-long : length (joined (s .lines)) ≡ r .line .len
+  pub lines-long : length (joined (s .lines)) ≡ r .line .given
   lines-long = rw same-line (rw (t .tells .bytes) at (t .tells .long))
 
-  pub lines-short : r .line .len ≤ 100
+  pub lines-short : r .line .given ≤ 100
   lines-short = rw same-line (t .tells .short)
 
 -- ---- the refusals of values

@@ -26,28 +26,28 @@ abbrev pub total : Judged → List ℕ
 total j = totalWith (j .account .sums) (j .line .co2e)
 
 module _ (out : List ℕ) (w : ℕ) (j : Judged) where
-  pub none-written : j .line .len ≡ 0 → out ≡ paste out w (bytesOf j) (j .line .len)
+  pub none-written : j .line .given ≡ 0 → out ≡ paste out w (bytesOf j) (j .line .given)
   none-written e = rw e (paste-zero out w (bytesOf j))
 
-  module _ (h : w + j .line .len ≤ length out) where
-    pub line-written : j .line .len ≡ 46 → sets out w (leading j) ≡ paste out w (bytesOf j) (j .line .len)
+  module _ (h : w + j .line .given ≤ length out) where
+    pub line-written : j .line .given ≡ 46 → sets out w (leading j) ≡ paste out w (bytesOf j) (j .line .given)
     unfolding bytesOf
     line-written e = rw e (pasted (leading j) out w 46 (line-length _ _ _ _ _ _ _) (omega arith))
 
-    pub total-written : j .line .len ≡ 54 → sets out w (total j) ≡ paste out w (bytesOf j) (j .line .len)
+    pub total-written : j .line .given ≡ 54 → sets out w (total j) ≡ paste out w (bytesOf j) (j .line .given)
     unfolding bytesOf
     total-written e = rw e (pasted (total j) out w 54 (total-length _ _ _ _ _ _) (omega arith))
 
-    module _ (zero : j .line .len ≡ 0 → ⊥) (other : j .line .len ≡ 46 → ⊥) (third : j .line .len ≡ 54 → ⊥) (long : length (bytesOf j) ≡ j .line .len) where
+    module _ (zero : j .line .given ≡ 0 → ⊥) (other : j .line .given ≡ 46 → ⊥) (third : j .line .given ≡ 54 → ⊥) (long : length (bytesOf j) ≡ j .line .given) where
       are-both : bytesOf j ≡ leading j ++ total j
       unfolding bytesOf
       are-both = rw (ne-eqb _ 0 zero, ne-eqb _ 46 other, ne-eqb _ 54 third)
 
-      pub both-are : j .line .len ≡ 100
+      pub both-are : j .line .given ≡ 100
       both-are = sym long ∙ ap length are-both ∙ both-long _ _ _ _ _ _ _ _ _ _ _ _ _
 
       -- one after the other
-      pub both-written : sets (sets out w (leading j)) (w + 46) (total j) ≡ paste out w (bytesOf j) (j .line .len)
+      pub both-written : sets (sets out w (leading j)) (w + 46) (total j) ≡ paste out w (bytesOf j) (j .line .given)
       both-written =
           let l : length (leading j) ≡ 46 = line-length _ _ _ _ _ _ _ in
           let s : sets (sets out w (leading j)) (w + length (leading j)) (total j) ≡ sets out w (leading j ++ total j) = sym (sets-append (leading j) (total j) out w) in

@@ -6,7 +6,7 @@ use mathlib.Core.List.{List, [], _∷_, _++_}
 use mathlib.Core.Bool.{Bool, true, false, _&&_, _||_, not}
 use lib.ListN.{length, getD}
 use lib.Dec.{ltb, leb, eqb}
-use Rattle.codec.specs.Table.{fields, lengthOf}
+use Rattle.codec.specs.Table.{fields, lengthOf, lengthMost}
 use Rattle.codec.specs.Codec.{pick, valAt, valuesAt, firstBad}
 use Rattle.grams.specs.Cattle.{belowZero}
 use Rattle.account.specs.declared.Account.{Account}
@@ -19,11 +19,11 @@ use Rattle.account.specs.Line.{lineOf, subtotals, totalOf}
 
 -- ---- a record and its parts
 
--- r is a whole record: a length of 4..26, and so many bytes behind it
-pub record Whole (r : List ℕ) : Type 0 where
+-- r is a whole record: a length of 4..lengthMost, and so many bytes behind it
+pub record WholeRecord (r : List ℕ) : Type 0 where
   pub long : length r ≡ valAt r 0 2 + 2
   pub low : 4 ≤ valAt r 0 2
-  pub high : valAt r 0 2 ≤ 26
+  pub high : valAt r 0 2 ≤ lengthMost
 
 abbrev pub versionOf : List ℕ → ℕ
 versionOf r = getD r 2 0
@@ -47,7 +47,7 @@ noRecord =
       days = record { enteric = 0; nitrogen = 0; pig = 0 };
       subtotal = noSubtotal;
       sums = noFigures;
-      refusal = record { code = 0; number = 0; field = 0 };
+      refusal = record { code = 0; accepted = 0; field = 0 };
     }
 
 -- refused: code, records accepted so far and field are stored, all the rest is kept
@@ -61,7 +61,7 @@ refused a code field =
       days = a .days;
       subtotal = a .subtotal;
       sums = a .sums;
-      refusal = record { code = code; number = a .records; field = field };
+      refusal = record { code = code; accepted = a .records; field = field };
     }
 
 -- a farm record opens the book and sets its warming set

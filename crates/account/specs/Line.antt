@@ -3,6 +3,7 @@
 use Prim.Native.Nat.{ℕ}
 use mathlib.Core.List.{List, [], _∷_, _++_}
 use lib.Dec.{eqb}
+use Rattle.codec.specs.Table.{lineSize, totalSize}
 use Rattle.codec.specs.Codec.{pick, lineBytes, totalBytes}
 use Rattle.grams.specs.Farm.{co2eOf, warmingOf}
 use Rattle.account.specs.declared.Account.{Account}
@@ -44,10 +45,10 @@ abbrev pub joined : List (List ℕ) → List ℕ
 joined [] = []
 joined (l ∷ ls) = l ++ joined ls
 
--- the bytes of lines that are yet to be written: none, 46 of a detail or a subtotal, 54 of the total, or 100 of a subtotal and the total
+-- the bytes of lines that are yet to be written: none, those of a detail or a subtotal, of the total, or of a subtotal and the total
 unfoldable pub bytesOf : Judged → List ℕ
 bytesOf j =
-    pick (eqb (j .line .len) 0) []
-    (pick (eqb (j .line .len) 46) (lineWith (j .line .kind) (j .line .group) (j .line .figures))
-    (pick (eqb (j .line .len) 54) (totalWith (j .account .sums) (j .line .co2e))
+    pick (eqb (j .line .given) 0) []
+    (pick (eqb (j .line .given) lineSize) (lineWith (j .line .kind) (j .line .group) (j .line .figures))
+    (pick (eqb (j .line .given) totalSize) (totalWith (j .account .sums) (j .line .co2e))
     (lineWith (j .line .kind) (j .line .group) (j .line .figures) ++ totalWith (j .account .sums) (j .line .co2e))))

@@ -77,7 +77,7 @@ pub record Ungrouped (s : Subtotal) : Type 0 where
 pub record Numbered (r : Refusal) (records : ℕ) : Type 0 where
   pub code-least : 1 ≤ r .code
   pub code-most : r .code ≤ 12
-  pub number : r .number ≡ records
+  pub accepted : r .accepted ≡ records
   pub field-most : r .field ≤ 12
   pub field-some : r .code ≡ 7 → 1 ≤ r .field
   pub field-none : (r .code ≡ 7 → ⊥) → r .field ≡ 0
@@ -85,11 +85,11 @@ pub record Numbered (r : Refusal) (records : ℕ) : Type 0 where
 -- otherwise zeros
 pub record Unrefused (r : Refusal) : Type 0 where
   pub code : r .code ≡ 0
-  pub number : r .number ≡ 0
+  pub accepted : r .accepted ≡ 0
   pub field : r .field ≡ 0
 
 -- all of it
-pub record Fair (a : Account) : Type 0 where
+pub record AccountInRange (a : Account) : Type 0 where
   pub counted : Counted (a .stage) (a .records)
   pub warmed : Warmed (a .set) (a .records)
   pub heading : Headed (a .heading) (a .days) (a .records) ⊎ Unheaded (a .heading) (a .days)
@@ -155,16 +155,16 @@ abbrev pub numberedTest : Refusal → ℕ → Bool
 numberedTest r records =
     leb 1 (r .code)
     && leb (r .code) 12
-    && eqb (r .number) records
+    && eqb (r .accepted) records
     && leb (r .field) 12
     && (not (eqb (r .code) 7) || leb 1 (r .field))
     && (eqb (r .code) 7 || eqb (r .field) 0)
 
 abbrev pub unrefusedTest : Refusal → Bool
-unrefusedTest r = eqb (r .code) 0 && eqb (r .number) 0 && eqb (r .field) 0
+unrefusedTest r = eqb (r .code) 0 && eqb (r .accepted) 0 && eqb (r .field) 0
 
-unfoldable pub fair : Account → Bool
-fair a =
+unfoldable pub accountInRange : Account → Bool
+accountInRange a =
     countedTest (a .stage) (a .records)
     && warmedTest (a .set) (a .records)
     && (headedTest (a .heading) (a .days) (a .records) || unheadedTest (a .heading) (a .days))

@@ -6,6 +6,7 @@ use mathlib.Core.List.{List}
 use mathlib.Core.Bool.{Bool}
 use lib.ListN.{length}
 use lib.Dec.{leb, eqb}
+use Rattle.codec.specs.Table.{lineSize, totalSize, linesMost}
 use Rattle.codec.specs.Codec.{pick}
 use Rattle.account.specs.declared.Account.{Account}
 use Rattle.account.specs.declared.Days.{Days}
@@ -15,18 +16,18 @@ use Rattle.account.specs.declared.Judged.{Judged}
 use Rattle.account.specs.declared.line.Line.{Line}
 use Rattle.account.specs.Figures.{noFigures, groupFigures}
 use Rattle.account.specs.Line.{joined, bytesOf, co2eIn}
-use Rattle.account.specs.Judge.{Step, Whole, versionOf, kindOf, refused, underHeading, withDetail, closed}
+use Rattle.account.specs.Judge.{Step, WholeRecord, versionOf, kindOf, refused, underHeading, withDetail, closed}
 
 -- r tells what j says: the account, and j's lines one after the other
 pub record Tells (j : Step) (r : Judged) : Type 0 where
   pub account : r .account ≡ j .account
   pub bytes : bytesOf r ≡ joined (j .lines)
-  pub long : length (bytesOf r) ≡ r .line .len
-  pub short : r .line .len ≤ 100
+  pub long : length (bytesOf r) ≡ r .line .given
+  pub short : r .line .given ≤ linesMost
 
 -- j where its lines fit the room; else its lines, and the account a as it was
 abbrev pub inRoom : ℕ → Account → Judged → Judged
-inRoom room a j = record { account = pick (leb (j .line .len) room) (j .account) a; line = j .line }
+inRoom room a j = record { account = pick (leb (j .line .given) room) (j .account) a; line = j .line }
 
 -- r tells what j says after the account a, as far as the room allows
 pub record TellsIn (room : ℕ) (a : Account) (j : Step) (r : Judged) : Type 0 where
@@ -36,7 +37,7 @@ pub record TellsIn (room : ℕ) (a : Account) (j : Step) (r : Judged) : Type 0 w
 
 -- r is a whole record of version 1 and kind k
 pub record Kind (k : ℕ) (r : List ℕ) : Type 0 where
-  pub whole : Whole r
+  pub whole : WholeRecord r
   pub version : versionOf r ≡ 1
   pub kind : kindOf r ≡ k
 
@@ -49,7 +50,7 @@ pub record Small (f : Figures) : Type 0 where
   pub land : f .land ≤ 10 ^ 11
 
 abbrev pub noLine : Line
-noLine = record { len = 0; kind = 0; group = 0; figures = noFigures; co2e = 0 }
+noLine = record { given = 0; kind = 0; group = 0; figures = noFigures; co2e = 0 }
 
 abbrev pub quiet : Account → Judged
 quiet a = record { account = a; line = noLine }
@@ -59,11 +60,11 @@ refusing a code field = quiet (refused a code field)
 
 abbrev pub detailing : Account → ℕ → ℕ → Days → Subtotal → Figures → Judged
 detailing a kind group days subtotal f =
-    record { account = withDetail a days subtotal f; line = record { len = 46; kind = kind; group = group; figures = f; co2e = 0 } }
+    record { account = withDetail a days subtotal f; line = record { given = lineSize; kind = kind; group = group; figures = f; co2e = 0 } }
 
 abbrev pub groupLine : Account → Line
 groupLine a =
-    pick (eqb (a .heading .group) 0) noLine (record { len = 46; kind = 16; group = a .heading .group; figures = groupFigures (a .subtotal); co2e = 0 })
+    pick (eqb (a .heading .group) 0) noLine (record { given = lineSize; kind = 16; group = a .heading .group; figures = groupFigures (a .subtotal); co2e = 0 })
 
 abbrev pub heading : Account → ℕ → ℕ → ℕ → Judged
 heading a group class head = record { account = underHeading a group class head; line = groupLine a }
@@ -72,5 +73,5 @@ abbrev pub closing : Account → Judged
 closing a =
     record {
       account = closed a;
-      line = record { len = pick (eqb (a .heading .group) 0) 54 100; kind = 16; group = a .heading .group; figures = groupFigures (a .subtotal); co2e = co2eIn a };
+      line = record { given = pick (eqb (a .heading .group) 0) totalSize linesMost; kind = 16; group = a .heading .group; figures = groupFigures (a .subtotal); co2e = co2eIn a };
     }

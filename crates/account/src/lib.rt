@@ -1,11 +1,11 @@
 // The account that a book's records have made so far. What a record does to it is said in specs/Judge and carried out by rules.
-mod fair;
 pub mod line;
+mod range;
 
 use grams::units::N2o;
 use line::Line;
 ghost use mathlib.Core.Path.{_≡_};
-ghost use Rattle.account.specs.Range.{fair};
+ghost use Rattle.account.specs.Range.{accountInRange};
 ghost use Rattle.account.specs.Judge.{noRecord, refused};
 
 // A group heading: its number, its class (1 milking, 2 dry, 3 heifer, 4 pig) and its head count; all zero where there is none.
@@ -42,7 +42,7 @@ pub struct Subtotal {
 // Why a book was refused: the number of the rule, the records accepted before, and the field for rule 7.
 pub struct Refusal {
     pub code: u8,
-    pub number: u16,
+    pub accepted: u16,
     pub field: u8,
 }
 
@@ -98,7 +98,7 @@ impl Account {
             },
             refusal: Refusal {
                 code: 0,
-                number: 0,
+                accepted: 0,
                 field: 0,
             },
         }
@@ -137,7 +137,7 @@ impl Account {
             },
             refusal: Refusal {
                 code: self.refusal.code,
-                number: self.refusal.number,
+                accepted: self.refusal.accepted,
                 field: self.refusal.field,
             },
         }
@@ -149,7 +149,7 @@ impl Account {
     {
         let refusal = Refusal {
             code: code,
-            number: self.records,
+            accepted: self.records,
             field: field,
         };
         let mut next = self.by_fields();
@@ -159,9 +159,9 @@ impl Account {
     }
 
     // Whether every field is in its range.
-    pub fn fair(self) -> bool
-        ensures { λ r. ⌜ r ≡ fair self ⌝ }
+    pub fn in_range(self) -> bool
+        ensures { λ r. ⌜ r ≡ accountInRange self ⌝ }
     {
-        fair::test(self)
+        range::test(self)
     }
 }

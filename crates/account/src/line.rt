@@ -9,10 +9,10 @@ ghost use lib.Seq.{paste};
 ghost use Rattle.account.specs.Line.{bytesOf};
 ghost use Rattle.account.specs.Told.{noLine};
 
-// len is 0 where there is no line; 46 for a detail's or a subtotal; 54 for the total, whose sums are the account's, with its CO2e; 100 for a
-// subtotal and the total.
+// given: how many bytes, and by that what they are: 0 none, LINE_SIZE a detail's line or a subtotal, TOTAL_SIZE the total (the account's sums
+// and co2e), LINES_MOST a subtotal and the total.
 pub struct Line {
-    pub len: usize,
+    pub given: usize,
     pub kind: u8,
     pub group: u16,
     pub figures: Figures,
@@ -23,7 +23,7 @@ pub fn none() -> Line
     ensures { λ r. ⌜ r ≡ noLine ⌝ }
 {
     Line {
-        len: 0,
+        given: 0,
         kind: 0,
         group: 0,
         figures: Figures {
@@ -39,15 +39,15 @@ pub fn none() -> Line
 
 // Writes a record's lines at w.
 pub fn write(out: &mut [u8], w: usize, j: Judged)
-    requires { ⌜ (w + j .line .len ≤ length (now out)) × (length (bytesOf j) ≡ j .line .len) ⌝ }
-    ensures { λ _. ⌜ now (out .exit) ≡ paste (now (out .entry)) w (bytesOf j) (j .line .len) ⌝ }
+    requires { ⌜ (w + j .line .given ≤ length (now out)) × (length (bytesOf j) ≡ j .line .given) ⌝ }
+    ensures { λ _. ⌜ now (out .exit) ≡ paste (now (out .entry)) w (bytesOf j) (j .line .given) ⌝ }
 {
     let line = j.line;
-    if line.len == 0 {
+    if line.given == 0 {
         return;
     }
     let f = line.figures;
-    if line.len == 46 {
+    if line.given == codec::LINE_SIZE {
         codec::lines::put_line(
             out,
             w,
@@ -63,7 +63,7 @@ pub fn write(out: &mut [u8], w: usize, j: Judged)
     }
     let account = j.account;
     let s = account.sums;
-    if line.len == 54 {
+    if line.given == codec::TOTAL_SIZE {
         codec::lines::put_total(out, w, s.ch4, s.n2o.0, s.co2, s.excreted, s.land, line.co2e);
         return;
     }
@@ -80,7 +80,7 @@ pub fn write(out: &mut [u8], w: usize, j: Judged)
     );
     codec::lines::put_total(
         out,
-        w + 46,
+        w + codec::LINE_SIZE,
         s.ch4,
         s.n2o.0,
         s.co2,

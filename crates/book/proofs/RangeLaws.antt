@@ -9,8 +9,8 @@ use lib.ListN.{length, drop, replicate, length-append, length-drop, length-repli
 use lib.Seq.{length-take-le, take-append-seam, drop-append-seam}
 use lib.Dec.{ltb, leb, eqb}
 use Rattle.account.specs.declared.Account.{Account}
-use Rattle.account.specs.Range.{Fair, fair}
-use Rattle.account.proofs.Clauses.{fair-parts, fair-test}
+use Rattle.account.specs.Range.{AccountInRange, accountInRange}
+use Rattle.account.proofs.Clauses.{in-range-parts, in-range-test}
 use Rattle.book.specs.declared.State.{State}
 use Rattle.book.specs.Front.{Front, unfinished, badLength, whole, front}
 use Rattle.book.specs.State.{heldOf, holding, zeros, isUnfinished, InRange, inRange}
@@ -31,10 +31,10 @@ range-parts s e =
     let t1 = both _ (ltb (s .account .stage) 2 || eqb (s .count) 0) e in
     let t2 = both _ (isUnfinished (front (heldOf s))) (t1 .0) in
     let t3 = both _ (zeros (drop (s .count) (s .held))) (t2 .0) in
-    let t4 = both _ (fair (s .account)) (t3 .0) in
+    let t4 = both _ (accountInRange (s .account)) (t3 .0) in
     let t5 = both (eqb (length (s .held)) 27) (leb (s .count) 27) (t4 .0) in
     record {
-      account = fair-parts (s .account) (t4 .1);
+      account = in-range-parts (s .account) (t4 .1);
       places = eqb-true _ _ (t5 .0);
       count = leb-true _ _ (t5 .1);
       unused = t3 .1;
@@ -45,7 +45,7 @@ range-parts s e =
 pub range-test : (s : State) → InRange s → inRange s ≡ true
 unfolding inRange
 range-test s v =
-    rw (eq-eqb _ _ (v .places), le-leb _ _ (v .count), fair-test (s .account) (v .account), v .unused, v .begun)
+    rw (eq-eqb _ _ (v .places), le-leb _ _ (v .count), in-range-test (s .account) (v .account), v .unused, v .begun)
     (or-left (ltb (s .account .stage) 2) (eqb (s .count) 0) (λ e. eq-eqb _ _ (v .none (ltb-false _ _ e))))
 
 pub too-many : (s : State) → 27 < s .count → inRange s ≡ false
@@ -83,7 +83,7 @@ zeros-of : (n : ℕ) → zeros (replicate n 0) ≡ true
 zeros-of zero = refl
 zeros-of (suc n) = zeros-of n
 
-pub range-holding : (a : Account) (xs : List ℕ) → Fair a → a .stage < 2 → front xs ≡ unfinished → InRange (holding a xs)
+pub range-holding : (a : Account) (xs : List ℕ) → AccountInRange a → a .stage < 2 → front xs ≡ unfinished → InRange (holding a xs)
 range-holding a xs v k e =
     let short = unfinished-short xs e in
     record {
@@ -95,5 +95,5 @@ range-holding a xs v k e =
       none = λ h. absurd (omega arith);
     }
 
-pub range-idle : (a : Account) → Fair a → InRange (holding a [])
+pub range-idle : (a : Account) → AccountInRange a → InRange (holding a [])
 range-idle a v = record { account = v; places = refl; count = omega arith; unused = refl; begun = front-none; none = λ h. refl }

@@ -9,12 +9,12 @@ use lib.Seq.{paste, length-take-le, take-all}
 use Rattle.codec.specs.Codec.{valAt}
 use Rattle.account.specs.declared.Account.{Account}
 use Rattle.account.specs.declared.Judged.{Judged}
-use Rattle.account.specs.Range.{Fair}
-use Rattle.account.specs.Judge.{Whole, judge}
+use Rattle.account.specs.Range.{AccountInRange}
+use Rattle.account.specs.Judge.{WholeRecord, judge}
 use Rattle.account.specs.Line.{joined, bytesOf}
 use Rattle.account.specs.Told.{Tells, TellsIn}
 use Rattle.account.proofs.Told.{tells-fit, account-kept, lines-long}
-use Rattle.account.proofs.Keeps.{fair-judge}
+use Rattle.account.proofs.Keeps.{in-range-judge}
 use Rattle.book.specs.Front.{whole, need, front}
 use Rattle.book.specs.State.{holding}
 use Rattle.book.specs.Run.{Outcome, outcome, book, run}
@@ -37,7 +37,7 @@ module _ (xs : List ℕ) (n : ℕ) (e : front xs ≡ whole) (k : n ≡ need xs) 
   record-length : valAt (take n xs) 0 2 ≡ valAt xs 0 2
   record-length = length-take-two xs n (omega arith)
 
-  pub record-whole : Whole (take n xs)
+  pub record-whole : WholeRecord (take n xs)
   record-whole =
       let m = meaning xs whole e in
       record { long = rw (record-long, record-length) k; low = rw record-length (m .1); high = rw record-length (m .2) }
@@ -45,15 +45,15 @@ module _ (xs : List ℕ) (n : ℕ) (e : front xs ≡ whole) (k : n ≡ need xs) 
   record-front : front (take n xs) ≡ whole
   record-front = let m = meaning xs whole e in is-whole (take n xs) (rw (record-length, record-long) (omega arith, m .1, m .2, omega arith))
 
-  pub book-one : (a : Account) → Fair a → a .stage < 2
+  pub book-one : (a : Account) → AccountInRange a → a .stage < 2
       → book a (take n xs) ≡ record { state = holding (judge a (take n xs) .account) []; lines = judge a (take n xs) .lines ++ []; left = [] }
   book-one a v early =
       let zs = take n xs in
       let d : drop (need zs) zs ≡ [] = drop-of-length-le zs {i = need zs} (omega (arith, record-length, record-long)) in
       book-whole a zs early record-front
-      ∙ rw (take-all (need zs) zs (omega (arith, record-length, record-long)), d, book-none (judge a zs .account) (fair-judge a zs v early))
+      ∙ rw (take-all (need zs) zs (omega (arith, record-length, record-long)), d, book-none (judge a zs .account) (in-range-judge a zs v early))
 
-  pub outcome-one : (a : Account) (j : Judged) → Fair a → a .stage < 2 → Tells (judge a (take n xs)) j
+  pub outcome-one : (a : Account) (j : Judged) → AccountInRange a → a .stage < 2 → Tells (judge a (take n xs)) j
       → outcome (book a (take n xs)) ≡ record { state = holding (j .account) []; bytes = bytesOf j; left = [] }
   outcome-one a j v early t = rw (book-one a v early, append-nil, t .bytes, t .account)
 
@@ -64,7 +64,7 @@ pub record Running (a₀ : Account) (src out₀ out : List ℕ) (a : Account) (a
   pub reading : Reading src out₀ (holding a₀ []) out (holding a []) at w
   pub least : 0 < at → need src ≤ at
 
-pub running-none : (a : Account) (src out : List ℕ) → Fair a → Running a src out out a 0 0
+pub running-none : (a : Account) (src out : List ℕ) → AccountInRange a → Running a src out out a 0 0
 running-none a src out v = record { reading = reading-none src out (holding a []) (range-idle a v); least = λ h. absurd (omega arith) }
 
 -- with nothing read all is as it was
@@ -119,7 +119,7 @@ module _ {a₀ : Account} {src out₀ out : List ℕ} {a : Account} {at w n : �
   first-need z = let d : drop at src ≡ src = rw z in rw d at (is-record .1)
 
   -- its lines do not fit
-  pub ran-full : length out - w < j .line .len → Ran a₀ src out₀ out (j .account) at w
+  pub ran-full : length out - w < j .line .given → Ran a₀ src out₀ out (j .account) at w
   ran-full f =
       rw (account-kept (x .tells) f)
       (record {
@@ -128,22 +128,22 @@ module _ {a₀ : Account} {src out₀ out : List ℕ} {a : Account} {at w n : �
         none = λ z e.
             let q = nothing-yet reading z in
             let c : judge a (take n (drop at src)) ≡ judge a₀ (take (need src) src) = rw (q .0, z, ← first-need z) in
-            let g : length (joined (judge a₀ (take (need src) src) .lines)) ≡ j .line .len = rw (← c) (lines-long (x .tells)) in
+            let g : length (joined (judge a₀ (take (need src) src) .lines)) ≡ j .line .given = rw (← c) (lines-long (x .tells)) in
             omega (arith, g, q .1, f, reading .long);
       })
 
   -- its line is written
-  pub running-on : {out′ : List ℕ} → j .line .len ≤ length out - w → out′ ≡ paste out w (bytesOf j) (j .line .len)
-      → Running a₀ src out₀ out′ (j .account) (at + n) (w + j .line .len)
+  pub running-on : {out′ : List ℕ} → j .line .given ≤ length out - w → out′ ≡ paste out w (bytesOf j) (j .line .given)
+      → Running a₀ src out₀ out′ (j .account) (at + n) (w + j .line .given)
   unfolding run
   running-on f p =
       let t = tells-fit (x .tells) f in
-      let fair = reading .range .account in
+      let ranged = reading .range .account in
       record {
         reading =
-            read-line reading (bytesOf j) (j .line .len) p (omega (arith, reading .fits, f)) (t .long) (holding (j .account) []) n record-inside
-            (range-idle (j .account) (rw (t .account) (fair-judge a (take n (drop at src)) fair (x .still))))
-            (outcome-one (drop at src) n (is-record .0) (is-record .1) a j fair (x .still) t);
+            read-line reading (bytesOf j) (j .line .given) p (omega (arith, reading .fits, f)) (t .long) (holding (j .account) []) n record-inside
+            (range-idle (j .account) (rw (t .account) (in-range-judge a (take n (drop at src)) ranged (x .still))))
+            (outcome-one (drop at src) n (is-record .0) (is-record .1) a j ranged (x .still) t);
         least = λ h.
             ⊎-elim (λ (g : 0 < at). let l = x .running .least g in omega arith)
             (λ (g : at ≤ 0). let m = first-need (omega arith) in omega arith)

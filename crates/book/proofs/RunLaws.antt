@@ -10,7 +10,7 @@ use lib.Seq.{take-append-le, drop-append-le}
 use lib.Dec.{ltb}
 use Rattle.codec.specs.Codec.{pick}
 use Rattle.account.specs.declared.Account.{Account}
-use Rattle.account.specs.Range.{Fair}
+use Rattle.account.specs.Range.{AccountInRange}
 use Rattle.account.specs.Judge.{judge, refused}
 use Rattle.book.specs.declared.State.{State}
 use Rattle.book.specs.Front.{Front, unfinished, badLength, whole, need, front}
@@ -77,7 +77,7 @@ pub run-ended : (s : State) (xs : List ℕ) → InRange s → 2 ≤ s .account .
 unfolding run
 run-ended s xs v h = rw (ended-held s v h, book-ended (s .account) xs h, ended-is s v h)
 
-pub book-none : (a : Account) → Fair a → book a [] ≡ record { state = holding a []; lines = []; left = [] }
+pub book-none : (a : Account) → AccountInRange a → book a [] ≡ record { state = holding a []; lines = []; left = [] }
 unfolding run
 book-none a v = run-none (holding a []) (range-idle a v)
 

@@ -7,9 +7,9 @@ use native.Mathlib.Omega.{arith}
 use lib.ListN.{length, take, drop, length-append, length-drop}
 use lib.Seq.{drop-append-add, drop-drop, drop-length}
 use Rattle.account.specs.declared.Account.{Account}
-use Rattle.account.specs.Range.{Fair}
+use Rattle.account.specs.Range.{AccountInRange}
 use Rattle.account.specs.Judge.{judge, refused}
-use Rattle.account.proofs.Keeps.{fair-judge, fair-length}
+use Rattle.account.proofs.Keeps.{in-range-judge, in-range-length}
 use Rattle.book.specs.declared.State.{State}
 use Rattle.book.specs.Front.{Front, unfinished, badLength, whole, need, front}
 use Rattle.book.specs.State.{heldOf, InRange}
@@ -40,19 +40,19 @@ tail-all xs = record { at = 0; inside = omega arith; is = refl }
 tail-drop : (l xs : List ℕ) (k : ℕ) → k ≤ length xs → Tail l (drop k xs) → Tail l xs
 tail-drop l xs k h t = record { at = k + t .at; inside = omega (arith, length-drop k xs, t .inside); is = t .is ∙ drop-drop (t .at) k xs }
 
-leaves-at : (a : Account) (xs : List ℕ) → Fair a → a .stage < 2
-    → ((b : Account) (zs : List ℕ) → length zs < length xs → Fair b → Leaves zs (book b zs)) → (f : Front) → front xs ≡ f → Leaves xs (book a xs)
+leaves-at : (a : Account) (xs : List ℕ) → AccountInRange a → a .stage < 2
+    → ((b : Account) (zs : List ℕ) → length zs < length xs → AccountInRange b → Leaves zs (book b zs)) → (f : Front) → front xs ≡ f → Leaves xs (book a xs)
 leaves-at a xs v k ih unfinished e = rw (book-unfinished a xs k e) (record { range = range-holding a xs v k e; tail = tail-none xs; all = λ h. refl })
 leaves-at a xs v k ih badLength e =
-    rw (book-bad a xs k e) (record { range = range-idle (refused a 1 0) (fair-length a v); tail = record { at = 2; inside = meaning xs badLength e .0; is = refl }; all = λ h. absurd (omega arith) })
+    rw (book-bad a xs k e) (record { range = range-idle (refused a 1 0) (in-range-length a v); tail = record { at = 2; inside = meaning xs badLength e .0; is = refl }; all = λ h. absurd (omega arith) })
 leaves-at a xs v k ih whole e =
     let m = meaning xs whole e in
     let j = judge a (take (need xs) xs) in
     let short : length (drop (need xs) xs) < length xs = rw length-drop (omega arith) in
-    let i = ih (j .account) (drop (need xs) xs) short (fair-judge a (take (need xs) xs) v k) in
+    let i = ih (j .account) (drop (need xs) xs) short (in-range-judge a (take (need xs) xs) v k) in
     rw (book-whole a xs k e) (record { range = i .range; tail = tail-drop (book (j .account) (drop (need xs) xs) .left) xs (need xs) (m .3) (i .tail); all = i .all })
 
-book-leaves-by : (n : ℕ) (a : Account) (xs : List ℕ) → length xs < n → Fair a → Leaves xs (book a xs)
+book-leaves-by : (n : ℕ) (a : Account) (xs : List ℕ) → length xs < n → AccountInRange a → Leaves xs (book a xs)
 book-leaves-by zero a xs h v = absurd (omega arith)
 book-leaves-by (suc n) a xs h v =
     ⊎-elim
@@ -60,7 +60,7 @@ book-leaves-by (suc n) a xs h v =
     (λ (k : 2 ≤ a .stage). rw (book-ended a xs k) (record { range = range-idle a v; tail = tail-all xs; all = λ h. absurd (omega arith) }))
     (lt-or-ge (a .stage) 2)
 
-pub book-leaves : (a : Account) (xs : List ℕ) → Fair a → Leaves xs (book a xs)
+pub book-leaves : (a : Account) (xs : List ℕ) → AccountInRange a → Leaves xs (book a xs)
 book-leaves a xs v = book-leaves-by (suc (length xs)) a xs (omega arith) v
 
 pub over-held : (h xs : List ℕ) (k : ℕ) → length h ≤ k → drop k (h ++ xs) ≡ drop (k - length h) xs
@@ -83,7 +83,7 @@ tail-at s xs v k whole e =
     let zs = heldOf s ++ xs in
     let h = held-whole (heldOf s) xs (v .begun) in
     let j = judge (s .account) (take (need zs) zs) in
-    let i = book-leaves (j .account) (drop (need zs) zs) (fair-judge (s .account) (take (need zs) zs) (v .account) k) in
+    let i = book-leaves (j .account) (drop (need zs) zs) (in-range-judge (s .account) (take (need zs) zs) (v .account) k) in
     rw (book-whole (s .account) zs k e) (tail-over (heldOf s) xs (book (j .account) (drop (need zs) zs) .left) (need zs) (omega arith) (meaning zs whole e .3) (i .tail))
 
 run-tail : (s : State) (xs : List ℕ) → InRange s → Tail (run s xs .left) xs

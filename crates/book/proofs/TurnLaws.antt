@@ -11,7 +11,7 @@ use Rattle.codec.specs.Codec.{pick, valAt}
 use Rattle.account.specs.declared.Account.{Account}
 use Rattle.account.specs.Judge.{judge, refused}
 use Rattle.account.specs.Line.{joined}
-use Rattle.account.proofs.Keeps.{fair-length}
+use Rattle.account.proofs.Keeps.{in-range-length}
 use Rattle.book.specs.declared.State.{State}
 use Rattle.book.specs.declared.turns.Turn.{Turn}
 use Rattle.book.specs.Front.{Front, unfinished, badLength, whole, need, front}
@@ -77,7 +77,7 @@ module _ {s : State} {src : List ℕ} (b : Begins s src) where
       let k : book (s .account) (take 2 src) ≡ record { state = holding (refused (s .account) 1 0) []; lines = []; left = [] } =
       rw d at (book-bad (s .account) (take 2 src) (b .early) f) in
       record {
-        range = range-idle (refused (s .account) 1 0) (fair-length (s .account) (b .range .account));
+        range = range-idle (refused (s .account) 1 0) (in-range-length (s .account) (b .range .account));
         inside = omega arith;
         long = refl;
         rest = refl;

@@ -21,7 +21,7 @@ abbrev pub numbers : Answer → List ℕ
 numbers Closed = 0 ∷ []
 numbers Full = 16 ∷ []
 numbers More = 17 ∷ []
-numbers (Refused r) = r .code ∷ r .number ∷ r .field ∷ []
+numbers (Refused r) = r .code ∷ r .accepted ∷ r .field ∷ []
 
 -- what a call gives: the state handed back, the count of bytes taken, the bytes written, and the answer
 pub record Call : Type 0 where
@@ -55,7 +55,7 @@ reply n k r =
 
 -- refusal 13: the state is outside the ranges; state handed back as given, nothing taken or written
 abbrev pub outside : State → Call
-outside s = record { state = s; taken = 0; bytes = []; answer = Refused (record { code = 13; number = 0; field = 0 }) }
+outside s = record { state = s; taken = 0; bytes = []; answer = Refused (record { code = 13; accepted = 0; field = 0 }) }
 
 -- 13 is tried first; else the longest beginning of the bytes whose lines fit the buffer is run
 unfoldable pub call : State → List ℕ → ℕ → Call

@@ -8,7 +8,7 @@ use lib.ListN.{length, take, drop, replicate}
 use lib.Dec.{ltb, leb, eqb}
 use Rattle.account.specs.declared.Account.{Account}
 use Rattle.account.specs.Judge.{noRecord}
-use Rattle.account.specs.Range.{Fair, fair}
+use Rattle.account.specs.Range.{AccountInRange, accountInRange}
 use Rattle.book.specs.declared.State.{State}
 use Rattle.book.specs.Front.{Front, unfinished, badLength, whole, front}
 
@@ -32,7 +32,7 @@ zeros (x ∷ xs) = eqb x 0 && zeros xs
 -- the state is inside the ranges
 pub record InRange (s : State) : Type 0 where
   -- stage, records, warming set, heading, day sums, sums and refusal are each in their ranges
-  pub account : Fair (s .account)
+  pub account : AccountInRange (s .account)
   -- the places for held bytes are 27
   pub places : length (s .held) ≡ 27
   -- up to 27 held bytes
@@ -55,7 +55,7 @@ unfoldable pub inRange : State → Bool
 inRange s =
     eqb (length (s .held)) 27
     && leb (s .count) 27
-    && fair (s .account)
+    && accountInRange (s .account)
     && zeros (drop (s .count) (s .held))
     && isUnfinished (front (heldOf s))
     && (ltb (s .account .stage) 2 || eqb (s .count) 0)

@@ -79,7 +79,7 @@ impl State {
         if 27 < n {
             return false;
         }
-        if !a.fair() {
+        if !a.in_range() {
             return false;
         }
         if !zeroed(held, n) {
@@ -111,7 +111,7 @@ impl State {
     {
         let refusal = Refusal {
             code: 13,
-            number: 0,
+            accepted: 0,
             field: 0,
         };
         let same = self.by_fields();

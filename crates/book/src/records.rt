@@ -7,7 +7,7 @@ use account::line::write;
 use rules::judge;
 ghost use mathlib.Core.Path.{_≡_};
 ghost use Prim.Native.Nat.{_<_};
-ghost use Rattle.account.specs.Range.{Fair};
+ghost use Rattle.account.specs.Range.{AccountInRange};
 ghost use Rattle.book.specs.Inner.{Ran};
 
 // What a run of whole records does: the account after them, the bytes read, and the bytes of lines written.
@@ -19,7 +19,7 @@ pub(crate) struct Records {
 
 // The records that lie whole at the front of src, one after the other, while the book is open and their lines fit.
 pub(crate) fn judge_all(from: Account, src: &[u8], out: &mut [u8]) -> Records
-    requires { ⌜ Fair from × (from .stage < 2) ⌝ }
+    requires { ⌜ AccountInRange from × (from .stage < 2) ⌝ }
     ensures { λ r. ⌜ Ran from (now (src .entry)) (now (out .entry)) (now (out .exit)) (r .account) (r .at) (r .w) ⌝ }
 {
     let mut account = from;
@@ -38,11 +38,11 @@ pub(crate) fn judge_all(from: Account, src: &[u8], out: &mut [u8]) -> Records
         let j = judge(account, record, out.len() - w);
         let line = j.line;
         account = j.account;
-        if out.len() - w < line.len {
+        if out.len() - w < line.given {
             return Records { account, at, w };
         }
         write(out, w, j);
-        w += line.len;
+        w += line.given;
         at += n;
     }
     Records { account, at, w }

@@ -7,14 +7,14 @@ use native.Mathlib.Omega.{arith}
 use native.Mathlib.Nat.{add-zero}
 use lib.ListN.{length, getD, take, drop, length-append, length-drop}
 use lib.Seq.{take-suc, getD-drop, getD-append-add, getD-at}
-use Rattle.codec.specs.Codec.{room, valAt, be}
+use Rattle.codec.specs.Codec.{bytesHold, valAt, be}
 
 -- every element is a byte
 abbrev pub Bytes : List ℕ → Type 0
 Bytes s = (i : ℕ) → getD s i 0 < 256
 
-pub valAt-lt : (s : List ℕ) → Bytes s → (at w : ℕ) → valAt s at w < room w
-unfolding valAt room
+pub valAt-lt : (s : List ℕ) → Bytes s → (at w : ℕ) → valAt s at w < bytesHold w
+unfolding valAt bytesHold
 valAt-lt s b at zero = omega arith
 valAt-lt s b at (suc w) = omega (arith, valAt-lt s b at w, b (at + w))
 
@@ -39,8 +39,8 @@ be-length zero v = refl
 be-length (suc w) v = omega (arith, length-append (be w (v / 256)) (v % 256 ∷ []), be-length w (v / 256))
 
 -- a number that fits, written and read again
-pub valAt-be : (w v : ℕ) (p q : List ℕ) → v < room w → valAt (p ++ (be w v ++ q)) (length p) w ≡ v
-unfolding valAt be room
+pub valAt-be : (w v : ℕ) (p q : List ℕ) → v < bytesHold w → valAt (p ++ (be w v ++ q)) (length p) w ≡ v
+unfolding valAt be bytesHold
 valAt-be zero v p q h = omega arith
 valAt-be (suc w) v p q h =
     let b : ℕ = v % 256 in

@@ -8,7 +8,7 @@ use lib.ListN.{length, getD, take, drop, length-append, length-drop, take-append
 use lib.Seq.{sets, take-all, length-take-le, take-add, drop-drop, drop-cons}
 use Rattle.codec.specs.declared.Field.{Field}
 use Rattle.codec.specs.Table.{fields, size, lengthOf, lineFields, totalFields, lineSize, totalSize}
-use Rattle.codec.specs.Codec.{room, valAt, be, valuesAt, bytesOf, firstBad, recordBytes, lineValues, lineBytes, totalValues, totalBytes}
+use Rattle.codec.specs.Codec.{bytesHold, valAt, be, valuesAt, bytesOf, firstBad, recordBytes, lineValues, lineBytes, totalValues, totalBytes}
 use Rattle.codec.proofs.BigEndian.{Bytes, bytes-append, be-bytes, be-length, valAt-be, be-valAt}
 use Rattle.codec.proofs.Stores.{sets-at}
 use Rattle.codec.proofs.Values.{bytes-length, bytes-bytes}
@@ -107,7 +107,7 @@ record-again kind r w =
 
 -- and what is written is a whole record
 pub record-whole : (kind : ℕ) (vs : List ℕ) → kind < 256 → Whole kind (recordBytes kind vs)
-unfolding recordBytes be room
+unfolding recordBytes be bytesHold
 record-whole kind vs h =
     let fs : List ℕ = bytesOf (fields kind) vs 0 in
     record {

@@ -9,14 +9,14 @@ use lib.Dec.{T, leb, ltb, leb→le, ltb→lt}
 use lib.ListN.{length, getD}
 use Rattle.codec.specs.declared.Field.{Field}
 use Rattle.codec.specs.Table.{table, fields, lastKind, size, lengthOf, lengthMost, lineFields, totalFields, lineSize, totalSize}
-use Rattle.codec.specs.Codec.{room, firstBad, pick}
+use Rattle.codec.specs.Codec.{bytesHold, firstBad, pick}
 use Rattle.codec.proofs.Within.{first-within}
 
 -- ---- the test
 
 -- the range is not empty, and its highest value fits the field's bytes
 right-field : Field → Bool
-right-field f = pick (leb (f .1) (f .2)) (ltb (f .2) (room (f .0))) false
+right-field f = pick (leb (f .1) (f .2)) (ltb (f .2) (bytesHold (f .0))) false
 
 right-row : List Field → Bool
 right-row [] = true
@@ -32,7 +32,7 @@ every p (r ∷ t) = pick (p r) (every p t) false
 
 -- THE TEST: antt computes it
 checked : T (every right-row (lineFields ∷ totalFields ∷ table)) × T (every short-row table)
-unfolding right-field right-row short-row every table lineFields totalFields room size
+unfolding right-field right-row short-row every table lineFields totalFields bytesHold size
 checked = (tt, tt)
 
 -- the rows of lines take as many bytes as a line has
@@ -88,14 +88,14 @@ length-most kind = leb→le (lengthOf kind) lengthMost (row-at short-row tt tabl
 -- each value from i fits the bytes of its field
 abbrev pub Fit : List Field → List ℕ → ℕ → Type 0
 Fit [] vs i = Unit
-Fit (f ∷ fs) vs i = (getD vs i 0 < room (f .0)) × Fit fs vs (suc i)
+Fit (f ∷ fs) vs i = (getD vs i 0 < bytesHold (f .0)) × Fit fs vs (suc i)
 
 fit-row : (fs : List Field) → T (right-row fs) → (vs : List ℕ) (i : ℕ) → firstBad fs vs i ≡ 0 → Fit fs vs i
 unfolding right-row right-field
 fit-row [] t vs i p = tt
 fit-row (f ∷ fs) t vs i p =
     let o = first-within f fs vs i p in
-    let highest : f .2 < room (f .0) = ltb→lt _ _ (both-right (leb (f .1) (f .2)) (ltb (f .2) (room (f .0))) (both-left (right-field f) (right-row fs) t)) in (
+    let highest : f .2 < bytesHold (f .0) = ltb→lt _ _ (both-right (leb (f .1) (f .2)) (ltb (f .2) (bytesHold (f .0))) (both-left (right-field f) (right-row fs) t)) in (
       omega (arith, o .0 .below),
       fit-row fs (both-right (right-field f) (right-row fs) t) vs (suc i) (o .1),
     )

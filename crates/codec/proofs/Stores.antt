@@ -78,21 +78,21 @@ module _ (kind : ℕ) (vs l : List ℕ) (at : ℕ) where
 
 -- ---- a loop over values of two bytes each
 
-abbrev pub twos : ℕ → List Field
-twos n = replicate n (field 2 0 65535)
+abbrev pub twoByteFields : ℕ → List Field
+twoByteFields n = replicate n (field 2 0 65535)
 
 module _ (vs l : List ℕ) (n p i : ℕ) where
   -- a turn
-  pub two-stored : i < n → sets (sets l p (be 2 (getD vs i 0))) (p + 2) (bytesOf (twos (n - (i + 1))) vs (i + 1)) ≡ sets l p (bytesOf (twos (n - i)) vs i)
+  pub two-stored : i < n → sets (sets l p (be 2 (getD vs i 0))) (p + 2) (bytesOf (twoByteFields (n - (i + 1))) vs (i + 1)) ≡ sets l p (bytesOf (twoByteFields (n - i)) vs i)
   unfolding bytesOf
   two-stored h =
       let e : n - i ≡ suc (n - (i + 1)) = omega arith in
-      rw (e, add-one) (put-then 2 (getD vs i 0) p l (bytesOf (twos (n - suc i)) vs (suc i)))
+      rw (e, add-one) (put-then 2 (getD vs i 0) p l (bytesOf (twoByteFields (n - suc i)) vs (suc i)))
 
   -- the end
-  pub twos-stored : n ≤ i → sets l p (bytesOf (twos (n - i)) vs i) ≡ l
+  pub twoByteFields-stored : n ≤ i → sets l p (bytesOf (twoByteFields (n - i)) vs i) ≡ l
   unfolding bytesOf
-  twos-stored h = let e : n - i ≡ 0 = omega arith in rw e
+  twoByteFields-stored h = let e : n - i ≡ 0 = omega arith in rw e
 
 -- a run of n stores, as the parts before and after it
 pub sets-at : (n : ℕ) (vs l : List ℕ) (i : ℕ) → length vs ≡ n → i + n ≤ length l → sets l i vs ≡ take i l ++ (vs ++ drop (i + n) l)

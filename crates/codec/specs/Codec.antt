@@ -15,9 +15,9 @@ pick true a b = a
 pick false a b = b
 
 -- how many values w bytes can hold
-unfoldable pub room : ℕ → ℕ
-room zero = 1
-room (suc w) = room w * 256
+unfoldable pub bytesHold : ℕ → ℕ
+bytesHold zero = 1
+bytesHold (suc w) = bytesHold w * 256
 
 -- the number in the w bytes of s from at, big-endian
 unfoldable pub valAt : List ℕ → ℕ → ℕ → ℕ

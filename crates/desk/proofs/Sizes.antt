@@ -9,7 +9,7 @@ use Rattle.account.specs.declared.Account.{Account}
 use Rattle.account.specs.Judge.{judge, refused, noRecord}
 use Rattle.account.specs.Line.{joined}
 use Rattle.account.proofs.Counts.{linesMost, judge-counts}
-use Rattle.account.proofs.Keeps.{fair-none}
+use Rattle.account.proofs.Keeps.{in-range-none}
 use Rattle.account.proofs.Tests.{lt-or-ge}
 use Rattle.book.specs.declared.State.{State}
 use Rattle.book.specs.declared.Fed.{Fed}
@@ -62,7 +62,7 @@ run-small s xs v = omega (arith, run-paid s xs, run-leaves s xs v .range .accoun
 
 -- the state before any record is in range
 new-range : InRange noRecordYet
-new-range = range-idle noRecord fair-none
+new-range = range-idle noRecord in-range-none
 
 pub call-small : (xs : List ℕ) (room : ℕ) → length (call noRecordYet xs room .bytes) ≤ linesMost * 4096
 call-small xs room =

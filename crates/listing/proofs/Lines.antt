@@ -15,8 +15,8 @@ use Rattle.account.specs.declared.Account.{Account}
 use Rattle.book.specs.declared.State.{State}
 use Rattle.book.specs.declared.Fed.{Fed}
 use Rattle.book.specs.Call.{call, fedOf, laid}
-use Rattle.text.specs.Decimal.{numbersLine, Put}
-use Rattle.text.proofs.Puts.{none, put-length, and-then}
+use Rattle.printing.specs.Decimal.{numbersLine, Put}
+use Rattle.printing.proofs.Puts.{none, put-length, and-then}
 use Rattle.listing.specs.Listing.{lineNumbers, textBy, linesText, closedWord, unfinishedWord, refusedWord, endText, Lists}
 
 pub size-least : (xs : List ℕ) → lineSize ≤ frontSize xs
@@ -105,7 +105,7 @@ module _ (a : Account) where
     unfolding endText
     end-unfinished n = rw (ne-eqb _ _ other, ne-eqb _ _ n)
 
-    pub end-refused : a .stage ≡ 3 → endText a ≡ refusedWord ++ numbersLine (a .refusal .code ∷ a .refusal .number ∷ a .refusal .field ∷ [])
+    pub end-refused : a .stage ≡ 3 → endText a ≡ refusedWord ++ numbersLine (a .refusal .code ∷ a .refusal .accepted ∷ a .refusal .field ∷ [])
     unfolding endText
     end-refused e = rw (ne-eqb _ _ other, eq-eqb _ _ e)
 

@@ -6,8 +6,8 @@ use mathlib.Core.List.{List, [], _∷_, _++_}
 use lib.ListN.{length, drop}
 use lib.Dec.{ltb, eqb}
 use Rattle.codec.specs.Codec.{pick, valuesAt, frontSize, frontFields}
-use Rattle.text.specs.Ascii.{ascii}
-use Rattle.text.specs.Decimal.{numbersLine, Put}
+use Rattle.printing.specs.Ascii.{ascii}
+use Rattle.printing.specs.Decimal.{numbersLine, Put}
 use Rattle.account.specs.declared.Account.{Account}
 use Rattle.book.specs.Call.{Call}
 use Rattle.listing.specs.declared.Listed.{Listed}
@@ -39,7 +39,7 @@ refusedWord = ascii "refused "
 unfoldable pub endText : Account → List ℕ
 endText a =
     pick (eqb (a .stage) 2) closedWord
-    (pick (eqb (a .stage) 3) (refusedWord ++ numbersLine (a .refusal .code ∷ a .refusal .number ∷ a .refusal .field ∷ []))
+    (pick (eqb (a .stage) 3) (refusedWord ++ numbersLine (a .refusal .code ∷ a .refusal .accepted ∷ a .refusal .field ∷ []))
     unfinishedWord)
 
 -- r is what a call gives, with its lines as text at the front of the buffer

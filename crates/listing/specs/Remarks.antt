@@ -4,8 +4,8 @@ use mathlib.Core.Bool.{Bool, false, _&&_, _||_}
 use mathlib.Core.List.{List, [], _∷_, _++_}
 use lib.Dec.{leb, eqb}
 use Rattle.codec.specs.Codec.{pick}
-use Rattle.text.specs.Ascii.{ascii}
-use Rattle.text.specs.Decimal.{decimal}
+use Rattle.printing.specs.Ascii.{ascii}
+use Rattle.printing.specs.Decimal.{decimal}
 use Rattle.names.specs.Names.{sentence}
 use Rattle.account.specs.declared.Account.{Account}
 
@@ -20,7 +20,7 @@ beginsTyped (b ∷ bs) = isTyped b
 
 -- a typed text was given for a book: it is refused by 1 at its first record, and begins as a typed text does
 abbrev pub looksTyped : Account → Bool → Bool
-looksTyped a begins = ((eqb (a .stage) 3 && eqb (a .refusal .code) 1) && eqb (a .refusal .number) 0) && begins
+looksTyped a begins = ((eqb (a .stage) 3 && eqb (a .refusal .code) 1) && eqb (a .refusal .accepted) 0) && begins
 
 -- a refusal's number with its sentence
 unfoldable pub whyText : Account → List ℕ

@@ -5,18 +5,18 @@ use codec::LINE_SIZE;
 use codec::lines::detail_numbers;
 use codec::lines::front_size;
 use codec::lines::total_numbers;
-use text::put_numbers;
-use text::put_text;
-use text::say;
-use text::say_number;
+use printing::put_numbers;
+use printing::put_text;
+use printing::say;
+use printing::say_number;
 ghost use mathlib.Core.Path.{_≡_};
 ghost use mathlib.Core.List.{_∷_, []};
 ghost use Prim.Native.Nat.{_+_, _*_, _≤_};
 ghost use lib.ListN.{length, drop};
 ghost use Rattle.codec.specs.Table.{lineSize};
 ghost use Rattle.codec.specs.Codec.{frontSize};
-ghost use Rattle.text.specs.Decimal.{Put, numbersLine};
-ghost use Rattle.text.specs.Said.{Said};
+ghost use Rattle.printing.specs.Decimal.{Put, numbersLine};
+ghost use Rattle.printing.specs.Said.{Said};
 ghost use Rattle.book.specs.Call.{call};
 ghost use Rattle.listing.specs.Listing.{lineNumbers, linesText, endText, Lists};
 ghost use Rattle.listing.specs.Remarks.{isTyped, beginsTyped, looksTyped, whyText, hintText, remarkText, statusByte};
@@ -88,7 +88,7 @@ pub fn put_end(out: &mut [u8], at: usize, account: Account) -> usize
     let refusal = account.refusal;
     let numbers = [
         refusal.code as u64,
-        refusal.number as u64,
+        refusal.accepted as u64,
         refusal.field as u64,
     ];
     let end = put_text(out, at, b"refused ");
@@ -135,7 +135,7 @@ fn looks_typed(account: Account, begins: bool) -> bool
     ensures { λ r. ⌜ r ≡ looksTyped account begins ⌝ }
 {
     let refusal = account.refusal;
-    (account.stage == 3) & (refusal.code == 1) & (refusal.number == 0) & begins
+    (account.stage == 3) & (refusal.code == 1) & (refusal.accepted == 0) & begins
 }
 
 // A refusal's number with its sentence.

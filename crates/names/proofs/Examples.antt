@@ -2,8 +2,8 @@
 use mathlib.Core.Path.{_≡_, refl}
 use mathlib.Core.List.{[], _∷_}
 use Rattle.bytes.specs.Bytes.{indexOf, indexAfter}
-use Rattle.reading.specs.Words.{nthPart}
-use Rattle.text.specs.Ascii.{ascii}
+use Rattle.typed_words.specs.Words.{nthPart}
+use Rattle.printing.specs.Ascii.{ascii}
 use Rattle.names.specs.Names.{
   kindTable,
   kindName,

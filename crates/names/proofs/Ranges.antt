@@ -10,10 +10,10 @@ use lib.Dec.{T, ltb, eqb}
 use lib.Ieee.Fits.{and-l, and-r}
 use borrow.Author.Tests.{ltb-true, ltb-false, eqb-true}
 use Rattle.bytes.specs.Bytes.{indexOf, indexAfter}
-use Rattle.reading.specs.declared.Whole.{Whole}
-use Rattle.reading.specs.Words.{nthPart, nthWord, leadingOf}
-use Rattle.reading.specs.Amounts.{aWhole, numberFrom, amountOf}
-use Rattle.text.proofs.Digits.{by-test}
+use Rattle.typed_words.specs.declared.Whole.{Whole}
+use Rattle.typed_words.specs.Words.{nthPart, nthWord, leadingOf}
+use Rattle.typed_words.specs.Amounts.{aWhole, numberFrom, amountOf}
+use Rattle.printing.proofs.Digits.{by-test}
 use Rattle.codec.specs.declared.Field.{Field}
 use Rattle.codec.specs.Codec.{pick}
 use Rattle.codec.specs.Table.{field, table, fields}

@@ -7,10 +7,10 @@ use lib.ListN.{length, getD, set, take, length-take}
 use lib.Seq.{take-all, getD-take}
 use lib.Dec.{leb}
 use borrow.Author.Tests.{le-leb, lt-leb, leb-true, leb-false}
-use Rattle.text.specs.Decimal.{Put}
-use Rattle.text.specs.Said.{Said}
-use Rattle.text.proofs.Digits.{by-test}
-use Rattle.text.proofs.Puts.{put-more}
+use Rattle.printing.specs.Decimal.{Put}
+use Rattle.printing.specs.Said.{Said}
+use Rattle.printing.proofs.Digits.{by-test}
+use Rattle.printing.proofs.Puts.{put-more}
 use Rattle.names.specs.Names.{printedByte, allPrinted, shown}
 
 pub below-printed : (b : ℕ) → b < 33 → 63 ≡ printedByte b

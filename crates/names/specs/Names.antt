@@ -4,8 +4,8 @@ use mathlib.Core.Bool.{_&&_}
 use mathlib.Core.List.{List, [], _∷_, _++_}
 use lib.ListN.{getD, take}
 use lib.Dec.{leb}
-use Rattle.reading.specs.Words.{nthPart}
-use Rattle.text.specs.Ascii.{ascii}
+use Rattle.typed_words.specs.Words.{nthPart}
+use Rattle.printing.specs.Ascii.{ascii}
 use Rattle.codec.specs.Codec.{pick}
 
 -- the line k of a text, counted from 0; from the last on all are the same

@@ -1,12 +1,12 @@
 // The names of kinds, fields and classes, what is expected of a field, and the sentences of the numbers: the one table of them, for every program.
-use reading::part;
-use text::say;
+use printing::say;
+use typed_words::part;
 ghost use mathlib.Core.Path.{_≡_};
 ghost use Prim.Native.Nat.{_-_, _≤_, min};
 ghost use lib.ListN.{length, getD};
 ghost use Rattle.codec.specs.Codec.{pick};
 ghost use Rattle.codec.specs.Table.{fields};
-ghost use Rattle.text.specs.Said.{Said};
+ghost use Rattle.printing.specs.Said.{Said};
 ghost use Rattle.names.specs.Names.{lineOf, kindName, fieldNames, fieldName, expected, decimalsAt, className, sentence, printedByte, shown};
 
 // The line k of a text, counted from 0; from the last on all are the same.

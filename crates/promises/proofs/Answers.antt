@@ -29,7 +29,7 @@ Says a taken n ks =
     (ks ≡ 17 ∷ [] → taken ≡ n)
     × (ks ≡ 16 ∷ [] → (a .stage < 2) × (taken ≡ n → ⊥))
     × (ks ≡ 0 ∷ [] → a .stage ≡ 2)
-    × ((c k f : ℕ) → ks ≡ c ∷ k ∷ f ∷ [] → (2 < a .stage) × (ks ≡ a .refusal .code ∷ a .refusal .number ∷ a .refusal .field ∷ []))
+    × ((c k f : ℕ) → ks ≡ c ∷ k ∷ f ∷ [] → (2 < a .stage) × (ks ≡ a .refusal .code ∷ a .refusal .accepted ∷ a .refusal .field ∷ []))
 
 first-of : List ℕ → ℕ
 first-of [] = 0
@@ -95,5 +95,5 @@ module _ (s : State) (xs : List ℕ) (room : ℕ) (v : InRange s) where
   -- Refused: its three numbers are those of the refusal in the state handed back.
   pub refused-means : (code number field : ℕ) → numbers (call s xs room .answer) ≡ code ∷ number ∷ field ∷ []
       → (2 < call s xs room .state .account .stage)
-      × (numbers (call s xs room .answer) ≡ call s xs room .state .account .refusal .code ∷ call s xs room .state .account .refusal .number ∷ call s xs room .state .account .refusal .field ∷ [])
+      × (numbers (call s xs room .answer) ≡ call s xs room .state .account .refusal .code ∷ call s xs room .state .account .refusal .accepted ∷ call s xs room .state .account .refusal .field ∷ [])
   refused-means = told .3

@@ -17,12 +17,12 @@ use Rattle.account.specs.declared.Heading.{Heading}
 use Rattle.account.specs.Sorts.{heads, ofGroup, sortOf}
 use Rattle.account.specs.Line.{lineWith, subtotals, totalOf}
 use Rattle.account.specs.Figures.{groupFigures}
-use Rattle.account.specs.Range.{Headed, Unheaded, Fair}
+use Rattle.account.specs.Range.{Headed, Unheaded, AccountInRange}
 use Rattle.account.specs.Judge.{kindOf, valuesOf, underHeading, first, refusals, Step, accepted, judge}
 use Rattle.account.proofs.Tests.{by-test, not-false, and-r, lt-or-ge}
 use Rattle.account.proofs.Sorts.{by-sort, heads-two}
 use Rattle.account.proofs.First.{first-clear}
-use Rattle.account.proofs.Keeps.{fair-judge}
+use Rattle.account.proofs.Keeps.{in-range-judge}
 use Rattle.book.specs.declared.State.{State}
 use Rattle.book.specs.Front.{Front, unfinished, badLength, whole, need, front}
 use Rattle.book.specs.State.{heldOf, holding, InRange}
@@ -74,7 +74,7 @@ map-append : (xs ys : List (List ℕ)) → map markOf (xs ++ ys) ≡ map markOf 
 map-append [] ys = refl
 map-append (x ∷ xs) ys = ap (λ (l : List Mark). markOf x ∷ l) (map-append xs ys)
 
-pub group-most : (a : Account) → Fair a → a .heading .group ≤ 65535
+pub group-most : (a : Account) → AccountInRange a → a .heading .group ≤ 65535
 group-most a f = ⊎-elim (λ (h : Headed (a .heading) (a .days) (a .records)). h .group-most) (λ (u : Unheaded (a .heading) (a .days)). omega arith) (f .heading)
 
 -- ---- what one record does
@@ -91,7 +91,7 @@ record Stopped (a : Account) (j : Step) : Type 0 where
   counted : j .account .records ≡ a .records
   none : j .lines ≡ []
 
-module _ (a : Account) (r : List ℕ) (f : Fair a) (kinds : leb 1 (kindOf r) && leb (kindOf r) 8 ≡ true) where
+module _ (a : Account) (r : List ℕ) (f : AccountInRange a) (kinds : leb 1 (kindOf r) && leb (kindOf r) 8 ≡ true) where
   small-kind : kindOf r < 256
   small-kind = omega (arith, leb-true (kindOf r) 8 (and-r (leb 1 (kindOf r)) (leb (kindOf r) 8) kinds))
 
@@ -133,7 +133,7 @@ kind-in a r e =
     let t = first-clear (refusals a r) (omega arith, (omega arith, (omega arith, (omega arith, (omega arith, (omega arith, (omega arith, (omega arith, (omega arith, (omega arith, (omega arith, tt))))))))))) e in
     not-false _ (t .1 .0 (omega arith))
 
-judged : (a : Account) (r : List ℕ) → Fair a → Stopped a (judge a r) ⊎ Grown a r (judge a r)
+judged : (a : Account) (r : List ℕ) → AccountInRange a → Stopped a (judge a r) ⊎ Grown a r (judge a r)
 unfolding judge
 judged a r f =
     by-test (λ (j : Step). Stopped a j ⊎ Grown a r j) (eqb (first (refusals a r)) 0)
@@ -165,7 +165,7 @@ one-marked a xs j b e g m =
       marks = rw (map-append, g .marks, m .marks, g .group, n, records-whole xs e) refl;
     }
 
-marked-at : (a : Account) (xs : List ℕ) → Fair a → a .stage < 2 → ((t : Account) (zs : List ℕ) → length zs < length xs → Fair t → Marked t zs (book t zs))
+marked-at : (a : Account) (xs : List ℕ) → AccountInRange a → a .stage < 2 → ((t : Account) (zs : List ℕ) → length zs < length xs → AccountInRange t → Marked t zs (book t zs))
     → (f : Front) → front xs ≡ f → Marked a xs (book a xs)
 marked-at a xs v k ih unfinished e = rw (book-unfinished a xs k e) (none-marked a xs _ refl refl)
 marked-at a xs v k ih badLength e = rw (book-bad a xs k e) (none-marked a xs _ refl refl)
@@ -179,10 +179,10 @@ marked-at a xs v k ih whole e =
     (λ (s : Stopped a j).
     let c = s .counted in
     rw (book-ended (j .account) rest (omega (arith, s .stage)), s .none) (none-marked a xs _ c refl))
-    (λ (g : Grown a (take (need xs) xs) j). one-marked a xs j (book (j .account) rest) e g (ih (j .account) rest short (fair-judge a (take (need xs) xs) v k)))
+    (λ (g : Grown a (take (need xs) xs) j). one-marked a xs j (book (j .account) rest) e g (ih (j .account) rest short (in-range-judge a (take (need xs) xs) v k)))
     (judged a (take (need xs) xs) v))
 
-marked : (n : ℕ) (a : Account) (xs : List ℕ) → length xs < n → Fair a → Marked a xs (book a xs)
+marked : (n : ℕ) (a : Account) (xs : List ℕ) → length xs < n → AccountInRange a → Marked a xs (book a xs)
 marked zero a xs h v = absurd (omega arith)
 marked (suc n) a xs h v =
     ⊎-elim

@@ -60,18 +60,18 @@ one-equation value one other p q = p ∙ sym q
 
 -- Two answers that tell the same step where its lines fit have the same account, the same bytes of lines, and as many of them.
 pub one-told : (j : Step) (one other : Judged) → Tells j one → Tells j other
-    → (one .account ≡ other .account) × ((bytesOf one ≡ bytesOf other) × (one .line .len ≡ other .line .len))
+    → (one .account ≡ other .account) × ((bytesOf one ≡ bytesOf other) × (one .line .given ≡ other .line .given))
 one-told j one other p q =
     let b : bytesOf one ≡ bytesOf other = p .bytes ∙ sym (q .bytes) in
     (p .account ∙ sym (q .account), (b, sym (p .long) ∙ ap length b ∙ q .long))
 
 -- Two answers that meet judge's contract (rules) have the same account and as many bytes of lines; where those fit, both tell the step whole.
 pub one-judge : (room : ℕ) (a : Account) (j : Step) (one other : Judged) → TellsIn room a j one → TellsIn room a j other
-    → (one .account ≡ other .account) × (one .line .len ≡ other .line .len)
+    → (one .account ≡ other .account) × (one .line .given ≡ other .line .given)
 one-judge room a j one other p q =
-    let l : one .line .len ≡ other .line .len = sym (lines-long p) ∙ lines-long q in
+    let l : one .line .given ≡ other .line .given = sym (lines-long p) ∙ lines-long q in
     let b : one .account ≡ other .account =
-    ⊎-elim (λ (h : room < one .line .len). account-kept p h ∙ sym (account-kept q (rw l at h)))
-    (λ (h : one .line .len ≤ room). tells-fit p h .account ∙ sym (tells-fit q (rw l at h) .account))
-    (lt-or-ge room (one .line .len)) in
+    ⊎-elim (λ (h : room < one .line .given). account-kept p h ∙ sym (account-kept q (rw l at h)))
+    (λ (h : one .line .given ≤ room). tells-fit p h .account ∙ sym (tells-fit q (rw l at h) .account))
+    (lt-or-ge room (one .line .given)) in
     (b, l)

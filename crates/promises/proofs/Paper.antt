@@ -16,7 +16,7 @@ use Rattle.grams.specs.Pig as pig
 use Rattle.grams.specs.Farm.{energyOf, soilOf, co2eOf}
 use Rattle.grams.specs.Cases.{every}
 use Rattle.account.specs.Figures.{figuresOf}
-use Rattle.account.specs.Range.{fair}
+use Rattle.account.specs.Range.{accountInRange}
 use Rattle.account.specs.Sorts.{sortOf}
 use Rattle.account.specs.Judge.{kindOf, noRecord, refused, first, inPlace, accepted, judge}
 use Rattle.book.specs.Front.{front}
@@ -64,7 +64,7 @@ refused-state = (run-leaves noRecordYet (0 ∷ 3 ∷ []) new-in-range .range, re
 
 -- One outside the ranges: a refusal stored under the number 13.
 pub outside-state : inRange (holding (refused noRecord 13 0) []) ≡ false
-unfolding inRange fair
+unfolding inRange accountInRange
 outside-state = refl
 
 -- A way that is at its end: the sample book in five parts, with buffers that are too small at first.
@@ -78,7 +78,7 @@ parts =
     ∷ []
 
 pub ended-way : Ended (way noRecordYet sample parts)
-unfolding table size valAt be valuesAt firstBad bytesOf lineBytes totalBytes lineFields totalFields roundDiv cattle.entericOf energyOf co2eOf figuresOf fair first inPlace accepted sortOf judge front bookBy book run inRange longest answerOf call way
+unfolding table size valAt be valuesAt firstBad bytesOf lineBytes totalBytes lineFields totalFields roundDiv cattle.entericOf energyOf co2eOf figuresOf accountInRange first inPlace accepted sortOf judge front bookBy book run inRange longest answerOf call way
 ended-way = inl refl
 
 -- A ration after a heading: the third record of the sample, under group 12.

@@ -7,7 +7,7 @@ use native.Mathlib.Omega.{arith}
 use lib.ListN.{length, replicate, length-replicate}
 use lib.Seq.{take-length}
 use Rattle.account.specs.Judge.{noRecord}
-use Rattle.account.proofs.Keeps.{fair-none}
+use Rattle.account.proofs.Keeps.{in-range-none}
 use Rattle.book.specs.declared.State.{State}
 use Rattle.book.specs.State.{noRecordYet, InRange, inRange}
 use Rattle.book.specs.Call.{numbers, answerOf, outside, call}
@@ -22,7 +22,7 @@ test-decides s = (range-parts s, range-test s)
 
 -- The state before any record is in range.
 pub new-in-range : InRange noRecordYet
-new-in-range = range-idle noRecord fair-none
+new-in-range = range-idle noRecord in-range-none
 
 -- From a state in range every call ends in one.
 pub stays-in-range : (s : State) (xs : List ℕ) (room : ℕ) → InRange s → InRange (call s xs room .state)
@@ -40,7 +40,7 @@ closed-answer s xs room v e = rw (ended-for-ever s xs room v (omega arith), e)
 
 -- and the refusal that the state holds, each time.
 pub refused-answer : (s : State) (xs : List ℕ) (room : ℕ) → InRange s → s .account .stage ≡ 3
-    → numbers (call s xs room .answer) ≡ s .account .refusal .code ∷ s .account .refusal .number ∷ s .account .refusal .field ∷ []
+    → numbers (call s xs room .answer) ≡ s .account .refusal .code ∷ s .account .refusal .accepted ∷ s .account .refusal .field ∷ []
 unfolding answerOf
 refused-answer s xs room v e = rw (ended-for-ever s xs room v (omega arith), e)
 

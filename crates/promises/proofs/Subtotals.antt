@@ -19,11 +19,11 @@ use Rattle.account.specs.declared.Subtotal.{Subtotal}
 use Rattle.account.specs.Sorts.{Sort, opens, heads, ofGroup, ofFarm, closes, sortOf, bySort}
 use Rattle.account.specs.Figures.{noFigures, noSubtotal, added, grouped, groupFigures, co2Alone, figuresOf}
 use Rattle.account.specs.Line.{lineWith, subtotals, totalOf}
-use Rattle.account.specs.Range.{Ungrouped, Fair}
+use Rattle.account.specs.Range.{Ungrouped, AccountInRange}
 use Rattle.account.specs.Judge.{kindOf, valuesOf, noRecord, first, refusals, Step, accepted, judge}
 use Rattle.account.proofs.Tests.{by-test, no-bool, lt-or-ge, true-or-false}
 use Rattle.account.proofs.Sorts.{by-sort, not-of-group, kind-most}
-use Rattle.account.proofs.Keeps.{fair-judge}
+use Rattle.account.proofs.Keeps.{in-range-judge}
 use Rattle.book.specs.declared.State.{State}
 use Rattle.book.specs.Front.{Front, unfinished, badLength, whole, need, front}
 use Rattle.book.specs.State.{heldOf, noRecordYet, InRange}
@@ -85,7 +85,7 @@ record Made (a : Account) (r : List ℕ) (j : Step) : Type 0 where
   still : a .stage < 2 → closing r ≡ false → j .account .stage < 2
   shut : closing r ≡ true → j .account .stage ≡ 2
 
-module _ (a : Account) (r : List ℕ) (f : Fair a) (kinds : leb 1 (kindOf r) && leb (kindOf r) 8 ≡ true) where
+module _ (a : Account) (r : List ℕ) (f : AccountInRange a) (kinds : leb 1 (kindOf r) && leb (kindOf r) 8 ≡ true) where
   -- the subtotal of the group that ends
   ending : subtotalLines (subtotals a) ≡ map lineOfGroup (groupUnder (a .heading) (a .subtotal))
   unfolding subtotalLines
@@ -187,7 +187,7 @@ none-summed a xs r e s n c =
     record { grows = omega arith; summed = rw z (record { sums = s; lines = rw n refl; closed = λ x early q. absurd (c early q) }) }
 
 -- what the group that r ends has, where there is one; none has nothing
-ended-group : (a : Account) → Fair a → (x : Gas) → addedUp (x .group) (groupUnder (a .heading) (a .subtotal)) ≡ x .group (a .subtotal)
+ended-group : (a : Account) → AccountInRange a → (x : Gas) → addedUp (x .group) (groupUnder (a .heading) (a .subtotal)) ≡ x .group (a .subtotal)
 unfolding addedUp
 ended-group a f x = go (eqb (a .heading .group) 0) refl
   where
@@ -196,7 +196,7 @@ ended-group a f x = go (eqb (a .heading .group) 0) refl
     go false e = omega arith
 
 -- the balance of one record that does not close the book: what the farm gains is what its groups gain
-module _ (a : Account) (r : List ℕ) (f : Fair a) (x : Gas) where
+module _ (a : Account) (r : List ℕ) (f : AccountInRange a) (x : Gas) where
   -- a detail of the farm gives CO2 alone
   air-alone : sortOf (kindOf r) ≡ ofFarm → x .farm (detailOf (a .heading) r) ≡ 0
   unfolding figuresOf
@@ -232,7 +232,7 @@ closes-by ofFarm e = no-bool e
 closes-by closes e = refl
 
 -- one record accepted, and then those behind it
-module _ (a : Account) (xs : List ℕ) (j : Step) (b : Run) (f : Fair a) (early : a .stage < 2) (e : front xs ≡ whole) (m : Made a (take (need xs) xs) j)
+module _ (a : Account) (xs : List ℕ) (j : Step) (b : Run) (f : AccountInRange a) (early : a .stage < 2) (e : front xs ≡ whole) (m : Made a (take (need xs) xs) j)
     (g : Grows (j .account) (drop (need xs) xs) b) (shut : j .account .stage ≡ 2 → b .state .account ≡ j .account) where
   abbrev r : List ℕ
   r = take (need xs) xs
@@ -286,14 +286,14 @@ record Stopped (a : Account) (j : Step) : Type 0 where
   sums : j .account .sums ≡ a .sums
   none : j .lines ≡ []
 
-judged : (a : Account) (r : List ℕ) → Fair a → Stopped a (judge a r) ⊎ Made a r (judge a r)
+judged : (a : Account) (r : List ℕ) → AccountInRange a → Stopped a (judge a r) ⊎ Made a r (judge a r)
 unfolding judge
 judged a r f =
     by-test (λ (j : Step). Stopped a j ⊎ Made a r j) (eqb (first (refusals a r)) 0)
     (λ e. inr (made a r f (kind-in a r (eqb-true _ _ e))))
     (λ e. inl (record { stage = refl; counted = refl; sums = refl; none = refl }))
 
-summed-at : (a : Account) (xs : List ℕ) → Fair a → a .stage < 2 → ((t : Account) (zs : List ℕ) → length zs < length xs → Fair t → Grows t zs (book t zs))
+summed-at : (a : Account) (xs : List ℕ) → AccountInRange a → a .stage < 2 → ((t : Account) (zs : List ℕ) → length zs < length xs → AccountInRange t → Grows t zs (book t zs))
     → (f : Front) → front xs ≡ f → Grows a xs (book a xs)
 summed-at a xs v k ih unfinished e = rw (book-unfinished a xs k e) (none-summed a xs _ refl refl refl (λ h q. omega arith))
 summed-at a xs v k ih badLength e = rw (book-bad a xs k e) (none-summed a xs _ refl refl refl (λ h q. omega arith))
@@ -310,11 +310,11 @@ summed-at a xs v k ih whole e =
     let t = s .stage in
     rw (book-ended (j .account) rest (omega (arith, t)), s .none) (none-summed a xs _ c d refl (λ h q. omega (arith, t, q))))
     (λ (m : Made a (take (need xs) xs) j).
-    one-summed a xs j (book (j .account) rest) v k e m (ih (j .account) rest short (fair-judge a (take (need xs) xs) v k))
+    one-summed a xs j (book (j .account) rest) v k e m (ih (j .account) rest short (in-range-judge a (take (need xs) xs) v k))
     (λ q. rw (book-ended (j .account) rest (omega (arith, q))) refl))
     (judged a (take (need xs) xs) v))
 
-summed : (n : ℕ) (a : Account) (xs : List ℕ) → length xs < n → Fair a → Grows a xs (book a xs)
+summed : (n : ℕ) (a : Account) (xs : List ℕ) → length xs < n → AccountInRange a → Grows a xs (book a xs)
 summed zero a xs h v = absurd (omega arith)
 summed (suc n) a xs h v =
     ⊎-elim

@@ -8,7 +8,7 @@ use lib.ListN.{length, take, drop, length-append, length-drop, drop-of-length-le
 use lib.Seq.{length-take-le}
 use Rattle.account.specs.Judge.{judge}
 use Rattle.account.specs.Line.{joined}
-use Rattle.account.proofs.Keeps.{fair-judge, judge-short}
+use Rattle.account.proofs.Keeps.{in-range-judge, judge-short}
 use Rattle.book.specs.declared.State.{State}
 use Rattle.book.specs.Front.{Front, unfinished, badLength, whole, need, front}
 use Rattle.book.specs.State.{heldOf, InRange}
@@ -34,7 +34,7 @@ module _ (s : State) (xs : List ℕ) (v : InRange s) (early : s .account .stage 
       let h = held-whole (heldOf s) xs (v .begun) in
       let j = judge (s .account) (take (need zs) zs) in
       let b = book (j .account) (drop (need zs) zs) in
-      let i = book-leaves (j .account) (drop (need zs) zs) (fair-judge (s .account) (take (need zs) zs) (v .account) early) .tail in
+      let i = book-leaves (j .account) (drop (need zs) zs) (in-range-judge (s .account) (take (need zs) zs) (v .account) early) .tail in
       let d : length (drop (need zs) zs) ≡ length xs - (need zs - length (heldOf s)) =
       rw (over-held (heldOf s) xs (need zs) (omega arith), length-drop (need zs - length (heldOf s)) xs) in
       let l : length (b .left) ≡ length (drop (need zs) zs) - i .at = rw (i .is, length-drop (i .at) (drop (need zs) zs)) in
@@ -55,7 +55,7 @@ module _ (s : State) (b : ℕ) (v : InRange s) (early : s .account .stage < 2) w
       let h = held-whole (heldOf s) (b ∷ []) (v .begun) in
       let j = judge (s .account) (take (need zs) zs) in
       let d : drop (need zs) zs ≡ [] = drop-of-length-le zs {i = need zs} (omega (arith, length-append (heldOf s) (b ∷ []))) in
-      rw (book-whole (s .account) zs early e, d, book-none (j .account) (fair-judge (s .account) (take (need zs) zs) (v .account) early), append-nil)
+      rw (book-whole (s .account) zs early e, d, book-none (j .account) (in-range-judge (s .account) (take (need zs) zs) (v .account) early), append-nil)
       (judge-short (s .account) (take (need zs) zs))
 
   one-short : length (joined (run s (b ∷ []) .lines)) ≤ 100

@@ -10,7 +10,7 @@ use Rattle.book.specs.Run.{run}
 
 -- what a book has come to: stage, records accepted, and the refusal's code, record number and field
 abbrev pub verdictOf : Account → List ℕ
-verdictOf a = a .stage ∷ a .records ∷ a .refusal .code ∷ a .refusal .number ∷ a .refusal .field ∷ []
+verdictOf a = a .stage ∷ a .records ∷ a .refusal .code ∷ a .refusal .accepted ∷ a .refusal .field ∷ []
 
 abbrev pub verdict : List ℕ → List ℕ
 verdict xs = verdictOf (run noRecordYet xs .state .account)

@@ -10,22 +10,22 @@ use lib.ListN.{length, take, drop, getD, length-append, length-take, take-append
 use lib.Seq.{getD-drop, getD-take, take-append-add}
 use lib.Dec.{eqb, ltb}
 use borrow.Author.Tests.{ltb-true, eqb-false, ne-eqb}
-use Rattle.text.proofs.Digits.{by-test}
+use Rattle.printing.proofs.Digits.{by-test}
 use Rattle.codec.proofs.BigEndian.{Bytes}
 use Rattle.account.specs.declared.Account.{Account}
-use Rattle.account.specs.Judge.{Whole, noRecord, kindOf, valuesOf, judge}
+use Rattle.account.specs.Judge.{WholeRecord, noRecord, kindOf, valuesOf, judge}
 use Rattle.account.specs.Line.{joined}
-use Rattle.account.specs.Range.{Fair}
+use Rattle.account.specs.Range.{AccountInRange}
 use Rattle.account.proofs.Tests.{and-l, and-r, lt-or-ge}
-use Rattle.account.proofs.Keeps.{fair-none, fair-judge}
+use Rattle.account.proofs.Keeps.{in-range-none, in-range-judge}
 use Rattle.book.specs.declared.State.{State}
 use Rattle.book.specs.State.{inRange, holding, noRecordYet}
 use Rattle.book.proofs.RangeLaws.{range-test, range-idle}
 use Rattle.book.specs.Front.{Front, unfinished, badLength, whole, need, front}
 use Rattle.book.proofs.RecordLaws.{record-whole}
 use Rattle.promises.specs.Headings.{beginsWith, recordsBy, recordsOf}
-use Rattle.typist.specs.Text.{typedText, bytesTyped}
-use Rattle.writing.proofs.Answers.{Ready}
+use Rattle.typed_book.specs.Text.{typedText, bytesTyped}
+use Rattle.make_record.proofs.Answers.{Ready}
 use Rattle.retyping.specs.Typed.{lineTyped, textTyped, Accepted, AllAccepted, SameBytes}
 use Rattle.retyping.specs.Book.{acceptedOf, acceptedIn, lengthBy, wholeLength, readOf, isReady, accepts}
 use Rattle.retyping.specs.Book.{Retyping, oneTyped, retypedBy}
@@ -46,7 +46,7 @@ bytes-drop n xs b i = rw (getD-drop n xs i 0) (b (n + i))
 
 abbrev Sound : List (List ℕ) → Type 0
 Sound [] = Unit {0}
-Sound (r ∷ rs) = (Whole r × Bytes r) × Sound rs
+Sound (r ∷ rs) = (WholeRecord r × Bytes r) × Sound rs
 
 sound-front : (f : Front) (xs : List ℕ) → front xs ≡ f → Bytes xs → (others : List (List ℕ)) → Sound others → Sound (beginsWith f xs others)
 sound-front unfinished xs e b others s = tt
@@ -64,7 +64,7 @@ sound-by (suc n) xs b =
 abbrev passes : Account → List ℕ → Bool
 passes a r = ltb (a .stage) 2 && not (eqb (judge a r .account .stage) 3)
 
-passes-so : (a : Account) (r : List ℕ) → Whole r → Bytes r → passes a r ≡ true → Accepted a r
+passes-so : (a : Account) (r : List ℕ) → WholeRecord r → Bytes r → passes a r ≡ true → Accepted a r
 passes-so a r w b t =
     record {
       early = ltb-true _ _ (and-l (ltb (a .stage) 2) (not (eqb (judge a r .account .stage) 3)) t);
@@ -127,7 +127,7 @@ unfolding accepts
 no-record s xs z = rw z (and-false (isReady s))
 
 -- n bytes are a record, and the book is open or not
-accepts-is : (a : Account) → Fair a → (xs : List ℕ) (n : ℕ) → Lies xs n → (n ≡ 0 → ⊥)
+accepts-is : (a : Account) → AccountInRange a → (xs : List ℕ) (n : ℕ) → Lies xs n → (n ≡ 0 → ⊥)
     → accepts (holding a []) n (readOf (holding a []) n xs .state) ≡ passes a (take n xs)
 unfolding accepts
 accepts-is a f xs n l z =
@@ -142,7 +142,7 @@ one-not s xs n h =
     let e = one-is s xs (wholeLength xs) refl false h in
     ap (λ (x : Retyping). x .text) (one-stops n s xs (ap (λ (x : Retyping). x .more) e) ∙ e)
 
-module _ (a : Account) (f : Fair a) (xs : List ℕ) (n : ℕ) (e : front xs ≡ whole) where
+module _ (a : Account) (f : AccountInRange a) (xs : List ℕ) (n : ℕ) (e : front xs ≡ whole) where
   long : wholeLength xs ≡ need xs
   unfolding wholeLength
   long = rw e
@@ -169,13 +169,13 @@ module _ (a : Account) (f : Fair a) (xs : List ℕ) (n : ℕ) (e : front xs ≡ 
       ap (λ (x : Retyping). x .text) o ∙ ap (λ (m : ℕ). lineTyped (kindOf (take m xs)) (valuesOf (take m xs))) long in
       ap (λ (x : Retyping). x .text) (one-more n s xs (ap (λ (x : Retyping). x .more) o)) ∙ rw (state, taken, text)
 
-pub typed-by : (n : ℕ) (a : Account) (xs : List ℕ) → Fair a → retypedBy n (holding a []) xs .text ≡ textTyped (acceptedOf a (recordsBy n xs))
+pub typed-by : (n : ℕ) (a : Account) (xs : List ℕ) → AccountInRange a → retypedBy n (holding a []) xs .text ≡ textTyped (acceptedOf a (recordsBy n xs))
 unfolding recordsBy acceptedOf textTyped
 typed-by zero a xs f = none-typed (holding a []) xs
 typed-by (suc n) a xs f = by-front (front xs) refl (λ b g. typed-by n b (drop (need xs) xs) g)
   where
     by-front : (x : Front) → front xs ≡ x
-        → ((b : Account) → Fair b → retypedBy n (holding b []) (drop (need xs) xs) .text ≡ textTyped (acceptedOf b (recordsBy n (drop (need xs) xs))))
+        → ((b : Account) → AccountInRange b → retypedBy n (holding b []) (drop (need xs) xs) .text ≡ textTyped (acceptedOf b (recordsBy n (drop (need xs) xs))))
         → retypedBy (suc n) (holding a []) xs .text ≡ textTyped (acceptedOf a (beginsWith x xs (recordsBy n (drop (need xs) xs))))
     by-front unfinished e h = one-not (holding a []) xs n (no-record (holding a []) xs (no-length xs unfinished e refl))
     by-front badLength e h = one-not (holding a []) xs n (no-record (holding a []) xs (no-length xs badLength e refl))
@@ -183,13 +183,13 @@ typed-by (suc n) a xs f = by-front (front xs) refl (λ b g. typed-by n b (drop (
         let r = take (need xs) xs in
         by-test (passes a r)
         (λ t. rw t (one-typed a f xs n e t ∙ ap (λ (l : List ℕ). lineTyped (kindOf r) (valuesOf r) ++ l)
-        (h (judge a r .account) (fair-judge a r f (ltb-true _ _ (and-l (ltb (a .stage) 2) _ t))))))
+        (h (judge a r .account) (in-range-judge a r f (ltb-true _ _ (and-l (ltb (a .stage) 2) _ t))))))
         (λ t. rw t (one-not (holding a []) xs n (same-test a f xs n e ∙ t)))
 
 -- what the code types of a book, in as many turns as it has bytes and one more, is the text of its accepted records
 pub book-typed : (xs : List ℕ) → retypedBy (suc (length xs)) noRecordYet xs .text ≡ textTyped (acceptedIn xs)
 unfolding recordsOf
-book-typed xs = typed-by (suc (length xs)) noRecord xs fair-none
+book-typed xs = typed-by (suc (length xs)) noRecord xs in-range-none
 
 -- the theorem: the text of a book's accepted records, typed again, gives the bytes that the book begins with, and no line fails
 module _ (xs : List ℕ) (b : Bytes xs) where

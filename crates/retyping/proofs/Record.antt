@@ -9,29 +9,29 @@ use lib.ListN.{length, take, replicate, length-append}
 use lib.Seq.{take-all, take-append-le}
 use lib.Dec.{eqb}
 use borrow.Author.Tests.{lt-leb, ne-eqb, eq-eqb}
-use Rattle.reading.specs.Words.{nthWord}
-use Rattle.text.specs.Decimal.{decimal, spaced}
+use Rattle.typed_words.specs.Words.{nthWord}
+use Rattle.printing.specs.Decimal.{decimal, spaced}
 use Rattle.names.specs.Names.{kindName, decimalsAt}
-use Rattle.lines.specs.Lines.{has, kept, unmarked, isMarked}
-use Rattle.lines.proofs.Bytes.{before-all, has-behind}
+use Rattle.text_lines.specs.Lines.{has, kept, unmarked, isMarked}
+use Rattle.text_lines.proofs.Bytes.{before-all, has-behind}
 use Rattle.codec.specs.Table.{fields, Of}
 use Rattle.codec.specs.Codec.{pick}
 use Rattle.codec.proofs.BigEndian.{Bytes}
-use Rattle.account.specs.Judge.{Whole as WholeRecord, kindOf, valuesOf, judge}
+use Rattle.account.specs.Judge.{WholeRecord, kindOf, valuesOf, judge}
 use Rattle.book.specs.declared.State.{State}
 use Rattle.book.specs.State.{holding}
-use Rattle.writing.specs.Write.{write}
-use Rattle.writing.specs.declared.Answer.the-variants as answers
-use Rattle.writing.proofs.Answers.{Ready, written-so}
-use Rattle.writing.proofs.RoundTrip.{written-again}
-use Rattle.typed.specs.declared.Entry.{Entry}
-use Rattle.typed.specs.declared.Said.the-variants as said
-use Rattle.typed.specs.Line.{valuesFrom, entry, lineOf, completedOf, valuesIn, writeEntry}
-use Rattle.typed.proofs.Lines.{kept as entry-kept}
-use Rattle.typist.specs.declared.Typist.{Typist}
-use Rattle.typist.specs.declared.Fate.the-variants.{Wrote}
-use Rattle.typist.specs.Typist.{writtenAs, byWrite, inGroup, recordTurn, turn}
-use Rattle.typist.proofs.Fates.{is-judged, by-said}
+use Rattle.make_record.specs.Write.{write}
+use Rattle.make_record.specs.declared.Answer.the-variants as answers
+use Rattle.make_record.proofs.Answers.{Ready, written-so}
+use Rattle.make_record.proofs.RoundTrip.{written-again}
+use Rattle.typed_line.specs.declared.Entry.{Entry}
+use Rattle.typed_line.specs.declared.Said.the-variants as said
+use Rattle.typed_line.specs.Line.{valuesFrom, entry, lineOf, completedOf, valuesIn, writeEntry}
+use Rattle.typed_line.proofs.Lines.{kept as entry-kept}
+use Rattle.typed_book.specs.declared.Typist.{Typist}
+use Rattle.typed_book.specs.declared.Fate.the-variants.{Wrote}
+use Rattle.typed_book.specs.Typist.{writtenAs, byWrite, inGroup, recordTurn, turn}
+use Rattle.typed_book.proofs.Fates.{is-judged, by-said}
 use Rattle.retyping.proofs.Words.{Word, first-is, past-is, none-in-word}
 use Rattle.retyping.proofs.Decimals.{Small, decimal-some, decimal-amount, spaced-ends, first-spaced}
 use Rattle.retyping.proofs.Decimals.{next-spaced, no-more-spaced, none-in-spaced, spaced-length}

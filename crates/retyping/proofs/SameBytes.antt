@@ -6,22 +6,22 @@ use mathlib.Core.Bool.{Bool, true, false, _&&_}
 use mathlib.Core.List.{List, [], _∷_, _++_, map, append-assoc}
 use lib.Dec.{eqb}
 use Rattle.bytes.specs.Bytes.{indexOf}
-use Rattle.lines.specs.Lines.{oneMore, kept, linesOf, unmarked}
-use Rattle.lines.specs.Parts.{Numbered, numbered}
-use Rattle.lines.proofs.Pieces.{lines-cut}
-use Rattle.reading.specs.Words.{nthWord, leadingOf}
+use Rattle.text_lines.specs.Lines.{oneMore, kept, linesOf, unmarked}
+use Rattle.text_lines.specs.Parts.{Numbered, numbered}
+use Rattle.text_lines.proofs.Pieces.{lines-cut}
+use Rattle.typed_words.specs.Words.{nthWord, leadingOf}
 use Rattle.account.specs.declared.Account.{Account}
 use Rattle.account.specs.Judge.{noRecord, kindOf, valuesOf, judge}
-use Rattle.account.specs.Range.{Fair}
-use Rattle.account.proofs.Keeps.{fair-none, fair-judge}
+use Rattle.account.specs.Range.{AccountInRange}
+use Rattle.account.proofs.Keeps.{in-range-none, in-range-judge}
 use Rattle.book.specs.State.{holding, noRecordYet}
 use Rattle.book.proofs.RangeLaws.{range-idle}
-use Rattle.writing.proofs.Answers.{Ready}
-use Rattle.typed.specs.Line.{entry, lineOf}
-use Rattle.typist.specs.declared.Typist.{Typist}
-use Rattle.typist.specs.declared.Fate.the-variants.{Nothing, Wrote}
-use Rattle.typist.specs.Typist.{beginning, Turn, turn, writtenAs}
-use Rattle.typist.specs.Text.{lineTurn, Typed, after, typedBy, typedText, bytesTyped}
+use Rattle.make_record.proofs.Answers.{Ready}
+use Rattle.typed_line.specs.Line.{entry, lineOf}
+use Rattle.typed_book.specs.declared.Typist.{Typist}
+use Rattle.typed_book.specs.declared.Fate.the-variants.{Nothing, Wrote}
+use Rattle.typed_book.specs.Typist.{beginning, Turn, turn, writtenAs}
+use Rattle.typed_book.specs.Text.{lineTurn, Typed, after, typedBy, typedText, bytesTyped}
 use Rattle.retyping.specs.Typed.{lineTyped, textTyped, Accepted, AllAccepted, accountBehind, SameBytes}
 use Rattle.retyping.proofs.Record.{typedLine, Clean, clean-on, record-again, line-whole, line-one}
 
@@ -65,7 +65,7 @@ text-is k v rest = simp append-assoc
 abbrev behind : Typist → List ℕ → Account → Typist
 behind t r next = writtenAs t (entry (kindOf r) (valuesOf r)) (holding next [])
 
-module _ (a : Account) (f : Fair a) (r : List ℕ) (q : Accepted a r)
+module _ (a : Account) (f : AccountInRange a) (r : List ℕ) (q : Accepted a r)
     (t : Typist) (c : Clean t) (e : t .state ≡ holding a []) (n : ℕ) (rest : List ℕ) where
   state-ready : Ready (holding a [])
   state-ready = record { range = range-idle a f; early = q .early; none = refl }
@@ -91,16 +91,16 @@ module _ (a : Account) (f : Fair a) (r : List ℕ) (q : Accepted a r)
   one-again rs s =
       rw from-is (record { bytes = ap (λ (l : List ℕ). r ++ l) (s .bytes); state = s .state; failed = s .failed; told = s .told })
 
-all-again : (a : Account) → Fair a → (rs : List (List ℕ)) → AllAccepted a rs → (t : Typist) → Clean t → t .state ≡ holding a [] → (n : ℕ)
+all-again : (a : Account) → AccountInRange a → (rs : List (List ℕ)) → AllAccepted a rs → (t : Typist) → Clean t → t .state ≡ holding a [] → (n : ℕ)
     → SameBytes a rs (from t n (textTyped rs))
 unfolding AllAccepted textTyped accountBehind bytesTyped
 all-again a f [] p t c e n = rw (nothing-left t n) (record { bytes = refl; state = e; failed = c .failed; told = c .told })
 all-again a f (r ∷ rs) p t c e n =
     let q = p .0 in
     let next = judge a r .account in
-    let fair : Fair next = fair-judge a r f (q .early) in
+    let fair : AccountInRange next = in-range-judge a r f (q .early) in
     one-again a f r q t c e n (textTyped rs) rs
     (all-again next fair rs (p .1) (behind t r next) (clean-on t c (entry (kindOf r) (valuesOf r)) (holding next [])) refl (oneMore n))
 
 pub retyped : (rs : List (List ℕ)) → AllAccepted noRecord rs → SameBytes noRecord rs (typedText noRecordYet (textTyped rs))
-retyped rs p = all-again noRecord fair-none rs p (beginning noRecordYet) (record { lost = refl; failed = refl; told = refl }) refl 1
+retyped rs p = all-again noRecord in-range-none rs p (beginning noRecordYet) (record { lost = refl; failed = refl; told = refl }) refl 1

@@ -10,17 +10,17 @@ use lib.ListN.{length, take, drop, getD, replicate, length-drop}
 use lib.Seq.{drop-drop, take-all, take-at}
 use lib.Dec.{eqb, leb, ltb}
 use borrow.Author.Tests.{eq-eqb, ne-eqb, eqb-true, eqb-false, ltb-true, leb-true, lt-ltb, le-ltb, not-true, not-false}
-use Rattle.text.specs.Decimal.{decimal, spaced, joined, numbersLine, Put}
-use Rattle.text.specs.Said.{Said}
-use Rattle.text.proofs.Puts.{none, put-length, and-then}
-use Rattle.text.specs.Ascii.{ascii}
+use Rattle.printing.specs.Decimal.{decimal, spaced, joined, numbersLine, Put}
+use Rattle.printing.specs.Said.{Said}
+use Rattle.printing.proofs.Puts.{none, put-length, and-then}
+use Rattle.printing.specs.Ascii.{ascii}
 use Rattle.names.specs.Names.{kindName, sentence}
 use Rattle.codec.specs.Table.{table, fields, lengthOf}
 use Rattle.codec.specs.Codec.{pick, valAt, valuesAt}
 use Rattle.codec.proofs.Values.{values-length}
 use Rattle.codec.proofs.BigEndian.{one-byte}
 use Rattle.account.specs.declared.Account.{Account}
-use Rattle.account.specs.Judge.{Whole, kindOf, valuesOf, refused, refusals, first, accepted, judge}
+use Rattle.account.specs.Judge.{WholeRecord, kindOf, valuesOf, refused, refusals, first, accepted, judge}
 use Rattle.account.proofs.Tests.{and-l, and-r}
 use Rattle.account.proofs.First.{first-clear}
 use Rattle.book.specs.declared.State.{State}
@@ -31,9 +31,9 @@ use Rattle.book.specs.Call.{Call, call, fedOf}
 use Rattle.book.proofs.FrontLaws.{good-length}
 use Rattle.book.proofs.RangeLaws.{range-parts}
 use Rattle.book.proofs.RecordLaws.{record-whole, record-in}
-use Rattle.writing.proofs.Answers.{Ready}
-use Rattle.writing.proofs.Listed.{elements, listed}
-use Rattle.writing.proofs.ReaderLaws.{call-one}
+use Rattle.make_record.proofs.Answers.{Ready}
+use Rattle.make_record.proofs.Listed.{elements, listed}
+use Rattle.make_record.proofs.ReaderLaws.{call-one}
 use Rattle.retyping.specs.declared.Retyped.{Retyped}
 use Rattle.retyping.specs.Typed.{lineTyped}
 use Rattle.retyping.proofs.Tables.{name-short, fields-some, fields-few}
@@ -101,7 +101,7 @@ module _ (s : State) (n : ℕ) (xs lines : List ℕ) (l : length lines ≡ 100) 
 pub record Taken (s : State) (xs : List ℕ) (n : ℕ) : Type 0 where
   pub ready : Ready s
   pub lies : Lies xs n
-  pub whole : Whole (take n xs)
+  pub whole : WholeRecord (take n xs)
   pub state : readOf s n xs .state ≡ holding (judge (s .account) (take n xs) .account) []
   pub taken : judge (s .account) (take n xs) .account .stage ≡ 3 → ⊥
 
@@ -153,7 +153,7 @@ no-refusal a r h = go (eqb (first (refusals a r)) 0) _ refl h
     go true f e n = eqb-true _ _ e
     go false f e n = absurd (n refl)
 
-pub typable : (a : Account) (r : List ℕ) → Whole r → (judge a r .account .stage ≡ 3 → ⊥) → Typable r
+pub typable : (a : Account) (r : List ℕ) → WholeRecord r → (judge a r .account .stage ≡ 3 → ⊥) → Typable r
 typable a r w h =
     let t = first-clear (refusals a r) (
       omega arith,

@@ -10,16 +10,16 @@ use lib.ListN.{length}
 use lib.Dec.{leb, eqb}
 use borrow.Author.Tests.{leb-true, eqb-true}
 use Rattle.bytes.specs.Bytes.{indexOf, indexAfter}
-use Rattle.reading.specs.declared.Whole.{Whole}
-use Rattle.reading.specs.Words.{leadingOf, nthWord, nthPart, sameText, lowered}
-use Rattle.reading.specs.Amounts.{aWhole}
+use Rattle.typed_words.specs.declared.Whole.{Whole}
+use Rattle.typed_words.specs.Words.{leadingOf, nthWord, nthPart, sameText, lowered}
+use Rattle.typed_words.specs.Amounts.{aWhole}
 use Rattle.names.specs.Names.{kindTable, kindName}
 use Rattle.codec.specs.declared.Field.{Field}
 use Rattle.codec.specs.Table.{table, fields}
-use Rattle.codec.specs.Codec.{room, valuesAt}
+use Rattle.codec.specs.Codec.{bytesHold, valuesAt}
 use Rattle.codec.proofs.BigEndian.{Bytes, valAt-lt}
 use Rattle.account.proofs.Tests.{and-l, and-r, lt-or-ge}
-use Rattle.typed.specs.Line.{names, placeFrom, kindOf}
+use Rattle.typed_line.specs.Line.{names, placeFrom, kindOf}
 use Rattle.retyping.proofs.Words.{Word}
 use Rattle.retyping.proofs.Decimals.{Small}
 
@@ -73,21 +73,21 @@ kinds-computed = refl
 -- their bytes hold no more than 10^15
 narrow : List Field → Bool
 narrow [] = true
-narrow (f ∷ fs) = leb (room (f .0)) 1000000000000000 && narrow fs
+narrow (f ∷ fs) = leb (bytesHold (f .0)) 1000000000000000 && narrow fs
 
 fieldTest : ℕ → Bool
 fieldTest k = narrow (fields k) && (leb 1 (length (fields k)) && leb (length (fields k)) 12)
 
 fields-computed : each fieldTest 8 ≡ true
-unfolding each narrow fieldTest table room
+unfolding each narrow fieldTest table bytesHold
 fields-computed = refl
 
 values-small : (fs : List Field) → narrow fs ≡ true → (s : List ℕ) → Bytes s → (at : ℕ) → Small (valuesAt fs s at)
 unfolding narrow valuesAt
 values-small [] e s b at = tt
 values-small (f ∷ fs) e s b at =
-    let h = leb-true (room (f .0)) 1000000000000000 (and-l (leb (room (f .0)) 1000000000000000) (narrow fs) e) in
-    (omega (arith, h, valAt-lt s b at (f .0)), values-small fs (and-r (leb (room (f .0)) 1000000000000000) (narrow fs) e) s b (at + f .0))
+    let h = leb-true (bytesHold (f .0)) 1000000000000000 (and-l (leb (bytesHold (f .0)) 1000000000000000) (narrow fs) e) in
+    (omega (arith, h, valAt-lt s b at (f .0)), values-small fs (and-r (leb (bytesHold (f .0)) 1000000000000000) (narrow fs) e) s b (at + f .0))
 
 -- ---- a kind from 1 to 8
 

@@ -9,9 +9,9 @@ use lib.ListN.{length}
 use lib.Seq.{take-at, drop-at}
 use borrow.Author.Tests.{ne-eqb}
 use Rattle.bytes.specs.Bytes.{indexOf}
-use Rattle.reading.specs.Words.{isBlank, leadingOf, firstWord, pastWord}
-use Rattle.lines.specs.Lines.{has}
-use Rattle.lines.proofs.Bytes.{index-other, has-not}
+use Rattle.typed_words.specs.Words.{isBlank, leadingOf, firstWord, pastWord}
+use Rattle.text_lines.specs.Lines.{has}
+use Rattle.text_lines.proofs.Bytes.{index-other, has-not}
 
 -- each byte of s is a digit or a letter, or stands between them
 abbrev pub Word : List ℕ → Type 0

@@ -5,8 +5,8 @@ use mathlib.Core.Bool.{Bool, true, false, _&&_, not}
 use mathlib.Core.List.{List, [], _∷_, _++_}
 use lib.ListN.{length, take, drop, replicate}
 use lib.Dec.{ltb, eqb}
-use Rattle.text.specs.Ascii.{ascii}
-use Rattle.text.specs.Decimal.{joined, Put}
+use Rattle.printing.specs.Ascii.{ascii}
+use Rattle.printing.specs.Decimal.{joined, Put}
 use Rattle.names.specs.Names.{sentence}
 use Rattle.codec.specs.Table.{lengthOf}
 use Rattle.codec.specs.Codec.{pick}
@@ -112,7 +112,7 @@ inTwelve v = v ++ replicate (12 - length v) 0
 
 -- a refusal: its number, the records accepted before it, its field, and the number's sentence
 abbrev pub refusedText : Refusal → List ℕ
-refusedText r = ascii "refused " ++ (joined (r .code ∷ r .number ∷ r .field ∷ []) ++ (ascii ": " ++ (sentence (r .code) ++ ascii "\n")))
+refusedText r = ascii "refused " ++ (joined (r .code ∷ r .accepted ∷ r .field ∷ []) ++ (ascii ": " ++ (sentence (r .code) ++ ascii "\n")))
 
 -- the last word, to a person: none where the book is closed and nothing stands behind its close
 unfoldable pub endText : Account → Bool → List ℕ

@@ -3,14 +3,14 @@
 use Prim.Native.Nat.{ℕ, _<_}
 use mathlib.Core.Path.{_≡_}
 use mathlib.Core.List.{List, [], _∷_, _++_}
-use Rattle.text.specs.Decimal.{spaced}
+use Rattle.printing.specs.Decimal.{spaced}
 use Rattle.names.specs.Names.{kindName}
 use Rattle.codec.proofs.BigEndian.{Bytes}
 use Rattle.account.specs.declared.Account.{Account}
-use Rattle.account.specs.Judge.{Whole, kindOf, valuesOf, judge}
+use Rattle.account.specs.Judge.{WholeRecord, kindOf, valuesOf, judge}
 use Rattle.account.specs.Line.{joined}
 use Rattle.book.specs.State.{holding}
-use Rattle.typist.specs.Text.{Typed, bytesTyped}
+use Rattle.typed_book.specs.Text.{Typed, bytesTyped}
 
 -- the line of a record of kind k with the values v, and its line feed
 abbrev pub lineTyped : ℕ → List ℕ → List ℕ
@@ -24,7 +24,7 @@ textTyped (r ∷ rs) = lineTyped (kindOf r) (valuesOf r) ++ textTyped rs
 -- r is a whole record of bytes that is accepted after the account a, while the book is open
 pub record Accepted (a : Account) (r : List ℕ) : Type 0 where
   pub early : a .stage < 2
-  pub whole : Whole r
+  pub whole : WholeRecord r
   pub bytes : Bytes r
   pub taken : judge a r .account .stage ≡ 3 → ⊥
 

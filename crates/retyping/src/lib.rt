@@ -8,16 +8,16 @@ use codec::numbers::be16;
 use names::field_count;
 use names::say_kind;
 use names::say_sentence;
-use text::put_byte;
-use text::put_numbers;
-use text::say;
-use text::say_number;
+use printing::put_byte;
+use printing::put_numbers;
+use printing::say;
+use printing::say_number;
 ghost use mathlib.Core.Path.{_≡_};
 ghost use Prim.Native.Nat.{_+_, _≤_};
 ghost use lib.ListN.{length, take, drop};
 ghost use mathlib.Core.List.{_∷_, []};
-ghost use Rattle.text.specs.Decimal.{joined, Put};
-ghost use Rattle.text.specs.Said.{Said};
+ghost use Rattle.printing.specs.Decimal.{joined, Put};
+ghost use Rattle.printing.specs.Said.{Said};
 ghost use Rattle.account.specs.Judge.{kindOf, valuesOf};
 ghost use Rattle.book.specs.Call.{fedOf};
 ghost use Rattle.retyping.specs.Typed.{lineTyped};
@@ -233,7 +233,7 @@ fn say_refusal(out: &mut [u8], r: Refusal) -> usize
     ensures { λ n. ⌜ Said (now (out .entry)) (now (out .exit)) 0 (refusedText r) n ⌝ }
 {
     let word = say(out, 0, b"refused ");
-    let numbers = say_three(out, word, r.code as u64, r.number as u64, r.field as u64);
+    let numbers = say_three(out, word, r.code as u64, r.accepted as u64, r.field as u64);
     let colon = say(out, numbers, b": ");
     let end = say_sentence(out, colon, r.code as u64);
     say(out, end, b"\n")

@@ -7,11 +7,11 @@ use mathlib.Core.Bool.{true, _&&_}
 use lib.ListN.{length}
 use lib.Dec.{leb}
 use Rattle.codec.specs.Table.{lengthOf}
-use Rattle.account.specs.Judge.{Whole, versionOf, kindOf}
+use Rattle.account.specs.Judge.{WholeRecord, versionOf, kindOf}
 
 -- r is a whole record of version 1, of one of the eight kinds, and as long as its kind
 pub record Right (r : List ℕ) : Type 0 where
-  pub whole : Whole r
+  pub whole : WholeRecord r
   pub version : versionOf r ≡ 1
   pub kinds : leb 1 (kindOf r) && leb (kindOf r) 8 ≡ true
   pub long : length r ≡ 2 + lengthOf (kindOf r)

@@ -13,7 +13,7 @@ use grams::cattle::CattleRation;
 ghost use mathlib.Core.Path.{_≡_};
 ghost use Prim.Native.Nat.{_<_};
 ghost use Rattle.account.specs.Figures.{cattleRation, cattleFigures};
-ghost use Rattle.account.specs.Range.{Fair};
+ghost use Rattle.account.specs.Range.{AccountInRange};
 ghost use Rattle.account.specs.Judge.{weigh};
 ghost use Rattle.account.specs.Told.{TellsIn};
 
@@ -46,7 +46,7 @@ fn manure_figures(m: CattleManure) -> Figures
 }
 
 pub fn weigh(a: Account, v: [u64; 9], room: usize) -> Judged
-    requires { ⌜ Fair a × (a .stage < 2) ⌝ }
+    requires { ⌜ AccountInRange a × (a .stage < 2) ⌝ }
     ensures { λ j. ⌜ TellsIn room a (weigh a 4 v) j ⌝ }
 {
     let h = a.heading;

@@ -13,8 +13,9 @@ ghost use mathlib.Core.Path.{_≡_};
 ghost use Prim.Native.Nat.{_<_};
 ghost use lib.Dec.{eqb};
 ghost use Rattle.codec.specs.Codec.{pick};
+ghost use Rattle.codec.specs.Table.{totalSize, linesMost};
 ghost use Rattle.grams.specs.Farm.{warmingOf};
-ghost use Rattle.account.specs.Range.{Fair, Bounded};
+ghost use Rattle.account.specs.Range.{AccountInRange, Bounded};
 ghost use Rattle.account.specs.Judge.{weigh};
 ghost use Rattle.account.specs.Told.{TellsIn, inRoom, closing};
 
@@ -28,11 +29,15 @@ fn warming(set: u8) -> Warming
     }
 }
 
-// 54 bytes for the total alone, 100 with the last group's subtotal before it.
+// The total alone, or with the last group's subtotal before it.
 fn closing_length(group: u16) -> usize
-    ensures { λ r. ⌜ r ≡ pick (eqb group 0) 54 100 ⌝ }
+    ensures { λ r. ⌜ r ≡ pick (eqb group 0) totalSize linesMost ⌝ }
 {
-    if group == 0 { 54 } else { 100 }
+    if group == 0 {
+        codec::TOTAL_SIZE
+    } else {
+        codec::LINES_MOST
+    }
 }
 
 // The close's lines: the last group's subtotal, where there is a heading, and the sums with their CO2e.
@@ -49,7 +54,7 @@ fn totalled(a: Account, room: usize) -> Judged
     let f = group_figures(s);
     let len = closing_length(h.group);
     let line = Line {
-        len: len,
+        given: len,
         kind: 16,
         group: h.group,
         figures: f,
@@ -68,7 +73,7 @@ fn totalled(a: Account, room: usize) -> Judged
 }
 
 pub fn weigh(a: Account, v: [u64; 1], room: usize) -> Judged
-    requires { ⌜ Fair a × (a .stage < 2) ⌝ }
+    requires { ⌜ AccountInRange a × (a .stage < 2) ⌝ }
     ensures { λ j. ⌜ TellsIn room a (weigh a 8 v) j ⌝ }
 {
     let bad = codec::close::first_bad(v);

@@ -11,7 +11,7 @@ use grams::units::N2o;
 ghost use mathlib.Core.Path.{_≡_};
 ghost use Prim.Native.Nat.{_<_};
 ghost use Rattle.account.specs.Figures.{ch4Alone};
-ghost use Rattle.account.specs.Range.{Fair};
+ghost use Rattle.account.specs.Range.{AccountInRange};
 ghost use Rattle.account.specs.Judge.{weigh};
 ghost use Rattle.account.specs.Told.{TellsIn};
 
@@ -28,7 +28,7 @@ fn ch4_alone(g: u64) -> Figures
 }
 
 pub fn weigh(a: Account, v: [u64; 3], room: usize) -> Judged
-    requires { ⌜ Fair a × (a .stage < 2) ⌝ }
+    requires { ⌜ AccountInRange a × (a .stage < 2) ⌝ }
     ensures { λ j. ⌜ TellsIn room a (weigh a 3 v) j ⌝ }
 {
     let h = a.heading;

@@ -13,7 +13,7 @@ use account::Subtotal;
 use grams::units::N2o;
 ghost use mathlib.Core.Path.{_≡_};
 ghost use Prim.Native.Nat.{_<_};
-ghost use Rattle.account.specs.Range.{Fair};
+ghost use Rattle.account.specs.Range.{AccountInRange};
 ghost use Rattle.account.specs.Judge.{weigh};
 ghost use Rattle.account.specs.Told.{TellsIn, inRoom, heading};
 
@@ -25,7 +25,7 @@ fn headed(a: Account, h: Heading, room: usize) -> Judged
     let last = a.heading;
     let s = a.subtotal;
     let line = group_line(last.group, s);
-    if room < line.len {
+    if room < line.given {
         return full(a, line);
     }
     let none = Days {
@@ -51,7 +51,7 @@ fn headed(a: Account, h: Heading, room: usize) -> Judged
 }
 
 pub fn weigh(a: Account, v: [u64; 3], room: usize) -> Judged
-    requires { ⌜ Fair a × (a .stage < 2) ⌝ }
+    requires { ⌜ AccountInRange a × (a .stage < 2) ⌝ }
     ensures { λ j. ⌜ TellsIn room a (weigh a 2 v) j ⌝ }
 {
     let bad = codec::heading::first_bad(v);

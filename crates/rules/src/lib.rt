@@ -21,8 +21,8 @@ ghost use mathlib.Core.Bool.{_&&_};
 ghost use lib.Dec.{leb};
 ghost use Rattle.codec.specs.Table.{lengthOf};
 ghost use Rattle.codec.specs.Codec.{pick};
-ghost use Rattle.account.specs.Range.{Fair};
-ghost use Rattle.account.specs.Judge.{Whole, kindOf, judge};
+ghost use Rattle.account.specs.Range.{AccountInRange};
+ghost use Rattle.account.specs.Judge.{WholeRecord, kindOf, judge};
 ghost use Rattle.account.specs.Told.{TellsIn};
 ghost use Rattle.rules.specs.Right.{Right};
 
@@ -45,7 +45,7 @@ fn size_of(kind: u8) -> usize
 
 // What the values of a record do that is as long as its kind: a function of its own, else the compiler keeps copies of the account.
 fn by_kind(a: Account, kind: u8, r: &[u8], room: usize) -> Judged
-    requires { ⌜ Fair a × (a .stage < 2) × Right (now r) × (kind ≡ kindOf (now r)) ⌝ }
+    requires { ⌜ AccountInRange a × (a .stage < 2) × Right (now r) × (kind ≡ kindOf (now r)) ⌝ }
     ensures { λ j. ⌜ TellsIn room a (judge a (now (r .entry))) j ⌝ }
 {
     match kind {
@@ -62,7 +62,7 @@ fn by_kind(a: Account, kind: u8, r: &[u8], room: usize) -> Judged
 
 // What the whole record r does: its version, its kind and its length are looked at here, its values in the kind's file.
 pub fn judge(a: Account, r: &[u8], room: usize) -> Judged
-    requires { ⌜ Fair a × (a .stage < 2) × Whole (now r) ⌝ }
+    requires { ⌜ AccountInRange a × (a .stage < 2) × WholeRecord (now r) ⌝ }
     ensures { λ j. ⌜ TellsIn room a (judge a (now (r .entry))) j ⌝ }
 {
     let version = r[2];

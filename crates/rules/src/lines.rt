@@ -13,6 +13,7 @@ ghost use mathlib.Core.Path.{_≡_};
 ghost use Prim.Native.Nat.{_<_};
 ghost use lib.Dec.{eqb};
 ghost use Rattle.codec.specs.Codec.{pick};
+ghost use Rattle.codec.specs.Table.{lineSize};
 ghost use Rattle.account.specs.Figures.{grouped, groupFigures};
 ghost use Rattle.account.specs.Range.{Bounded, Grouped};
 ghost use Rattle.account.specs.Told.{Small, inRoom, noLine, quiet, detailing};
@@ -53,13 +54,13 @@ pub(crate) fn detailed(
     ensures { λ r. ⌜ r ≡ inRoom room a (detailing a kind group days subtotal f) ⌝ }
 {
     let line = Line {
-        len: 46,
+        given: codec::LINE_SIZE,
         kind: kind,
         group: group,
         figures: f,
         co2e: 0,
     };
-    if room < 46 {
+    if room < codec::LINE_SIZE {
         return full(a, line);
     }
     let sums = a.sums;
@@ -94,14 +95,14 @@ pub(crate) fn grouped_detail(
 
 // The line of a group with this subtotal; no line where there was no heading.
 pub(crate) fn group_line(group: u16, s: Subtotal) -> Line
-    ensures { λ r. ⌜ r ≡ pick (eqb group 0) noLine (record { len = 46; kind = 16; group = group; figures = groupFigures s; co2e = 0 }) ⌝ }
+    ensures { λ r. ⌜ r ≡ pick (eqb group 0) noLine (record { given = lineSize; kind = 16; group = group; figures = groupFigures s; co2e = 0 }) ⌝ }
 {
     if group == 0 {
         return line::none();
     }
     let f = group_figures(s);
     Line {
-        len: 46,
+        given: codec::LINE_SIZE,
         kind: 16,
         group: group,
         figures: f,

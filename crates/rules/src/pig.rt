@@ -13,7 +13,7 @@ ghost use mathlib.Core.Bool.{_&&_, not};
 ghost use Prim.Native.Nat.{_<_};
 ghost use lib.Dec.{eqb};
 ghost use Rattle.account.specs.Figures.{pigRation, pigFigures};
-ghost use Rattle.account.specs.Range.{Fair};
+ghost use Rattle.account.specs.Range.{AccountInRange};
 ghost use Rattle.account.specs.Judge.{weigh};
 ghost use Rattle.account.specs.Told.{TellsIn};
 
@@ -57,7 +57,7 @@ fn pig_figures(m: PigManure) -> Figures
 }
 
 pub fn weigh(a: Account, v: [u64; 12], room: usize) -> Judged
-    requires { ⌜ Fair a × (a .stage < 2) ⌝ }
+    requires { ⌜ AccountInRange a × (a .stage < 2) ⌝ }
     ensures { λ j. ⌜ TellsIn room a (weigh a 5 v) j ⌝ }
 {
     let h = a.heading;

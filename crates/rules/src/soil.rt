@@ -7,12 +7,12 @@ use crate::refusals::stopped;
 use account::Account;
 use account::Judged;
 ghost use Prim.Native.Nat.{_<_};
-ghost use Rattle.account.specs.Range.{Fair};
+ghost use Rattle.account.specs.Range.{AccountInRange};
 ghost use Rattle.account.specs.Judge.{weigh};
 ghost use Rattle.account.specs.Told.{TellsIn};
 
 pub fn weigh(a: Account, v: [u64; 1], room: usize) -> Judged
-    requires { ⌜ Fair a × (a .stage < 2) ⌝ }
+    requires { ⌜ AccountInRange a × (a .stage < 2) ⌝ }
     ensures { λ j. ⌜ TellsIn room a (weigh a 7 v) j ⌝ }
 {
     let bad = codec::soil::first_bad(v);

@@ -5,7 +5,7 @@ use mathlib.Core.Path.{_≡_, sym, ap, _∙_}
 use mathlib.Core.List.{List}
 use lib.ListN.{length}
 use borrow.Author.Tests.{eq-eqb, ne-eqb, le-leb, lt-leb}
-use Rattle.reading.specs.Words.{nthWord}
+use Rattle.typed_words.specs.Words.{nthWord}
 use Rattle.slip.specs.declared.Ration.{Ration}
 use Rattle.slip_text.specs.declared.Named.{Named}
 use Rattle.slip_text.specs.declared.Asked.the-variants.{Nothing, Estimate, Wrong}

@@ -3,9 +3,9 @@
 use mathlib.Core.Path.{_≡_, refl}
 use lib.Ieee.{round, le}
 use Rattle.bytes.specs.Bytes.{indexOf, indexAfter}
-use Rattle.text.specs.Ascii.{ascii}
+use Rattle.printing.specs.Ascii.{ascii}
 use Rattle.names.specs.Names.{allPrinted}
-use Rattle.reading.specs.Words.{leadingOf, nthWord, nthPart}
+use Rattle.typed_words.specs.Words.{leadingOf, nthWord, nthPart}
 use Rattle.slip.specs.Slip.{double}
 use Rattle.slip.specs.declared.Change.the-variants.{Feed}
 use Rattle.slip_text.specs.Told.{columns, ranges, wrongNumber, faultText, outText}

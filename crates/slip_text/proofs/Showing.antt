@@ -8,8 +8,8 @@ use lib.Dec.{T, ltb→lt, lt→ltb}
 use lib.IntN.{pos}
 use lib.Ieee.{Float, nan, inf, fin, binary64, round, up, down, lt, toUnsigned}
 use lib.Ieee.Fits.{and-l, and-r, down-pos}
-use Rattle.text.specs.Decimal.{thousandths, Put}
-use Rattle.text.specs.Ascii.{ascii}
+use Rattle.printing.specs.Decimal.{thousandths, Put}
+use Rattle.printing.specs.Ascii.{ascii}
 use borrow.Author.Tests.{not-true, not-false, lt-ltb, le-ltb, eq-eqb, ne-eqb}
 use Rattle.slip.specs.declared.Slip.{Slip}
 use Rattle.slip_text.specs.declared.Grams.{Grams}

@@ -8,9 +8,9 @@ use mathlib.Core.List.{List, []}
 use lib.ListN.{length, take}
 use lib.Seq.{take-nil}
 use borrow.Author.Tests.{eq-eqb, ne-eqb}
-use Rattle.text.specs.Decimal.{Put}
-use Rattle.text.specs.Said.{Said}
-use Rattle.text.proofs.Puts.{none}
+use Rattle.printing.specs.Decimal.{Put}
+use Rattle.printing.specs.Said.{Said}
+use Rattle.printing.proofs.Puts.{none}
 use Rattle.slip.specs.Slip.{whatIf, double}
 use Rattle.slip.specs.declared.Change.{Change}
 use Rattle.slip.specs.declared.Change.the-variants.{Feed}

@@ -4,11 +4,11 @@ use mathlib.Core.Bool.{Bool, true, false}
 use mathlib.Core.List.{List, [], _∷_}
 use lib.ListN.{length}
 use lib.Dec.{eqb, leb, ltb}
-use Rattle.text.specs.Ascii.{ascii}
+use Rattle.printing.specs.Ascii.{ascii}
 use lib.Ieee.{Float}
-use Rattle.reading.specs.Words.{nthWord, sameText}
-use Rattle.reading.specs.Numbers.{wholeOf, noWhole, decimalOf}
-use Rattle.reading.specs.declared.Whole.{Whole}
+use Rattle.typed_words.specs.Words.{nthWord, sameText}
+use Rattle.typed_words.specs.Numbers.{wholeOf, noWhole, decimalOf}
+use Rattle.typed_words.specs.declared.Whole.{Whole}
 use Rattle.slip.specs.declared.Change.{Change}
 use Rattle.slip.specs.declared.Change.the-variants.{Feed, Ym, Head}
 use Rattle.slip.specs.declared.Ration.{Ration}

@@ -5,8 +5,8 @@ use Prim.Native.Nat.{ℕ, _-_}
 use lib.Dec.{eqb, ltb}
 use lib.IntN.{pos, negsuc}
 use lib.Ieee.{Float, fin, binary64, round, add, mul, lt, toUnsigned}
-use Rattle.text.specs.Decimal.{decimal, thousandths}
-use Rattle.text.specs.Ascii.{ascii}
+use Rattle.printing.specs.Decimal.{decimal, thousandths}
+use Rattle.printing.specs.Ascii.{ascii}
 use Rattle.slip_text.specs.declared.Grams.{Grams}
 use Rattle.slip.specs.declared.Ration.{Ration}
 use Rattle.slip.specs.declared.Slip.{Slip}

@@ -3,10 +3,10 @@ use Prim.Native.Nat.{ℕ, _-_}
 use mathlib.Core.Bool.{Bool, true, false, _&&_}
 use mathlib.Core.List.{List, [], _∷_, _++_}
 use lib.Dec.{eqb, ltb}
-use Rattle.text.specs.Ascii.{ascii}
-use Rattle.text.specs.Decimal.{decimal}
+use Rattle.printing.specs.Ascii.{ascii}
+use Rattle.printing.specs.Decimal.{decimal}
 use Rattle.names.specs.Names.{shown}
-use Rattle.reading.specs.Words.{nthWord, nthPart}
+use Rattle.typed_words.specs.Words.{nthWord, nthPart}
 use Rattle.slip.specs.Slip.{geInRange, ymInRange, headInRange, daysInRange, double, whatIf}
 use Rattle.slip.specs.declared.Change.{Change}
 use Rattle.slip.specs.declared.Change.the-variants.{Feed, Ym, Head}
@@ -16,7 +16,7 @@ use Rattle.slip_text.specs.declared.Asked.the-variants.{Nothing, Estimat
 use Rattle.slip_text.specs.declared.Counts.{Counts}
 use Rattle.slip_text.specs.Asked.{pick, unless, changeIn, askedOf}
 use Rattle.slip_text.specs.Shown.{slipLine}
-use Rattle.lines.specs.Lines.{oneMore}
+use Rattle.text_lines.specs.Lines.{oneMore}
 
 -- ---- the one table of names and ranges: places count from 0
 

@@ -10,9 +10,9 @@ ghost use mathlib.Core.Path.{_≡_};
 ghost use Prim.Native.Nat.{_+_, _≤_};
 ghost use lib.ListN.{length};
 ghost use mathlib.Core.List.{_∷_, []};
-ghost use Rattle.text.specs.Decimal.{decimal, Put};
-ghost use Rattle.reading.specs.Words.{nthWord};
-ghost use Rattle.reading.specs.Numbers.{decimalOf};
+ghost use Rattle.printing.specs.Decimal.{decimal, Put};
+ghost use Rattle.typed_words.specs.Words.{nthWord};
+ghost use Rattle.typed_words.specs.Numbers.{decimalOf};
 ghost use Rattle.slip_text.specs.Asked.{changeNamed, daysOf, unless, rationFault, changeFault, faultOf, rationIn, changeIn, askedOf};
 ghost use Rattle.slip_text.specs.Shown.{gramsOf, shown, spacedShown, rationText, difference, compared, slipLine};
 use slip::Change;
@@ -45,22 +45,22 @@ struct Grams {
     value: u64,
 }
 
-fn decimal_word(line: &[u8], n: usize) -> reading::Double
+fn decimal_word(line: &[u8], n: usize) -> typed_words::Double
     ensures { λ r. ⌜ r ≡ decimalOf (nthWord n (now (line .entry))) ⌝ }
 {
-    reading::read_decimal(reading::word(line, n))
+    typed_words::read_decimal(typed_words::word(line, n))
 }
 
 // Whole days that a ration can carry.
-fn read_days(line: &[u8]) -> reading::Whole
+fn read_days(line: &[u8]) -> typed_words::Whole
     ensures { λ r. ⌜ r ≡ daysOf (nthWord 3 (now (line .entry))) ⌝ }
     ensures { λ r. ⌜ r .value ≤ 65535 ⌝ }
 {
-    let days = reading::read_whole(reading::word(line, 3));
+    let days = typed_words::read_whole(typed_words::word(line, 3));
     if days.value <= 65535 {
         return days;
     }
-    reading::Whole {
+    typed_words::Whole {
         good: false,
         value: 0,
     }
@@ -69,21 +69,21 @@ fn read_days(line: &[u8]) -> reading::Whole
 fn read_change(line: &[u8], x: f64) -> Named
     ensures { λ r. ⌜ r ≡ changeNamed (nthWord 4 (now (line .entry))) x ⌝ }
 {
-    let name = reading::word(line, 4);
-    if reading::is_word(name, b"feed") {
+    let name = typed_words::word(line, 4);
+    if typed_words::is_word(name, b"feed") {
         return Named {
             good: true,
             change: Change::Feed(x),
         };
     }
-    if reading::is_word(name, b"ym") {
+    if typed_words::is_word(name, b"ym") {
         return Named {
             good: true,
             change: Change::Ym(x),
         };
     }
     Named {
-        good: reading::is_word(name, b"head"),
+        good: typed_words::is_word(name, b"head"),
         change: Change::Head(x),
     }
 }
@@ -107,7 +107,7 @@ fn ration_fault(line: &[u8], other: usize) -> usize
 fn change_fault(line: &[u8]) -> usize
     ensures { λ r. ⌜ r ≡ changeFault (now (line .entry)) ⌝ }
 {
-    let more = fault_unless(reading::word(line, 6).len() == 0, 7, 0);
+    let more = fault_unless(typed_words::word(line, 6).len() == 0, 7, 0);
     let x = decimal_word(line, 5);
     let named = read_change(line, x.value);
     let number = fault_unless(x.good, 6, more);
@@ -119,7 +119,7 @@ fn line_fault(line: &[u8]) -> usize
     ensures { λ r. ⌜ r ≡ faultOf (now (line .entry)) ⌝ }
 {
     let other = ration_fault(line, change_fault(line));
-    fault_unless(0 < reading::word(line, 5).len(), 8, other)
+    fault_unless(0 < typed_words::word(line, 5).len(), 8, other)
 }
 
 fn ration_in(line: &[u8]) -> Ration
@@ -151,7 +151,7 @@ pub fn read_line(line: &[u8]) -> Asked
     if 1024 <= line.len() {
         return Asked::Wrong(9);
     }
-    if reading::word(line, 0).len() == 0 {
+    if typed_words::word(line, 0).len() == 0 {
         return Asked::Nothing;
     }
     let fault = line_fault(line);
@@ -189,9 +189,9 @@ fn put_shown(out: &mut [u8], at: usize, x: f64) -> usize
 {
     let g = in_grams(x);
     if g.good {
-        return text::put_thousandths(out, at, g.value);
+        return printing::put_thousandths(out, at, g.value);
     }
-    text::put_byte(out, at, b'-')
+    printing::put_byte(out, at, b'-')
 }
 
 fn put_spaced_shown(out: &mut [u8], at: usize, x: f64) -> usize
@@ -199,7 +199,7 @@ fn put_spaced_shown(out: &mut [u8], at: usize, x: f64) -> usize
     ensures { λ r. ⌜ Put (now (out .entry)) (now (out .exit)) at (spacedShown x) r ⌝ }
     ensures { λ r. ⌜ r ≤ at + 25 ⌝ }
 {
-    let after = text::put_byte(out, at, b' ');
+    let after = printing::put_byte(out, at, b' ');
     put_shown(out, after, x)
 }
 
@@ -211,8 +211,8 @@ fn put_ration(out: &mut [u8], at: usize, r: Ration) -> usize
     let ge = put_spaced_shown(out, at, r.ge);
     let ym = put_spaced_shown(out, ge, r.ym);
     let head = put_spaced_shown(out, ym, r.head);
-    let after = text::put_byte(out, head, b' ');
-    text::put_decimal(out, after, r.days as u64)
+    let after = printing::put_byte(out, head, b' ');
+    printing::put_decimal(out, after, r.days as u64)
 }
 
 // After less before, from the numbers as they are shown, so that the columns add up.
@@ -224,13 +224,13 @@ fn put_difference(out: &mut [u8], at: usize, after: f64, before: f64) -> usize
     let a = in_grams(after);
     let b = in_grams(before);
     if !(a.good & b.good) {
-        return text::put_byte(out, at, b'-');
+        return printing::put_byte(out, at, b'-');
     }
     if a.value < b.value {
-        let minus = text::put_byte(out, at, b'-');
-        return text::put_thousandths(out, minus, b.value - a.value);
+        let minus = printing::put_byte(out, at, b'-');
+        return printing::put_thousandths(out, minus, b.value - a.value);
     }
-    text::put_thousandths(out, at, a.value - b.value)
+    printing::put_thousandths(out, at, a.value - b.value)
 }
 
 // The kg before the change and the difference; a refused slip has dashes.
@@ -240,10 +240,10 @@ fn put_compared(out: &mut [u8], at: usize, s: Slip, before: f64) -> usize
     ensures { λ r. ⌜ r ≤ at + 51 ⌝ }
 {
     if s.code != 0 {
-        return text::put_text(out, at, b" - -");
+        return printing::put_text(out, at, b" - -");
     }
     let kg = put_spaced_shown(out, at, before);
-    let space = text::put_byte(out, kg, b' ');
+    let space = printing::put_byte(out, kg, b' ');
     put_difference(out, space, s.kg, before)
 }
 
@@ -254,9 +254,9 @@ pub fn put_slip(out: &mut [u8], at: usize, s: Slip, before: f64) -> usize
     ensures { λ r. ⌜ r ≤ at + 193 ⌝ }
 {
     let ration = s.ration;
-    let code = text::put_decimal(out, at, s.code as u64);
+    let code = printing::put_decimal(out, at, s.code as u64);
     let days = put_ration(out, code, ration);
     let kg = put_spaced_shown(out, days, s.kg);
     let both = put_compared(out, kg, s, before);
-    text::put_byte(out, both, b'\n')
+    printing::put_byte(out, both, b'\n')
 }

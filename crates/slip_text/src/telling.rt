@@ -2,8 +2,8 @@
 ghost use mathlib.Core.Path.{_≡_};
 ghost use Prim.Native.Nat.{_-_, _≤_};
 ghost use lib.ListN.{length, take};
-ghost use Rattle.reading.specs.Words.{nthWord};
-ghost use Rattle.text.specs.Said.{Said};
+ghost use Rattle.typed_words.specs.Words.{nthWord};
+ghost use Rattle.printing.specs.Said.{Said};
 ghost use Rattle.slip.specs.Slip.{within, whatIf, double};
 ghost use Rattle.slip_text.specs.Told.{columns, numberRow, rowOf, expected, quoted, noNumber, wrongNumber, faultText, lineStart, unreadText};
 ghost use Rattle.slip_text.specs.Told.{outOfRation, changedPlace, outPlace, changedWord, outText, refusedText, refusalText, slipText};
@@ -21,16 +21,20 @@ fn say_quoted(out: &mut [u8], at: usize, word: &[u8]) -> usize
     requires { ⌜ at ≤ length (now out) ⌝ }
     ensures { λ r. ⌜ Said (now (out .entry)) (now (out .exit)) at (quoted (now (word .entry))) r ⌝ }
 {
-    let open = text::say(out, at, b"\"");
+    let open = printing::say(out, at, b"\"");
     let end = names::say_shown(out, open, word);
-    text::say(out, end, b"\"")
+    printing::say(out, end, b"\"")
 }
 
 fn say_column(out: &mut [u8], at: usize, place: usize) -> usize
     requires { ⌜ at ≤ length (now out) ⌝ }
     ensures { λ r. ⌜ Said (now (out .entry)) (now (out .exit)) at (nthWord place columns) r ⌝ }
 {
-    text::say(out, at, reading::word(b"GE Ym head days CHANGE X", place))
+    printing::say(
+        out,
+        at,
+        typed_words::word(b"GE Ym head days CHANGE X", place),
+    )
 }
 
 fn say_expected(out: &mut [u8], at: usize, row: usize) -> usize
@@ -39,8 +43,8 @@ fn say_expected(out: &mut [u8], at: usize, row: usize) -> usize
 {
     let table =
         b" 1 to 1000 MJ; 0.5 to 20 per cent; 1 to 20000; a whole number, 1 to 366; 0.5 to 2";
-    let end = text::say(out, at, b"; expected");
-    text::say(out, end, reading::part(table, b';', row))
+    let end = printing::say(out, at, b"; expected");
+    printing::say(out, end, typed_words::part(table, b';', row))
 }
 
 fn number_row(change: Change) -> usize
@@ -67,9 +71,9 @@ fn say_no_number(out: &mut [u8], at: usize, place: usize) -> usize
     ensures { λ r. ⌜ Said (now (out .entry)) (now (out .exit)) at (noNumber place) r ⌝ }
 {
     if place == 3 {
-        return text::say(out, at, b" is no count of days");
+        return printing::say(out, at, b" is no count of days");
     }
-    text::say(out, at, b" is no number")
+    printing::say(out, at, b" is no number")
 }
 
 fn say_wrong_number(out: &mut [u8], at: usize, line: &[u8], place: usize) -> usize
@@ -80,8 +84,8 @@ fn say_wrong_number(out: &mut [u8], at: usize, line: &[u8], place: usize) -> usi
     let change = named.change;
     let row = row_of(place, change);
     let name = say_column(out, at, place);
-    let colon = text::say(out, name, b": ");
-    let word = say_quoted(out, colon, reading::word(line, place));
+    let colon = printing::say(out, name, b": ");
+    let word = say_quoted(out, colon, typed_words::word(line, place));
     let none = say_no_number(out, word, place);
     say_expected(out, none, row)
 }
@@ -100,22 +104,22 @@ fn say_fault(out: &mut [u8], at: usize, line: &[u8], fault: usize) -> usize
     ensures { λ r. ⌜ Said (now (out .entry)) (now (out .exit)) at (faultText fault (now (line .entry))) r ⌝ }
 {
     if fault == 9 {
-        return text::say(
+        return printing::say(
             out,
             at,
             b"the line is too long: at most 1023 bytes before its #",
         );
     }
     if fault == 8 {
-        return text::say(out, at, b"expected GE Ym head days CHANGE X");
+        return printing::say(out, at, b"expected GE Ym head days CHANGE X");
     }
     if fault == 7 {
-        let end = text::say(out, at, b"one word too many: ");
-        return say_quoted(out, end, reading::word(line, 6));
+        let end = printing::say(out, at, b"one word too many: ");
+        return say_quoted(out, end, typed_words::word(line, 6));
     }
     if fault == 5 {
-        let end = say_quoted(out, at, reading::word(line, 4));
-        return text::say(out, end, b" is no change; expected feed, ym or head");
+        let end = say_quoted(out, at, typed_words::word(line, 4));
+        return printing::say(out, end, b" is no change; expected feed, ym or head");
     }
     say_wrong_number(out, at, line, place_of(fault))
 }
@@ -124,8 +128,8 @@ fn say_start(out: &mut [u8], at: usize, number: u64) -> usize
     requires { ⌜ at ≤ length (now out) ⌝ }
     ensures { λ r. ⌜ Said (now (out .entry)) (now (out .exit)) at (lineStart number) r ⌝ }
 {
-    let end = text::say(out, at, b"line ");
-    text::say_number(out, end, number)
+    let end = printing::say(out, at, b"line ");
+    printing::say_number(out, end, number)
 }
 
 fn say_unread(out: &mut [u8], at: usize, number: u64, line: &[u8], fault: usize) -> usize
@@ -133,9 +137,9 @@ fn say_unread(out: &mut [u8], at: usize, number: u64, line: &[u8], fault: usize)
     ensures { λ r. ⌜ Said (now (out .entry)) (now (out .exit)) at (unreadText number fault (now (line .entry))) r ⌝ }
 {
     let start = say_start(out, at, number);
-    let unread = text::say(out, start, b": not read: ");
+    let unread = printing::say(out, start, b": not read: ");
     let end = say_fault(out, unread, line, fault);
-    text::say(out, end, b"\n")
+    printing::say(out, end, b"\n")
 }
 
 // A NaN is in no range.
@@ -178,7 +182,7 @@ fn say_changed(out: &mut [u8], at: usize, code: u8) -> usize
     ensures { λ r. ⌜ Said (now (out .entry)) (now (out .exit)) at (changedWord code) r ⌝ }
 {
     if code == 15 {
-        return text::say(out, at, b"the changed ");
+        return printing::say(out, at, b"the changed ");
     }
     at
 }
@@ -191,7 +195,7 @@ fn say_out(out: &mut [u8], at: usize, code: u8, ration: Ration, change: Change) 
     let row = row_of(place, change);
     let changed = say_changed(out, at, code);
     let name = say_column(out, changed, place);
-    let end = text::say(out, name, b" is out of its range");
+    let end = printing::say(out, name, b" is out of its range");
     say_expected(out, end, row)
 }
 
@@ -207,11 +211,11 @@ fn say_refused(
     ensures { λ r. ⌜ Said (now (out .entry)) (now (out .exit)) at (refusedText number code ration change) r ⌝ }
 {
     let start = say_start(out, at, number);
-    let refused = text::say(out, start, b": refused ");
-    let digits = text::say_number(out, refused, code as u64);
-    let colon = text::say(out, digits, b": ");
+    let refused = printing::say(out, start, b": refused ");
+    let digits = printing::say_number(out, refused, code as u64);
+    let colon = printing::say(out, digits, b": ");
     let end = say_out(out, colon, code, ration, change);
-    text::say(out, end, b"\n")
+    printing::say(out, end, b"\n")
 }
 
 fn say_refusal(out: &mut [u8], number: u64, ration: Ration, change: Change) -> usize
@@ -251,7 +255,7 @@ fn say_slip(out: &mut [u8], ration: Ration, change: Change) -> usize
     let slip = slip::what_if(ration, change);
     let before = slip::what_if(ration, Change::Feed(1.0));
     let n = put_slip(&mut line, 0, slip, before.kg);
-    text::say(out, 0, first_of(&line, n))
+    printing::say(out, 0, first_of(&line, n))
 }
 
 // What standard output is told of a line.
@@ -284,7 +288,7 @@ pub fn counted(counts: Counts, line: &[u8]) -> Counts
         Asked::Wrong(_) => Counts {
             answered: counts.answered,
             refused: counts.refused,
-            unread: lines::one_more(counts.unread),
+            unread: text_lines::one_more(counts.unread),
         },
     }
 }
@@ -294,14 +298,14 @@ fn with_slip(counts: Counts, answered: bool) -> Counts
 {
     if answered {
         return Counts {
-            answered: lines::one_more(counts.answered),
+            answered: text_lines::one_more(counts.answered),
             refused: counts.refused,
             unread: counts.unread,
         };
     }
     Counts {
         answered: counts.answered,
-        refused: lines::one_more(counts.refused),
+        refused: text_lines::one_more(counts.refused),
         unread: counts.unread,
     }
 }
@@ -309,12 +313,12 @@ fn with_slip(counts: Counts, answered: bool) -> Counts
 pub fn say_counts(out: &mut [u8], counts: Counts) -> usize
     ensures { λ r. ⌜ Said (now (out .entry)) (now (out .exit)) 0 (countsText counts) r ⌝ }
 {
-    let answered = text::say_number(out, 0, counts.answered);
-    let first = text::say(out, answered, b" answered, ");
-    let refused = text::say_number(out, first, counts.refused);
-    let second = text::say(out, refused, b" refused, ");
-    let unread = text::say_number(out, second, counts.unread);
-    text::say(out, unread, b" not read\n")
+    let answered = printing::say_number(out, 0, counts.answered);
+    let first = printing::say(out, answered, b" answered, ");
+    let refused = printing::say_number(out, first, counts.refused);
+    let second = printing::say(out, refused, b" refused, ");
+    let unread = printing::say_number(out, second, counts.unread);
+    printing::say(out, unread, b" not read\n")
 }
 
 // The byte 0 where nothing failed and every line was answered, else 1.

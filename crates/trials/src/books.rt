@@ -79,7 +79,7 @@ fn sums_of(v: [u64; 22]) -> Figures {
 fn refusal_of(v: [u64; 22]) -> Refusal {
     Refusal {
         code: (v[18] % 256) as u8,
-        number: (v[19] % 65536) as u16,
+        accepted: (v[19] % 65536) as u16,
         field: (v[20] % 256) as u8,
     }
 }
@@ -149,7 +149,7 @@ fn put_sums(out: &mut [u8], at: usize, f: Figures) -> usize {
 }
 
 pub(crate) fn put_refusal(out: &mut [u8], at: usize, r: Refusal) -> usize {
-    let values = [r.code as u64, r.number as u64, r.field as u64];
+    let values = [r.code as u64, r.accepted as u64, r.field as u64];
     put_words(out, at, &values)
 }
 

@@ -12,7 +12,7 @@ use crate::shown::put_word;
 use crate::shown::put_words;
 use crate::words::read_numbers;
 use book::State;
-use writing::Answer;
+use make_record::Answer;
 
 // What one writing gave: the state, and the bytes of answer so far.
 struct Wrote {
@@ -38,7 +38,7 @@ fn write(
     at: usize,
 ) -> Wrote {
     fill(room);
-    let done = writing::write(state, kind, values, room);
+    let done = make_record::write(state, kind, values, room);
     let answer = done.answer;
     let next = done.state;
     let n = done.written;

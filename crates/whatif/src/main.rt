@@ -2,8 +2,8 @@
 use libc::STDERR_FILENO;
 use libc::STDIN_FILENO;
 use libc::STDOUT_FILENO;
-use lines::Cut;
 use slip_text::Counts;
+use text_lines::Cut;
 ghost use Prim.Native.Nat.{_≤_};
 ghost use lib.ListN.{length};
 
@@ -64,7 +64,7 @@ fn count(typed: &[u8], mut w: Work) -> Work {
 
 // A slip that did not go out is not counted.
 fn end_line(line: &[u8], w: Work) -> Work {
-    let typed = lines::whole(line, w.cut);
+    let typed = text_lines::whole(line, w.cut);
     let answered = answer(typed, w);
     if !answered.written {
         return answered;
@@ -82,7 +82,7 @@ fn next_line(mut w: Work) -> Work {
 fn step(line: &mut [u8], rest: &[u8], mut w: Work) -> Stepped
     ensures { λ r. ⌜ r .taken ≤ length (now (rest .entry)) ⌝ }
 {
-    let cutting = lines::cut_line(line, w.cut, rest);
+    let cutting = text_lines::cut_line(line, w.cut, rest);
     let cut = cutting.cut;
     w.cut = cut;
     if !cutting.ended {

@@ -3,9 +3,9 @@ use book::State;
 use libc::STDERR_FILENO;
 use libc::STDIN_FILENO;
 use libc::STDOUT_FILENO;
-use lines::Cut;
-use typist::Typing;
-use typist::Typist;
+use text_lines::Cut;
+use typed_book::Typing;
+use typed_book::Typist;
 ghost use Prim.Native.Nat.{_≤_};
 ghost use mathlib.Core.Path.{_≡_};
 ghost use lib.ListN.{length};
@@ -55,7 +55,7 @@ fn take_line(line: &mut [u8], rest: &[u8], from: Work) -> Work
     let mut out = [0u8; 28];
     let mut remarks = [0u8; 1024];
     let typing = from.typing;
-    let r = typist::type_part(typing, line, rest, &mut out, &mut remarks);
+    let r = typed_book::type_part(typing, line, rest, &mut out, &mut remarks);
     let next = r.typing;
     let mut w = from;
     w.typing = next;
@@ -120,7 +120,7 @@ fn last_line(line: &[u8], w: Work) -> Work {
     let mut remarks = [0u8; 1024];
     let typing = w.typing;
     let cut = typing.cut;
-    let l = typist::type_last(typing, line, &mut out, &mut remarks);
+    let l = typed_book::type_last(typing, line, &mut out, &mut remarks);
     let typist = l.typist;
     let moved = Typing {
         typist: typist,
@@ -135,10 +135,10 @@ fn say_end(w: Work) {
     let mut text = [0u8; 1024];
     let typing = w.typing;
     let t = typing.typist;
-    let n = typist::remarks::say_verdict(&mut text, t, w.good);
+    let n = typed_book::remarks::say_verdict(&mut text, t, w.good);
     io::write_all(STDERR_FILENO, up_to(&text, n));
     if os::arg_count() == 2 {
-        let status = [typist::remarks::status(t, w.good)];
+        let status = [typed_book::remarks::status(t, w.good)];
         io::write_all(STATUS_FILENO, &status);
     }
 }

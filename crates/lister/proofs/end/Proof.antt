@@ -2,7 +2,7 @@ use mathlib.Core.Path.{sym}
 use native.Mathlib.Omega.{arith}
 use borrow.Author.Needs.{needs}
 use lib.Seq.{length-take-le}
-use Rattle.text.proofs.Puts.{put-length}
+use Rattle.printing.proofs.Puts.{put-length}
 use Rattle.lister.proofs.end.Statement.{statement}
 use Rattle.lister.proofs.end.Tie as tie
 

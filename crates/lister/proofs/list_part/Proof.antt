@@ -4,7 +4,7 @@ use native.Mathlib.Omega.{arith}
 use borrow.Author.Needs.{needs}
 use lib.ListN.{length, drop, length-drop}
 use lib.Seq.{length-take-le}
-use Rattle.text.proofs.Puts.{put-length}
+use Rattle.printing.proofs.Puts.{put-length}
 use Rattle.lister.proofs.list_part.Statement.{statement}
 use Rattle.lister.proofs.list_part.Tie as tie
 

@@ -1,5 +1,5 @@
 use native.Mathlib.Omega.{arith}
-use Rattle.text.proofs.Puts.{and-then}
+use Rattle.printing.proofs.Puts.{and-then}
 use Rattle.listing.proofs.Lines.{end-closed, end-unfinished, end-refused}
 use Rattle.listing.proofs.put_end.Statement.{statement}
 use Rattle.listing.proofs.put_end.Tie as tie

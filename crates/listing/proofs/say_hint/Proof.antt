@@ -1,6 +1,6 @@
 -- By the test. Assumes nothing.
 use mathlib.Core.Path.{sym, _∙_}
-use Rattle.text.proofs.Sayings.{said-none}
+use Rattle.printing.proofs.Sayings.{said-none}
 use borrow.Author.Needs.{needs}
 use Rattle.listing.proofs.say_hint.Statement.{statement}
 use Rattle.listing.proofs.say_hint.Tie as tie

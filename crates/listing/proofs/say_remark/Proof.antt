@@ -1,5 +1,5 @@
 -- One text behind another. Assumes nothing.
-use Rattle.text.proofs.Sayings.{_⟫_}
+use Rattle.printing.proofs.Sayings.{_⟫_}
 use borrow.Author.Needs.{needs}
 use Rattle.listing.proofs.say_remark.Statement.{statement}
 use Rattle.listing.proofs.say_remark.Tie as tie

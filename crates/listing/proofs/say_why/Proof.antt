@@ -1,7 +1,7 @@
 -- Nothing where nothing is refused. Assumes nothing.
 use native.Mathlib.Omega.{arith}
 use borrow.Author.Tests.{eq-eqb, ne-eqb}
-use Rattle.text.proofs.Sayings.{_⟫_, said-none}
+use Rattle.printing.proofs.Sayings.{_⟫_, said-none}
 use Rattle.listing.specs.Remarks.{whyText}
 use borrow.Author.Needs.{needs}
 use Rattle.listing.proofs.say_why.Statement.{statement}

@@ -3,8 +3,8 @@ use mathlib.Core.Path.{_≡_, refl}
 use native.Mathlib.Omega.{arith}
 use native.Mathlib.Nat.{add-zero}
 use lib.ListN.{length, take, length-set}
-use Rattle.text.specs.Decimal.{Put}
-use Rattle.text.proofs.Puts.{none}
+use Rattle.printing.specs.Decimal.{Put}
+use Rattle.printing.proofs.Puts.{none}
 use Rattle.names.specs.Names.{shown}
 use Rattle.names.proofs.Shown.{one-more, all-shown}
 use borrow.Author.Needs.{needs}

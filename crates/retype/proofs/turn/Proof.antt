@@ -5,7 +5,7 @@ use native.Mathlib.Omega.{arith}
 use borrow.Author.Needs.{needs}
 use lib.ListN.{length, drop, length-drop}
 use lib.Seq.{length-take-le}
-use Rattle.text.proofs.Puts.{put-length}
+use Rattle.printing.proofs.Puts.{put-length}
 use Rattle.retype.proofs.turn.Statement.{statement}
 use Rattle.retype.proofs.turn.Tie as tie
 

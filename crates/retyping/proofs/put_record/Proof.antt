@@ -5,7 +5,7 @@ use borrow.Author.Needs.{needs}
 use lib.ListN.{length-take}
 use lib.Seq.{length-take-le}
 use Rattle.account.specs.Judge.{kindOf}
-use Rattle.text.proofs.Puts.{put-length}
+use Rattle.printing.proofs.Puts.{put-length}
 use Rattle.retyping.proofs.Tables.{name-short}
 use Rattle.retyping.proofs.Steps.{kind-byte, name-put, count-most, values-first, line-put}
 use Rattle.retyping.proofs.put_record.Statement.{statement}

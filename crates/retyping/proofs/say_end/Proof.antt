@@ -1,6 +1,6 @@
 -- By the stage. Assumes nothing.
 use borrow.Author.Needs.{needs}
-use Rattle.text.proofs.Sayings.{_⟫_}
+use Rattle.printing.proofs.Sayings.{_⟫_}
 use Rattle.retyping.proofs.Steps.{fits, end-refused, end-unfinished, end-closed, end-behind}
 use Rattle.retyping.proofs.say_end.Statement.{statement}
 use Rattle.retyping.proofs.say_end.Tie as tie

@@ -1,6 +1,6 @@
 -- One after the other. Assumes nothing.
 use borrow.Author.Needs.{needs}
-use Rattle.text.proofs.Sayings.{_⟫_}
+use Rattle.printing.proofs.Sayings.{_⟫_}
 use Rattle.retyping.proofs.Steps.{fits}
 use Rattle.retyping.proofs.say_refusal.Statement.{statement}
 use Rattle.retyping.proofs.say_refusal.Tie as tie

@@ -1,6 +1,6 @@
 -- Both numbers of an estimate, else dashes. Assumes nothing.
 use native.Mathlib.Omega.{arith}
-use Rattle.text.proofs.Puts.{and-then}
+use Rattle.printing.proofs.Puts.{and-then}
 use Rattle.slip_text.proofs.Showing.{put-dashes, put-both}
 use borrow.Author.Needs.{needs}
 use Rattle.slip_text.proofs.put_compared.Statement.{statement}

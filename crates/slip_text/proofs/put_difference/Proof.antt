@@ -1,6 +1,6 @@
 -- The difference of the two numbers shown, with its sign. Assumes nothing.
 use native.Mathlib.Omega.{arith}
-use Rattle.text.proofs.Puts.{and-then}
+use Rattle.printing.proofs.Puts.{and-then}
 use Rattle.slip_text.proofs.Showing.{put-none, put-less, put-more}
 use borrow.Author.Needs.{needs}
 use Rattle.slip_text.proofs.put_difference.Statement.{statement}

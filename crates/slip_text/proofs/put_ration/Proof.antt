@@ -1,5 +1,5 @@
 use native.Mathlib.Omega.{arith}
-use Rattle.text.proofs.Puts.{and-then}
+use Rattle.printing.proofs.Puts.{and-then}
 use borrow.Author.Needs.{needs}
 use Rattle.slip_text.proofs.put_ration.Statement.{statement}
 use Rattle.slip_text.proofs.put_ration.Tie as tie

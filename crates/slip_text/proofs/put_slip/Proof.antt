@@ -1,6 +1,6 @@
 -- The numbers of the slip, one behind the other. Assumes nothing.
 use native.Mathlib.Omega.{arith}
-use Rattle.text.proofs.Puts.{and-then}
+use Rattle.printing.proofs.Puts.{and-then}
 use borrow.Author.Needs.{needs}
 use Rattle.slip_text.proofs.put_slip.Statement.{statement}
 use Rattle.slip_text.proofs.put_slip.Tie as tie

@@ -1,4 +1,4 @@
-use Rattle.text.proofs.Puts.{and-then}
+use Rattle.printing.proofs.Puts.{and-then}
 use borrow.Author.Needs.{needs}
 use Rattle.slip_text.proofs.put_spaced_shown.Statement.{statement}
 use Rattle.slip_text.proofs.put_spaced_shown.Tie as tie

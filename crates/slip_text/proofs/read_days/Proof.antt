@@ -1,8 +1,8 @@
 use Prim.Native.Nat.{ℕ, _≤_, _<_}
 use mathlib.Core.Path.{_≡_, ap, _∙_}
 use mathlib.Core.List.{List}
-use Rattle.reading.specs.Numbers.{wholeOf, noWhole}
-use Rattle.reading.specs.declared.Whole.{Whole}
+use Rattle.typed_words.specs.Numbers.{wholeOf, noWhole}
+use Rattle.typed_words.specs.declared.Whole.{Whole}
 use Rattle.slip_text.specs.Asked.{upTo65535, daysOf}
 use borrow.Author.Tests.{le-leb, lt-leb}
 use borrow.Author.Needs.{needs}

@@ -10,7 +10,7 @@ use Rattle.account.proofs.Written.{total, none-written, line-written, t
 use Rattle.account.proofs.line.write.Statement.{statement}
 use Rattle.account.proofs.line.write.Tie as tie
 
-both : (c : tie.Else3) → c .before .before .before .before .before .before .before .before .before .before .before .args .j .line .len ≡ 100
+both : (c : tie.Else3) → c .before .before .before .before .before .before .before .before .before .before .before .args .j .line .given ≡ 100
 both c = both-are (c .before .before .before .before .before .before .before .before .before .before .before .args .out .now) (c .before .before .before .before .before .before .before .before .before .before .before .args .w) (c .before .before .before .before .before .before .before .before .before .before .before .args .j) (c .before .before .before .before .before .before .before .before .before .before .before .pre .0) (c .before .before .before .before .before .before .before .if1 .left) (c .before .before .before .before .if2 .left) (c .if3 .left) (c .before .before .before .before .before .before .before .before .before .before .before .pre .1)
 
 put-line-requires-2 : tie.Need-put-line-requires-2

@@ -3,7 +3,7 @@
 use Prim.Native.Nat.{_+_, _<_}
 use native.Mathlib.Omega.{arith}
 use borrow.Author.Needs.{needs}
-use Rattle.codec.specs.Codec.{room}
+use Rattle.codec.specs.Codec.{bytesHold}
 use Rattle.codec.proofs.BigEndian.{Bytes, valAt-lt, eight-bytes}
 use Rattle.codec.proofs.numbers.be64.Statement.{statement}
 use Rattle.codec.proofs.numbers.be64.Tie as tie
@@ -12,11 +12,11 @@ bytes : (c : tie.After-shared-slice-known) → Bytes (c .before .args .s .now)
 bytes c i = omega (arith, c .shared-slice-known .given i)
 
 short : (c : tie.After-be32) → c .be32 .result < 4294967296
-unfolding room
+unfolding bytesHold
 short c = omega (arith, c .be32 .ensures, valAt-lt (c .before .before .args .s .now) (bytes (c .before)) (c .before .before .args .at) 4)
 
 pub be64-spec : {M : Type 1} → statement M
-unfolding room
+unfolding bytesHold
 be64-spec =
     tie.close
     (tie.spec

@@ -7,14 +7,14 @@ use native.Mathlib.Nat.{sub-zero}
 use lib.ListN.{length}
 use lib.Seq.{sets}
 use Rattle.codec.specs.Codec.{bytesOf}
-use Rattle.codec.proofs.Stores.{twos, two-stored, twos-stored}
+use Rattle.codec.proofs.Stores.{twoByteFields, two-stored, twoByteFields-stored}
 use Rattle.codec.proofs.numbers.put2_each.Statement.{statement}
 use Rattle.codec.proofs.numbers.put2_each.Tie as tie
 
 abbrev Inv-loop : tie.InvT-loop
 Inv-loop out₀ at v p₀ i₀ out p i =
     (i ≤ length v) × (p + (length v - i) * 2 ≤ length out) × (length out ≡ length out₀)
-    × (sets out p (bytesOf (twos (length v - i)) v i) ≡ sets out₀ at (bytesOf (twos (length v)) v 0))
+    × (sets out p (bytesOf (twoByteFields (length v - i)) v i) ≡ sets out₀ at (bytesOf (twoByteFields (length v)) v 0))
 
 abbrev μ-loop : tie.MeasureT-loop
 μ-loop out₀ at v p₀ i₀ out p i = length v - i
@@ -44,4 +44,4 @@ put2-each-spec =
     (λ c.
     let l = c .before .loop in
     let v = c .before .before .before .before .args .v .now in
-    sym (twos-stored v (l .out) (length v) (l .p) (l .i) (omega arith)) ∙ l .inv .3))
+    sym (twoByteFields-stored v (l .out) (length v) (l .p) (l .i) (omega arith)) ∙ l .inv .3))

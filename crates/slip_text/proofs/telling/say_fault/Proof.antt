@@ -1,8 +1,8 @@
 -- By the fault. Assumes nothing.
 use borrow.Author.Tests.{eq-eqb, ne-eqb}
-use Rattle.text.proofs.Sayings.{_⟫_}
+use Rattle.printing.proofs.Sayings.{_⟫_}
 use Rattle.slip_text.specs.Told.{faultText}
-use Rattle.text.specs.Said.{Said}
+use Rattle.printing.specs.Said.{Said}
 use borrow.Author.Needs.{needs}
 use Rattle.slip_text.proofs.telling.say_fault.Statement.{statement}
 use Rattle.slip_text.proofs.telling.say_fault.Tie as tie

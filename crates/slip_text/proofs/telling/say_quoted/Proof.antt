@@ -1,5 +1,5 @@
 -- The parts, one behind the other. Assumes nothing.
-use Rattle.text.proofs.Sayings.{_⟫_}
+use Rattle.printing.proofs.Sayings.{_⟫_}
 use borrow.Author.Needs.{needs}
 use Rattle.slip_text.proofs.telling.say_quoted.Statement.{statement}
 use Rattle.slip_text.proofs.telling.say_quoted.Tie as tie

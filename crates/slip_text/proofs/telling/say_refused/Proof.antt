@@ -1,5 +1,5 @@
 -- The parts, one behind the other. Assumes nothing.
-use Rattle.text.proofs.Sayings.{_⟫_}
+use Rattle.printing.proofs.Sayings.{_⟫_}
 use Rattle.slip_text.specs.Told.{refusedText}
 use borrow.Author.Needs.{needs}
 use Rattle.slip_text.proofs.telling.say_refused.Statement.{statement}

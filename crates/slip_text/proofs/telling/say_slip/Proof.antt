@@ -1,8 +1,8 @@
 -- The slip's line, and the kg of feed times 1. Assumes nothing.
 use lib.Ieee.{ofBits, round}
 use mathlib.Core.Path.{_∙_}
-use Rattle.text.proofs.Sayings.{text-at-start}
-use Rattle.text.specs.Said.{Said}
+use Rattle.printing.proofs.Sayings.{text-at-start}
+use Rattle.printing.specs.Said.{Said}
 use Rattle.slip_text.proofs.Tellings.{slip-said}
 use borrow.Author.Needs.{needs}
 use Rattle.slip_text.proofs.telling.say_slip.Statement.{statement}

@@ -1,7 +1,0 @@
--- Assumes nothing.
-use mathlib.Core.Path.{refl}
-use Rattle.account.proofs.fair.counted.Statement.{statement}
-use Rattle.account.proofs.fair.counted.Tie as tie
-
-pub counted-spec : {M : Type 1} → statement M
-counted-spec = tie.close (tie.spec (λ c. refl))

@@ -1,8 +1,0 @@
--- In stage 1, or in another. Assumes nothing.
-use borrow.Author.Needs.{needs}
-use Rattle.account.proofs.Shortcuts.{open-started}
-use Rattle.account.proofs.fair.started.Statement.{statement}
-use Rattle.account.proofs.fair.started.Tie as tie
-
-pub started-spec : {M : Type 1} → statement M
-started-spec = tie.close (tie.spec (λ c. rw (c .if1 .taken) (open-started (c .before .args .records) (c .before .args .set))) (λ c κs. tt) (λ c κs. tt) (λ c. cc))

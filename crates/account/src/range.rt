@@ -1,0 +1,140 @@
+// The test of an account's ranges, clause by clause.
+use crate::Account;
+use crate::Days;
+use crate::Figures;
+use crate::Heading;
+use crate::Refusal;
+use crate::Subtotal;
+ghost use mathlib.Core.Path.{_≡_};
+ghost use mathlib.Core.Bool.{_&&_, _||_, not};
+ghost use lib.Dec.{eqb};
+ghost use Rattle.account.specs.Range.{countedTest, warmedTest, headedTest, unheadedTest, boundedTest, groupedTest, ungroupedTest, numberedTest, unrefusedTest, accountInRange};
+
+fn counted(stage: u8, records: u16) -> bool
+    ensures { λ r. ⌜ r ≡ countedTest stage records ⌝ }
+{
+    (stage <= 3)
+        & (records <= 4096)
+        & (!(stage == 0) | (records == 0))
+        & (!(stage == 1) | (1 <= records))
+        & (!(stage == 2) | (2 <= records))
+}
+
+fn warmed(set: u8, records: u16) -> bool
+    ensures { λ r. ⌜ r ≡ warmedTest set records ⌝ }
+{
+    (set <= 2) & (!(set == 0) | (records == 0)) & (!(records == 0) | (set == 0))
+}
+
+fn headed(h: Heading, d: Days, records: u16) -> bool
+    ensures { λ r. ⌜ r ≡ headedTest h d records ⌝ }
+{
+    (1 <= h.group)
+        & (h.group <= 65535)
+        & (1 <= h.class)
+        & (h.class <= 4)
+        & (h.head <= 20000)
+        & (d.enteric <= 366)
+        & (d.nitrogen <= 366)
+        & (d.pig <= 366)
+        & (2 <= records)
+}
+
+fn unheaded(h: Heading, d: Days) -> bool
+    ensures { λ r. ⌜ r ≡ unheadedTest h d ⌝ }
+{
+    (h.group == 0)
+        & (h.class == 0)
+        & (h.head == 0)
+        & (d.enteric == 0)
+        & (d.nitrogen == 0)
+        & (d.pig == 0)
+}
+
+fn bounded(f: Figures, records: u16) -> bool
+    ensures { λ r. ⌜ r ≡ boundedTest f records ⌝ }
+{
+    let n = records as u64;
+    (f.ch4 <= n * 100000000000)
+        & (f.n2o.0 <= n * 10000000000)
+        & (f.co2 <= n * 10000000000000)
+        & (f.excreted <= n * 100000000000)
+        & (f.land <= n * 100000000000)
+}
+
+fn grouped(s: Subtotal, records: u16) -> bool
+    ensures { λ r. ⌜ r ≡ groupedTest s records ⌝ }
+{
+    let n = records as u64;
+    (s.ch4 <= n * 100000000000)
+        & (s.n2o.0 <= n * 10000000000)
+        & (s.excreted <= n * 100000000000)
+        & (s.land <= n * 100000000000)
+}
+
+fn ungrouped(s: Subtotal) -> bool
+    ensures { λ r. ⌜ r ≡ ungroupedTest s ⌝ }
+{
+    (s.ch4 == 0) & (s.n2o.0 == 0) & (s.excreted == 0) & (s.land == 0)
+}
+
+fn numbered(r: Refusal, records: u16) -> bool
+    ensures { λ b. ⌜ b ≡ numberedTest r records ⌝ }
+{
+    (1 <= r.code)
+        & (r.code <= 12)
+        & (r.accepted == records)
+        & (r.field <= 12)
+        & (!(r.code == 7) | (1 <= r.field))
+        & ((r.code == 7) | (r.field == 0))
+}
+
+fn unrefused(r: Refusal) -> bool
+    ensures { λ b. ⌜ b ≡ unrefusedTest r ⌝ }
+{
+    (r.code == 0) & (r.accepted == 0) & (r.field == 0)
+}
+
+// Stage, records and warming set; those of an open book first, since all calls but a book's first and last have one.
+fn started(stage: u8, records: u16, set: u8) -> bool
+    ensures { λ r. ⌜ r ≡ (countedTest stage records && warmedTest set records) ⌝ }
+{
+    if stage == 1 {
+        return (1 <= records) & (records <= 4096) & (1 <= set) & (set <= 2);
+    }
+    counted(stage, records) & warmed(set, records)
+}
+
+// Heading, day sums and subtotal: without a group all zero, with one in their ranges.
+fn under(h: Heading, d: Days, s: Subtotal, records: u16) -> bool
+    ensures { λ r. ⌜ r ≡ ((headedTest h d records || unheadedTest h d) && (groupedTest s records && (not (eqb (h .group) 0) || ungroupedTest s))) ⌝ }
+{
+    if h.group == 0 {
+        return unheaded(h, d) & ungrouped(s);
+    }
+    headed(h, d, records) & grouped(s, records)
+}
+
+// The refusal of stage 3, or none.
+fn ended(stage: u8, r: Refusal, records: u16) -> bool
+    ensures { λ b. ⌜ b ≡ ((not (eqb stage 3) || numberedTest r records) && (eqb stage 3 || unrefusedTest r)) ⌝ }
+{
+    if stage == 3 {
+        return numbered(r, records);
+    }
+    unrefused(r)
+}
+
+pub fn test(a: Account) -> bool
+    ensures { λ r. ⌜ r ≡ accountInRange a ⌝ }
+{
+    let h = a.heading;
+    let d = a.days;
+    let s = a.subtotal;
+    let f = a.sums;
+    let r = a.refusal;
+    started(a.stage, a.records, a.set)
+        & bounded(f, a.records)
+        & under(h, d, s, a.records)
+        & ended(a.stage, r, a.records)
+}

@@ -1,0 +1,127 @@
+-- The writer and the reader agree. Document 02, W1: it "hands back the reader's next state, or gives the number the reader would give, writes
+-- nothing and keeps the state".
+-- Assumes nothing.
+use Prim.Native.Nat.{ℕ, _+_, _≤_}
+use mathlib.Core.Path.{_≡_, refl, _∙_}
+use mathlib.Core.List.{List, []}
+use mathlib.Core.Bool.{Bool, true, false, _&&_, _||_}
+use native.Mathlib.Omega.{arith}
+use mathlib.Core.Logic.{⊎-elim}
+use borrow.Author.Tests.{ne-eqb, eqb-true, eqb-false, ltb-true, le-ltb, le-leb, lt-leb}
+use lib.Dec.{ltb, leb, eqb}
+use lib.ListN.{length, replicate, length-replicate}
+use Rattle.codec.specs.Table.{fields, lengthOf, Of, lastKind}
+use Rattle.codec.specs.Codec.{pick, valAt, recordBytes}
+use Rattle.codec.proofs.Rows.{Fit, fit-kind}
+use Rattle.account.specs.declared.Account.{Account}
+use Rattle.account.specs.declared.Refusal.{Refusal}
+use Rattle.account.specs.Judge.{first, judge, weigh}
+use Rattle.account.specs.Told.{Kind}
+use Rattle.account.proofs.Tests.{or-cases}
+use Rattle.book.specs.declared.State.{State}
+use Rattle.book.specs.State.{InRange, inRange}
+use Rattle.book.specs.Run.{run}
+use Rattle.book.specs.Call as reader
+use Rattle.book.proofs.Choices.{and-false}
+use Rattle.book.proofs.RangeLaws.{range-parts}
+use Rattle.book.proofs.RunLeaves.{run-leaves}
+use Rattle.book.proofs.ReadingLaws.{reading-none}
+use Rattle.book.proofs.CallLaws.{done-ended}
+use Rattle.make_record.specs.declared.Answer.{Answer}
+use Rattle.make_record.specs.declared.Answer.the-variants.{Wrote, Refused}
+use Rattle.make_record.specs.Write.{numbers, next, refusals, answerOf, byAnswer, write}
+use Rattle.make_record.proofs.Answers.{Ready, written-so, by-13, by-own, by-3, by-4, by-reader, wrote}
+use Rattle.make_record.proofs.ReaderLaws.{run-one, call-one, is-kind, judge-is}
+
+-- ---- a record that is written
+
+module _ (s : State) (k : ℕ) (v : List ℕ) (room : ℕ) (e : write s k v room .answer ≡ Wrote) where
+  -- The state that the writer hands back is the one that the reader reaches on the bytes written, all of which it takes.
+  pub next-state : run s (write s k v room .bytes) ≡ record { state = write s k v room .state; lines = weigh (s .account) k v .lines; left = [] }
+  next-state =
+      let w = written-so s k v room e in
+      let j = judge-is k v (w .of) (s .account) (fit-kind v k (w .ranges)) in
+      rw (w .is) (run-one s (w .ready) (recordBytes k v) (is-kind k v (w .of) .whole) ∙ rw j)
+
+  -- A call of the reader with 100 bytes of room takes all of them and reaches it.
+  pub call-reaches : (lines : ℕ) → 100 ≤ lines
+      → (reader.call s (write s k v room .bytes) lines .state ≡ write s k v room .state) × (reader.call s (write s k v room .bytes) lines .taken ≡ length (write s k v room .bytes))
+  call-reaches lines h =
+      let w = written-so s k v room e in
+      let j = judge-is k v (w .of) (s .account) (fit-kind v k (w .ranges)) in
+      rw (w .is, call-one s (w .ready) (recordBytes k v) (is-kind k v (w .of) .whole) lines h) (rw j, refl)
+
+-- ---- a record that is refused
+
+-- A refusal writes nothing and keeps the state.
+pub refusal-keeps : (s : State) (k : ℕ) (v : List ℕ) (room : ℕ) (r : Refusal) → write s k v room .answer ≡ Refused r
+    → (write s k v room .state ≡ s) × (write s k v room .bytes ≡ [])
+unfolding write
+refusal-keeps s k v room r e = go (answerOf (refusals s k v room)) e
+  where
+    go : (a : Answer) → byAnswer a s k v .answer ≡ Refused r → (byAnswer a s k v .state ≡ s) × (byAnswer a s k v .bytes ≡ [])
+    go Wrote e = let z : _≡_ {A = ℕ} 0 1 = cc in absurd (omega arith)
+    go (Refused q) e = (refl, refl)
+
+-- what the reader says by the account that it reaches
+abbrev pub saying : Account → Answer
+saying a = pick (eqb (a .stage) 3) (Refused (a .refusal)) Wrote
+
+module _ (s : State) (y : Ready s) (k : ℕ) (v : List ℕ) (room : ℕ) where
+  -- Of values that fit their bytes, with room for the record, the writer refuses exactly those whose record the reader refuses, with the
+  -- reader's number, records and field.
+  pub refuses-as-reader : Of k v → Fit (fields k) v 0 → 2 + lengthOf k ≤ room → write s k v room .answer ≡ saying (run s (recordBytes k v) .state .account)
+  refuses-as-reader o f h =
+      rw (run-one s y (recordBytes k v) (is-kind k v o .whole), judge-is k v o (s .account) f) (go (eqb (next s k v .stage) 3) refl)
+    where
+      go : (b : Bool) → eqb (next s k v .stage) 3 ≡ b → write s k v room .answer ≡ pick b (Refused (next s k v .refusal)) Wrote
+      go true e = rw (by-reader s k v room y o (next s k v) refl (eqb-true _ _ e))
+      go false e = rw (wrote s k v room y o (next s k v) refl (eqb-false _ _ e) h)
+
+  -- r is any whole record of version 1 and that kind
+  module _ (r : List ℕ) (w : Kind k r) where
+    -- For a kind that there is not the writer gives what the reader gives for any record of that kind.
+    pub kind-as-reader : ltb k 1 || ltb lastKind k ≡ true → write s k v room .answer ≡ Refused (judge (s .account) r .account .refusal)
+    unfolding judge first
+    kind-as-reader e = rw (by-3 s k v room y e, w .version, w .kind, other k e)
+      where
+        other : (n : ℕ) → ltb n 1 || ltb lastKind n ≡ true → leb 1 n && leb n 8 ≡ false
+        other n e =
+            ⊎-elim
+            (λ (g : ltb n 1 ≡ true). rw (lt-leb 1 n (ltb-true _ _ g)))
+            (λ (g : ltb lastKind n ≡ true). rw (lt-leb n 8 (ltb-true _ _ g)) (and-false (leb 1 n)))
+            (or-cases (ltb n 1) (ltb lastKind n) e)
+
+    -- For a wrong count of values the writer gives what the reader gives for any record of that kind that is not of the kind's length.
+    pub count-as-reader : 1 ≤ k → k ≤ lastKind → (length v ≡ length (fields k) → ⊥) → (valAt r 0 2 ≡ lengthOf k → ⊥)
+        → write s k v room .answer ≡ Refused (judge (s .account) r .account .refusal)
+    unfolding judge first
+    count-as-reader l m n h =
+        let b : ltb k 1 || ltb lastKind k ≡ false = rw (le-ltb _ _ l, le-ltb _ _ m) in
+        rw (by-4 s k v room y b n, w .version, w .kind, le-leb _ _ l, le-leb _ _ m, ne-eqb _ _ h)
+
+-- ---- a state that can't be written to
+
+-- For a state out of range the writer says what a call of the reader says: 13, with no record and no field.
+pub outside-as-reader : (s : State) (k : ℕ) (v : List ℕ) (room : ℕ) (xs : List ℕ) (lines : ℕ) → inRange s ≡ false
+    → numbers (write s k v room .answer) ≡ reader.numbers (reader.call s xs lines .answer)
+unfolding reader.call
+outside-as-reader s k v room xs lines e = rw (by-13 s k v room e, e)
+
+-- For a refused state too: the refusal that the state holds.
+pub own-as-reader : (s : State) (k : ℕ) (v : List ℕ) (room : ℕ) (xs : List ℕ) (lines : ℕ) → inRange s ≡ true → s .account .stage ≡ 3
+    → numbers (write s k v room .answer) ≡ reader.numbers (reader.call s xs lines .answer)
+unfolding reader.answerOf
+own-as-reader s k v room xs lines r e =
+    let d = rw length-replicate at (done-ended (reading-none xs (replicate lines 0) s (range-parts s r)) (omega arith)) in
+    rw (by-own s k v room r e, d, e)
+
+-- ---- states stay in range
+
+-- From a state in range the writer hands back one.
+pub stays-in-range : (s : State) (k : ℕ) (v : List ℕ) (room : ℕ) → InRange s → InRange (write s k v room .state)
+stays-in-range s k v room i = go (write s k v room .answer) refl
+  where
+    go : (a : Answer) → write s k v room .answer ≡ a → InRange (write s k v room .state)
+    go Wrote e = let n = run-leaves s (write s k v room .bytes) i .range in rw (next-state s k v room e) at n
+    go (Refused r) e = rw (refusal-keeps s k v room r e .0) i

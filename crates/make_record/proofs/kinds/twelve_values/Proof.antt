@@ -1,0 +1,23 @@
+-- The values, one by one. Assumes nothing.
+use native.Mathlib.Omega.{arith}
+use Rattle.make_record.proofs.Listed.{listed}
+use Rattle.make_record.proofs.kinds.twelve_values.Statement.{statement}
+use Rattle.make_record.proofs.kinds.twelve_values.Tie as tie
+
+pub twelve-values-spec : {M : Type 1} → statement M
+twelve-values-spec =
+    tie.close
+    (tie.spec
+    (λ c. omega arith)
+    (λ c. omega arith)
+    (λ c. omega arith)
+    (λ c. omega arith)
+    (λ c. omega arith)
+    (λ c. omega arith)
+    (λ c. omega arith)
+    (λ c. omega arith)
+    (λ c. omega arith)
+    (λ c. omega arith)
+    (λ c. omega arith)
+    (λ c. omega arith)
+    (λ c. listed 12 _ (c .before .before .before .before .before .before .before .before .before .before .before .before .pre)))

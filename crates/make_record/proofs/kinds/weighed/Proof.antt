@@ -1,0 +1,43 @@
+-- What the kind's own function tells. Assumes nothing.
+use mathlib.Core.Path.{_≡_, refl}
+use Rattle.codec.specs.Table.{table}
+use Rattle.codec.proofs.Rows.{eighth}
+use Rattle.make_record.proofs.ByKind.{counted, told}
+use Rattle.make_record.proofs.kinds.weighed.Statement.{statement}
+use Rattle.make_record.proofs.kinds.weighed.Tie as tie
+
+eight : (c : tie.At-match-rest) → c .before .before .args .kind ≡ 8
+eight c =
+    let r = c .match .rest in
+    let o = c .before .before .pre .2 in
+    eighth _ (o .least) (o .most) (r .0 .0 .0 .0 .0 .0 .1) (r .0 .0 .0 .0 .0 .1) (r .0 .0 .0 .0 .1) (r .0 .0 .0 .1) (r .0 .0 .1) (r .0 .1) (r .1)
+
+pub weighed-spec : {M : Type 1} → statement M
+unfolding table
+weighed-spec =
+    tie.close
+    (tie.spec
+    (λ c κs. counted 1 (c .match .keys1) 3 refl (c .before .before .pre .2))
+    (λ c κs. (c .before .before .before .pre .0, c .before .before .before .pre .1))
+    (λ c κs. counted 2 (c .match .keys2) 3 refl (c .before .before .pre .2))
+    (λ c κs. (c .before .before .before .pre .0, c .before .before .before .pre .1))
+    (λ c κs. counted 3 (c .match .keys3) 3 refl (c .before .before .pre .2))
+    (λ c κs. (c .before .before .before .pre .0, c .before .before .before .pre .1))
+    (λ c κs. counted 4 (c .match .keys4) 9 refl (c .before .before .pre .2))
+    (λ c κs. (c .before .before .before .pre .0, c .before .before .before .pre .1))
+    (λ c κs. counted 5 (c .match .keys5) 12 refl (c .before .before .pre .2))
+    (λ c κs. (c .before .before .before .pre .0, c .before .before .before .pre .1))
+    (λ c κs. counted 6 (c .match .keys6) 3 refl (c .before .before .pre .2))
+    (λ c κs. (c .before .before .before .pre .0, c .before .before .before .pre .1))
+    (λ c κs. counted 7 (c .match .keys7) 1 refl (c .before .before .pre .2))
+    (λ c κs. (c .before .before .before .pre .0, c .before .before .before .pre .1))
+    (λ c κs. counted 8 (eight c) 1 refl (c .before .before .pre .2))
+    (λ c κs. (c .before .before .before .pre .0, c .before .before .before .pre .1))
+    (λ c. told 1 (c .before .before .match .keys1) (c .before .three-values .ensures) _ (c .weigh .ensures))
+    (λ c. told 2 (c .before .before .match .keys2) (c .before .three-values2 .ensures) _ (c .weigh2 .ensures))
+    (λ c. told 3 (c .before .before .match .keys3) (c .before .three-values3 .ensures) _ (c .weigh3 .ensures))
+    (λ c. told 4 (c .before .before .match .keys4) (c .before .nine-values .ensures) _ (c .weigh4 .ensures))
+    (λ c. told 5 (c .before .before .match .keys5) (c .before .twelve-values .ensures) _ (c .weigh5 .ensures))
+    (λ c. told 6 (c .before .before .match .keys6) (c .before .three-values4 .ensures) _ (c .weigh6 .ensures))
+    (λ c. told 7 (c .before .before .match .keys7) (c .before .one-value .ensures) _ (c .weigh7 .ensures))
+    (λ c. told 8 (eight (c .before .before)) (c .before .one-value2 .ensures) _ (c .weigh8 .ensures)))

@@ -1,0 +1,21 @@
+-- The digits are those of the number. Assumes nothing.
+use mathlib.Core.Path.{_∙_}
+use borrow.Author.Needs.{needs}
+use Rattle.printing.specs.Said.{Said}
+use Rattle.printing.proofs.Sayings.{text-at-start}
+use Rattle.printing.proofs.say_number.Statement.{statement}
+use Rattle.printing.proofs.say_number.Tie as tie
+
+pub say-number-spec : {M : Type 1} → statement M
+say-number-spec =
+    tie.close
+    (tie.spec
+    (λ c. search needs)
+    (λ c κs. search needs)
+    (λ c. search needs)
+    (λ c κs. search needs)
+    (λ c κs. search needs)
+    (λ c. search needs)
+    (λ c.
+    let digits = c .before .before .before .first-of .ensures ∙ text-at-start (c .before .before .before .before .before .before .before .put-decimal .ensures .0) in
+    rw digits at (c .before .before .say .ensures)))

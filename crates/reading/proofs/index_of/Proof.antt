@@ -1,7 +1,0 @@
-use Rattle.reading.proofs.Names.{found}
-use borrow.Author.Needs.{needs}
-use Rattle.reading.proofs.index_of.Statement.{statement}
-use Rattle.reading.proofs.index_of.Tie as tie
-
-pub index-of-spec : {M : Type 1} → statement M
-index-of-spec = tie.close (tie.spec (λ c κs. search needs) (λ c. (found _ _ _ (c .find .ensures .0), search needs)))

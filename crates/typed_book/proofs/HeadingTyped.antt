@@ -1,0 +1,303 @@
+-- The heading law for typed lines (specs/Headings.antt).
+-- Assumes nothing.
+use Prim.Native.Nat.{ℕ, suc, _+_, _≤_, _<_}
+use native.Mathlib.Omega.{arith}
+use mathlib.Core.Path.{_≡_, refl, sym, ap, _∙_}
+use mathlib.Core.List.{List, [], _∷_}
+use mathlib.Core.Bool.{Bool, true, false, _&&_, _||_, not}
+use mathlib.Core.Logic.{_⊎_, inl, inr, ⊎-elim}
+use borrow.Author.Tests.{eq-eqb, ne-eqb, eqb-true, eqb-false, leb-true, not-true, not-false, ltb-false, le-ltb, lt-ltb}
+use lib.ListN.{length, getD}
+use lib.Dec.{eqb, leb, ltb}
+use Rattle.codec.specs.Codec.{pick, recordBytes}
+use Rattle.account.specs.declared.Account.{Account}
+use Rattle.account.specs.Judge.{Step, headingServes, inPlace, accepted, weigh}
+use Rattle.account.specs.Sorts.{sortOf}
+use Rattle.account.proofs.Sorts.{by-sort, heads-two}
+use Rattle.account.proofs.Tests.{by-test, and-l, and-r, or-l, or-r}
+use Rattle.account.specs.declared.Refusal.{Refusal}
+use Rattle.account.specs.Judge.{noRecord}
+use Rattle.account.proofs.Keeps.{clear, in-range-none}
+use Rattle.book.proofs.RangeLaws.{range-test, range-idle}
+use Rattle.book.specs.declared.State.{State}
+use Rattle.book.specs.State.{InRange, inRange, noRecordYet}
+use Rattle.make_record.specs.declared.Answer.{Answer}
+use Rattle.make_record.specs.declared.Answer.the-variants as answers
+use Rattle.make_record.specs.Write as writer
+use Rattle.make_record.proofs.Answers.{Written-so, not-refused, written-so}
+use Rattle.make_record.proofs.AsReader.{stays-in-range}
+use Rattle.typed_line.specs.declared.Entry.{Entry}
+use Rattle.typed_line.specs.declared.Said.{Said}
+use Rattle.typed_line.specs.declared.Said.the-variants as said
+use Rattle.typed_line.specs.Line.{lineOf, entry, completedOf, valuesIn, writeEntry}
+use Rattle.text_lines.specs.Lines.{oneMore}
+use Rattle.text_lines.specs.Parts.{Numbered, numbered}
+use Rattle.typed_book.specs.declared.Typist.{Typist}
+use Rattle.typed_book.specs.declared.Fate.{Fate}
+use Rattle.typed_book.specs.declared.Fate.the-variants.{Nothing, Unread, Withheld, Without, Refused, Wrote}
+use Rattle.typed_book.specs.Typist.{inGroup, mayHead, beginning, notRead, refusedAt, writtenAs, withheld, headless, Turn, byAnswer, byWrite, recordTurn, bySaid, turn}
+use Rattle.typed_book.specs.Remarks.{kindWritten}
+use Rattle.typed_book.specs.Text.{lineTurn, typedBy}
+use Rattle.typed_book.specs.Headings.{Mark, none, unknown, heading, markSaid, markLine, textOf, lastMark, lastHeading, Under}
+
+-- ---- kinds
+
+group-no-head : (k : ℕ) → inGroup k ≡ true → (eqb k 2 ≡ false) × (mayHead k ≡ false)
+group-no-head k g =
+    let low = leb-true 3 k (and-l (leb 3 k) (leb k 5) g) in
+    let high = leb-true k 5 (and-r (leb 3 k) (leb k 5) g) in
+    let two : eqb k 2 ≡ false = ne-eqb k 2 (λ (e : k ≡ 2). omega arith) in
+    (two, rw (two, le-ltb k 1 (omega arith), le-ltb 8 k (omega arith)))
+
+-- ---- what a written record does to the heading
+
+-- any record but a heading keeps it
+heading-after : (a : Account) (k : ℕ) (v : List ℕ) → (weigh a k v .account .stage ≡ 3 → ⊥) → (k ≡ 2 → ⊥) → weigh a k v .account .heading ≡ a .heading
+unfolding weigh accepted
+heading-after a k v h n =
+    rw (not-refused a k v h)
+    (by-sort (λ (s : Step). s .account .heading ≡ a .heading) (sortOf k) (λ _. refl) (λ e. absurd (n (heads-two k e))) (λ _. refl) (λ _. refl) (λ _. refl))
+
+-- a detail of the group is written under a heading only
+needs-class : (a : Account) (k : ℕ) (v : List ℕ) → (weigh a k v .account .stage ≡ 3 → ⊥) → inGroup k ≡ true → a .heading .class ≡ 0 → ⊥
+unfolding inPlace
+needs-class a k v h g z =
+    let place = clear a k v (not-refused a k v h) .passes .place in
+    let low = leb-true 3 k (and-l (leb 3 k) (leb k 5) g) in
+    let high = leb-true k 5 (and-r (leb 3 k) (leb k 5) g) in
+    let one : eqb k 1 ≡ false = ne-eqb k 1 (λ (e : k ≡ 1). omega arith) in
+    let serves = and-l (headingServes (a .heading .class) k) _ (rw one at place) in
+    no-class k low high (rw z at serves)
+  where
+    zero-one : false ≡ true → ⊥
+    zero-one q = let z : _≡_ {A = ℕ} 0 1 = cc in omega arith
+
+    by-tests : (b c : Bool) → (b ≡ false → c ≡ true) → pick b (leb 1 0 && leb 0 3) (pick c (eqb 0 4) true) ≡ true → ⊥
+    by-tests true c f q = zero-one q
+    by-tests false true f q = zero-one q
+    by-tests false false f q = zero-one (f refl)
+
+    no-class : (k : ℕ) → 3 ≤ k → k ≤ 5 → headingServes 0 k ≡ true → ⊥
+    no-class k low high q =
+        by-tests (eqb k 3 || eqb k 4) (eqb k 5)
+        (λ f. let three = eqb-false k 3 (or-l (eqb k 3) (eqb k 4) f) in let four = eqb-false k 4 (or-r (eqb k 3) (eqb k 4) f) in eq-eqb k 5 (only k low high three four)) q
+      where
+        only : (k : ℕ) → 3 ≤ k → k ≤ 5 → (k ≡ 3 → ⊥) → (k ≡ 4 → ⊥) → k ≡ 5
+        only k low high three four = omega arith
+
+-- ---- what is kept from line to line
+
+pub record Kept (m : Mark) (h : List ℕ) (t : Typist) : Type 0 where
+  pub range : InRange (t .state)
+  pub empty : t .state .count ≡ 0
+  pub under : t .lost ≡ 0 → t .state .account .stage < 2 → (t .state .account .heading .class ≡ 0) ⊎ Under m h
+
+-- a line that may have been a heading loses it
+still-lost : (b : Bool) (n lost : ℕ) (m : Mark) (h : List ℕ) (A : Type 0) → 1 ≤ n → pick b n lost ≡ 0 → (lost ≡ 0 → A ⊎ Under m h) → A ⊎ Under (pick b unknown m) h
+still-lost true n lost m h A l z f = absurd (omega arith)
+still-lost false n lost m h A l z f = f z
+
+-- a kind that the book has not is refused by 3
+three : (s : State) (k : ℕ) (v : List ℕ) (room : ℕ) → inRange s ≡ true → s .account .stage < 2 → s .count ≡ 0 → ltb k 1 || ltb 8 k ≡ true
+    → writer.write s k v room .answer ≡ answers.Refused (writer.refusalBy 3 (s .account .records))
+unfolding writer.write writer.refusals writer.answerOf
+three s k v room r early c g =
+    rw (r, ne-eqb (s .account .stage) 3 (λ (e : s .account .stage ≡ 3). omega arith), ne-eqb (s .account .stage) 2 (λ (e : s .account .stage ≡ 2). omega arith), c, g)
+
+completed-kind : (e : Entry) (records : ℕ) → completedOf e records .kind ≡ e .kind
+unfolding completedOf
+completed-kind e records =
+    by-test (λ (d : Entry). d .kind ≡ e .kind) (eqb (e .kind) 8 && eqb (e .count) 0) (λ t. sym (eqb-true (e .kind) 8 (and-l (eqb (e .kind) 8) (eqb (e .count) 0) t))) (λ f. refl)
+
+heading-complete : (e : Entry) (records : ℕ) → e .kind ≡ 2 → completedOf e records ≡ e
+unfolding completedOf
+heading-complete e records k = rw k
+
+-- what is kept behind a turn x of the entry e
+abbrev Keeps : Mark → List ℕ → Entry → Turn → Type 0
+Keeps m h e x = Kept (markSaid said.Record e m) (pick (eqb (kindWritten (x .fate)) 2) (x .bytes) h) (x .typist)
+
+module _ (m : Mark) (h : List ℕ) (t : Typist) (k : Kept m h t) (e : Entry) where
+  -- nothing but counts move, and the kind is no heading and one of the book's
+  stays : eqb (e .kind) 2 ≡ false → mayHead (e .kind) ≡ false → (x : Typist) → x .state ≡ t .state → x .lost ≡ t .lost → Kept (markSaid said.Record e m) h x
+  stays p q x a b =
+      rw (q, p)
+      (record {
+        range = rw a (k .range);
+        empty = rw a (k .empty);
+        under = λ z early. rw a (k .under (sym b ∙ z) (rw a at early));
+      })
+
+  withheld-keeps : withheld t e ≡ true → (x : Typist) → x .state ≡ t .state → x .lost ≡ t .lost → Kept (markSaid said.Record e m) h x
+  withheld-keeps g x a b =
+      let eight = eqb-true (e .kind) 8 (and-l (eqb (e .kind) 8) (eqb (t .state .account .stage) 1 && not (eqb (t .failed) 0)) g) in
+      stays (rw eight refl) (rw eight refl) x a b
+
+  headless-keeps : headless t e ≡ true → (x : Typist) → x .state ≡ t .state → x .lost ≡ t .lost → Kept (markSaid said.Record e m) h x
+  headless-keeps g x a b =
+      let p = group-no-head (e .kind) (and-l (inGroup (e .kind)) (not (eqb (t .lost) 0)) g) in
+      stays (p .0) (p .1) x a b
+
+  -- refused by the number code, which is 3 for a kind that the book has not
+  refused-keeps : (n : ℕ) → 1 ≤ n → (code : ℕ) → (t .state .account .stage < 2 → ltb (e .kind) 1 || ltb 8 (e .kind) ≡ true → code ≡ 3) → (x : Typist)
+      → x .state ≡ t .state → x .lost ≡ pick (eqb (e .kind) 2 || eqb code 3) n (t .lost) → Kept (markSaid said.Record e m) h x
+  refused-keeps n l code g x a b =
+      record {
+        range = rw a (k .range);
+        empty = rw a (k .empty);
+        under =
+            λ z early. rw a (marks (eqb (e .kind) 2) (ltb (e .kind) 1 || ltb 8 (e .kind)) (eqb code 3) (sym b ∙ z)
+            (λ o. eq-eqb code 3 (g (rw a at early) o)) (λ y. k .under y (rw a at early)));
+      }
+    where
+      marks : {A : Type 0} (two out three′ : Bool) → pick (two || three′) n (t .lost) ≡ 0 → (out ≡ true → three′ ≡ true) → (t .lost ≡ 0 → A ⊎ Under m h)
+          → A ⊎ Under (pick two (heading e) (pick (two || out) unknown m)) h
+      marks true out c z g f = absurd (omega arith)
+      marks false true c z g f = absurd (let y = rw (g refl) at z in omega arith)
+      marks false false true z g f = absurd (omega arith)
+      marks false false false z g f = f z
+
+  -- written: a heading is the one marked, and any other record keeps what was
+  wrote-keeps : (n : ℕ) → writeEntry (t .state) e 28 .answer ≡ answers.Wrote
+      → Kept (markSaid said.Record e m) (pick (eqb (e .kind) 2) (writeEntry (t .state) e 28 .bytes) h) (writtenAs t e (writeEntry (t .state) e 28 .state))
+  wrote-keeps n q =
+      let kind = completedOf e (t .state .account .records) .kind in
+      let v = valuesIn (completedOf e (t .state .account .records)) in
+      let so = written-so (t .state) kind v 28 q in
+      let same = completed-kind e (t .state .account .records) in
+      let range = stays-in-range (t .state) kind v 28 (k .range) in
+      record {
+        range = range;
+        empty = rw (so .is) refl;
+        under = λ z early. by-kind (so) (test (eqb (e .kind) 2)) z;
+      }
+    where
+      test : (b : Bool) → (b ≡ true) ⊎ (b ≡ false)
+      test true = inl refl
+      test false = inr refl
+
+      by-kind : Written-so (t .state) (completedOf e (t .state .account .records) .kind) (valuesIn (completedOf e (t .state .account .records))) 28
+          → (eqb (e .kind) 2 ≡ true) ⊎ (eqb (e .kind) 2 ≡ false) → pick (eqb (e .kind) 2) 0 (t .lost) ≡ 0
+          → (writeEntry (t .state) e 28 .state .account .heading .class ≡ 0)
+          ⊎ Under (markSaid said.Record e m) (pick (eqb (e .kind) 2) (writeEntry (t .state) e 28 .bytes) h)
+      by-kind so (inl y) z =
+          let two = eqb-true (e .kind) 2 y in
+          let whole = heading-complete e (t .state .account .records) two in
+          rw y
+          (inr (record { entry = e; marked = refl; is = two; written = ap (λ (x : writer.Write). x .bytes) (so .is) ∙ rw (whole, two) refl }))
+      by-kind so (inr y) z =
+          let not-two : completedOf e (t .state .account .records) .kind ≡ 2 → ⊥ = λ f. eqb-false (e .kind) 2 y (sym (completed-kind e (t .state .account .records)) ∙ f) in
+          let low = so .of .least in
+          let high = so .of .most in
+          let one : ltb (e .kind) 1 ≡ false = rw (← completed-kind e (t .state .account .records)) (le-ltb _ _ low) in
+          let last : ltb 8 (e .kind) ≡ false = rw (← completed-kind e (t .state .account .records)) (le-ltb _ _ high) in
+          let head : writeEntry (t .state) e 28 .state .account .heading ≡ t .state .account .heading =
+          ap (λ (x : writer.Write). x .state .account .heading) (so .is) ∙ heading-after (t .state .account) _ _ (so .still) not-two in
+          rw (y, one, last, head) (k .under (rw y at z) (so .ready .early))
+
+  judged-keeps : (n : ℕ) → 1 ≤ n → Keeps m h e (byWrite t n e (writeEntry (t .state) e 28))
+  judged-keeps n l = go (writeEntry (t .state) e 28 .answer) refl
+    where
+      go : (a : Answer) → writeEntry (t .state) e 28 .answer ≡ a
+          → Keeps m h e (byAnswer a t n e (writeEntry (t .state) e 28 .state) (writeEntry (t .state) e 28 .bytes))
+      go answers.Wrote q = wrote-keeps n q
+      go (answers.Refused r) q =
+          refused-keeps n l (r .code)
+          (λ early out. same-code (sym q ∙ three (t .state) _ _ 28 (range-test (t .state) (k .range)) early (k .empty)
+          (rw (completed-kind e (t .state .account .records)) out)))
+          (refusedAt t n (e .kind) (r .code)) refl refl
+        where
+          same-code : answers.Refused r ≡ answers.Refused (writer.refusalBy 3 (t .state .account .records)) → r .code ≡ 3
+          same-code f = let g : r ≡ writer.refusalBy 3 (t .state .account .records) = cc in ap (λ (x : Refusal). x .code) g
+
+  record-keeps : (n : ℕ) → 1 ≤ n → Keeps m h e (recordTurn t n e 28)
+  unfolding recordTurn
+  record-keeps n l =
+      by-test (Keeps m h e) (withheld t e) (λ g. withheld-keeps g _ refl refl)
+      (λ _. by-test (Keeps m h e) (headless t e) (λ g. headless-keeps g _ refl refl) (λ _. judged-keeps n l))
+
+-- ---- a line
+
+said-keeps : (m : Mark) (h : List ℕ) (t : Typist) → Kept m h t → (n : ℕ) → 1 ≤ n → (s : Said) (e : Entry)
+    → Kept (markSaid s e m) (pick (eqb (kindWritten (bySaid s t n e 28 .fate)) 2) (bySaid s t n e 28 .bytes) h) (bySaid s t n e 28 .typist)
+said-keeps m h t k n l said.Nothing e = k
+said-keeps m h t k n l said.Record e = record-keeps m h t k e n l
+said-keeps m h t k n l (said.Wrong kind place) e =
+    record {
+      range = k .range;
+      empty = k .empty;
+      under = λ z early. still-lost (mayHead kind) n (t .lost) m h _ l z (λ y. k .under y early);
+    }
+
+line-keeps : (m : Mark) (h : List ℕ) (t : Typist) → Kept m h t → (l : Numbered) → 1 ≤ l .number
+    → Kept (markLine m l) (pick (eqb (kindWritten (lineTurn t l .fate)) 2) (lineTurn t l .bytes) h) (lineTurn t l .typist)
+unfolding turn
+line-keeps m h t k l p = said-keeps m h t k (l .number) p (lineOf (textOf l) .said) (lineOf (textOf l) .entry)
+
+-- ---- all lines
+
+one-more : (n : ℕ) → 1 ≤ n → 1 ≤ oneMore n
+one-more n h = by-test (λ (x : ℕ). 1 ≤ x) (ltb n 18446744073709551615) (λ _. omega arith) (λ _. h)
+
+pub lines-keep : (lines : List (List ℕ)) (n : ℕ) → 1 ≤ n → (m : Mark) (h : List ℕ) (t : Typist) → Kept m h t
+    → Kept (lastMark m (numbered n lines)) (lastHeading h (typedBy t (numbered n lines) .turns)) (typedBy t (numbered n lines) .typist)
+unfolding numbered typedBy lastMark lastHeading
+lines-keep [] n p m h t k = k
+lines-keep (x ∷ xs) n p m h t k =
+    lines-keep xs (oneMore n) (one-more n p) _ _ _ (line-keeps m h t k (record { number = n; bytes = x }) p)
+
+pub kept-first : Kept none [] (beginning noRecordYet)
+kept-first = record { range = range-idle noRecord in-range-none; empty = refl; under = λ z early. inl refl }
+
+-- ---- a detail that is written
+
+-- the entry was judged, with the heading not lost, and was written
+pub record Judged (t : Typist) (k : ℕ) : Type 0 where
+  pub entry : Entry
+  pub kind : entry .kind ≡ k
+  pub kept : headless t entry ≡ false
+  pub wrote : writeEntry (t .state) entry 28 .answer ≡ answers.Wrote
+
+written-kind : (f : Fate) (k : ℕ) → f ≡ Wrote k → (j : ℕ) → f ≡ Wrote j → j ≡ k
+written-kind f k p j q = cc
+
+record-judged : (t : Typist) (n : ℕ) (e : Entry) (k : ℕ) → recordTurn t n e 28 .fate ≡ Wrote k → Judged t k
+unfolding recordTurn
+record-judged t n e k =
+    by-test (λ (x : Turn). x .fate ≡ Wrote k → Judged t k) (withheld t e) (λ _ q. absurd (let z : _≡_ {A = ℕ} 0 1 = cc in omega arith))
+    (λ _. by-test (λ (x : Turn). x .fate ≡ Wrote k → Judged t k) (headless t e) (λ _ q. absurd (let z : _≡_ {A = ℕ} 0 1 = cc in omega arith))
+    (λ g. go g (writeEntry (t .state) e 28 .answer) refl))
+  where
+    go : headless t e ≡ false → (a : Answer) → writeEntry (t .state) e 28 .answer ≡ a
+        → byAnswer a t n e (writeEntry (t .state) e 28 .state) (writeEntry (t .state) e 28 .bytes) .fate ≡ Wrote k → Judged t k
+    go g answers.Wrote q f = record { entry = e; kind = written-kind (Wrote (e .kind)) k f (e .kind) refl; kept = g; wrote = q }
+    go g (answers.Refused r) q f = absurd (let z : _≡_ {A = ℕ} 0 1 = cc in omega arith)
+
+said-judged : (s : Said) (t : Typist) (n : ℕ) (e : Entry) (k : ℕ) → bySaid s t n e 28 .fate ≡ Wrote k → Judged t k
+said-judged said.Nothing t n e k q = absurd (let z : _≡_ {A = ℕ} 0 1 = cc in omega arith)
+said-judged said.Record t n e k q = record-judged t n e k q
+said-judged (said.Wrong kind place) t n e k q = absurd (let z : _≡_ {A = ℕ} 0 1 = cc in omega arith)
+
+line-judged : (t : Typist) (l : Numbered) (k : ℕ) → lineTurn t l .fate ≡ Wrote k → Judged t k
+unfolding turn
+line-judged t l k q = said-judged (lineOf (textOf l) .said) t (l .number) (lineOf (textOf l) .entry) k q
+
+-- where the heading is kept, a written detail stands under it
+under-it : (m : Mark) (h : List ℕ) (t : Typist) → Kept m h t → (k : ℕ) → inGroup k ≡ true → Judged t k → Under m h
+under-it m h t kept k g j =
+    let so = written-so (t .state) _ _ 28 (j .wrote) in
+    let same = completed-kind (j .entry) (t .state .account .records) ∙ j .kind in
+    let found : t .lost ≡ 0 = not-lost (inGroup (j .entry .kind)) (rw (j .kind) g) (j .kept) in
+    ⊎-elim (λ z. absurd (needs-class (t .state .account) _ _ (so .still) (rw same g) z)) (λ u. u) (kept .under found (so .ready .early))
+  where
+    not-lost : (b : Bool) → b ≡ true → b && not (eqb (t .lost) 0) ≡ false → t .lost ≡ 0
+    not-lost true p q = eqb-true (t .lost) 0 (not-false _ q)
+    not-lost false p q = absurd (let z : _≡_ {A = ℕ} 0 1 = cc in omega arith)
+
+-- Every written detail of a typed book stands under the heading of the last line before it whose kind is a heading or none of the book's: that line says a
+-- heading, and its record is the last heading record written. The lines before it are any, with their numbers from 1 on.
+pub heading-typed : (lines : List (List ℕ)) (l : Numbered) (k : ℕ)
+    → lineTurn (typedBy (beginning noRecordYet) (numbered 1 lines) .typist) l .fate ≡ Wrote k → inGroup k ≡ true
+    → Under (lastMark none (numbered 1 lines)) (lastHeading [] (typedBy (beginning noRecordYet) (numbered 1 lines) .turns))
+heading-typed lines l k q g =
+    under-it _ _ _ (lines-keep lines 1 (omega arith) none [] (beginning noRecordYet) kept-first) k g (line-judged _ l k q)

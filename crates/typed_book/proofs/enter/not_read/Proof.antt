@@ -1,0 +1,15 @@
+-- Field by field. Assumes nothing.
+use borrow.Author.Needs.{needs}
+use Rattle.typed_book.proofs.enter.not_read.Statement.{statement}
+use Rattle.typed_book.proofs.enter.not_read.Tie as tie
+
+pub not-read-spec : {M : Type 1} → statement M
+not-read-spec =
+    tie.close
+    (tie.spec
+    (λ c κs. search needs)
+    (λ c κs. search needs)
+    (λ c κs. search needs)
+    (λ c κs. search needs)
+    (λ c κs. search needs)
+    (λ c. rw (c .one-more2 .ensures, c .before .one-more .ensures, c .before .before .first-failed .ensures, c .before .before .before .chosen .ensures, c .before .before .before .before .may-head .ensures)))

@@ -1,0 +1,14 @@
+-- Field by field. Assumes nothing.
+use borrow.Author.Needs.{needs}
+use Rattle.typed_book.proofs.enter.refused_at.Statement.{statement}
+use Rattle.typed_book.proofs.enter.refused_at.Tie as tie
+
+pub refused-at-spec : {M : Type 1} → statement M
+refused-at-spec =
+    tie.close
+    (tie.spec
+    (λ c κs. search needs)
+    (λ c κs. search needs)
+    (λ c κs. search needs)
+    (λ c κs. search needs)
+    (λ c. rw (c .one-more2 .ensures, c .before .one-more .ensures, c .before .before .first-failed .ensures, c .before .before .before .chosen .ensures)))

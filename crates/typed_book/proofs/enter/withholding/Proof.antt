@@ -1,0 +1,11 @@
+-- Field by field. Assumes nothing.
+use borrow.Author.Needs.{needs}
+use Rattle.typed_book.proofs.enter.withholding.Statement.{statement}
+use Rattle.typed_book.proofs.enter.withholding.Tie as tie
+
+pub withholding-spec : {M : Type 1} → statement M
+withholding-spec =
+    tie.close
+    (tie.spec
+    (λ c κs. search needs)
+    (λ c. rw (c .one-more .ensures)))

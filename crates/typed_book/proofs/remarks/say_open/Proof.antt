@@ -1,0 +1,18 @@
+-- Nothing where the book is not open. Assumes nothing.
+use native.Mathlib.Omega.{arith}
+use borrow.Author.Tests.{eq-eqb, ne-eqb}
+use Rattle.typed_book.specs.Remarks.{openText}
+use Rattle.printing.proofs.Sayings.{said-none}
+use borrow.Author.Needs.{needs}
+use Rattle.typed_book.proofs.remarks.say_open.Statement.{statement}
+use Rattle.typed_book.proofs.remarks.say_open.Tie as tie
+
+pub say-open-spec : {M : Type 1} → statement M
+unfolding openText
+say-open-spec =
+    tie.close
+    (tie.spec
+    (λ c κs. search needs)
+    (λ c. search needs)
+    (λ c. rw (eq-eqb _ _ (c .before .before .before .before .if1 .taken)) (c .before .before .say-group .ensures))
+    (λ c. rw (ne-eqb _ _ (c .if1 .left)) (said-none (omega arith))))

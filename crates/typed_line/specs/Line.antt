@@ -1,0 +1,105 @@
+-- Document 02, W1: "Advisers now type a book into one program". One record a line: the kind's name or number, then its values in the order of
+-- document 01 with blanks between; a line with no word says nothing. What stands behind a # is gone before a line comes here.
+use Prim.Native.Nat.{ℕ, zero, suc, _-_}
+use mathlib.Core.Bool.{true, _&&_}
+use mathlib.Core.List.{List, [], _∷_, _++_}
+use lib.ListN.{length, take, replicate}
+use lib.Dec.{eqb, leb}
+use Rattle.codec.specs.Codec.{pick}
+use Rattle.printing.specs.Ascii.{ascii}
+use Rattle.typed_words.specs.declared.Whole.{Whole}
+use Rattle.typed_words.specs.Words.{nthWord, sameText, lowered}
+use Rattle.typed_words.specs.Amounts.{amountOf}
+use Rattle.names.specs.Names.{decimalsAt}
+use Rattle.book.specs.declared.State.{State}
+use Rattle.make_record.specs.Write.{Write, write}
+use Rattle.typed_line.specs.declared.Values.{Values}
+use Rattle.typed_line.specs.declared.Entry.{Entry}
+use Rattle.typed_line.specs.declared.Line.{Line}
+use Rattle.typed_line.specs.declared.Said.{Said}
+use Rattle.typed_line.specs.declared.Said.the-variants.{Nothing, Record, Wrong}
+
+-- ---- the kind
+
+-- the names of the eight kinds, in the order of their numbers
+unfoldable pub names : List ℕ
+names = ascii "farm heading enteric cattle pig energy soil close"
+
+-- the place of the word w among the n words of line from the ith on, counted from 1; 0 where it is none of them
+unfoldable pub placeFrom : ℕ → ℕ → List ℕ → List ℕ → ℕ
+placeFrom zero i line w = 0
+placeFrom (suc n) i line w = pick (sameText w (nthWord i line)) (suc i) (placeFrom n (suc i) line w)
+
+-- a kind by its name, in capitals or not, or else by a whole number
+unfoldable pub kindOf : List ℕ → Whole
+kindOf w = pick (eqb (placeFrom 8 0 names (lowered w)) 0) (amountOf 0 w) (record { good = true; value = placeFrom 8 0 names (lowered w) })
+
+-- ---- the values
+
+-- the values read, and the place of the first word that is no whole number, counted from 1; 0 where each is one
+pub record Read : Type 0 where
+  pub values : List ℕ
+  pub wrong : ℕ
+
+abbrev pub nothingMore : Read
+nothingMore = record { values = []; wrong = 0 }
+
+abbrev pub wrongAt : ℕ → Read
+wrongAt place = record { values = []; wrong = place }
+
+abbrev pub with : ℕ → Read → Read
+with v r = record { values = v ∷ r .values; wrong = r .wrong }
+
+-- a word as the value of a kind's field i, counted from 0: digits alone are the book's unit, a number with a point the unit that people say
+abbrev pub valueAt : ℕ → ℕ → List ℕ → Whole
+valueAt kind i word = amountOf (decimalsAt kind i) word
+
+-- at most n values of a kind, from field i on: the words behind the kind's
+unfoldable pub valuesFrom : ℕ → ℕ → ℕ → List ℕ → Read
+valuesFrom zero i kind line = nothingMore
+valuesFrom (suc n) i kind line =
+    pick (eqb (length (nthWord (suc i) line)) 0) nothingMore
+    (pick (valueAt kind i (nthWord (suc i) line) .good)
+    (with (valueAt kind i (nthWord (suc i) line) .value) (valuesFrom n (suc i) kind line))
+    (wrongAt (suc (suc i))))
+
+-- the first 13, zeros behind
+abbrev pub padded : List ℕ → List ℕ
+padded vs = take 13 vs ++ replicate (13 - length vs) 0
+
+abbrev pub listed : Read → Values
+listed r = record { values = padded (r .values); count = length (r .values); wrong = r .wrong }
+
+-- ---- the line
+
+abbrev pub entry : ℕ → List ℕ → Entry
+entry kind vs = record { kind = kind; values = padded vs; count = length vs }
+
+-- a line that says no record
+abbrev pub noRecord : Said → Line
+noRecord said = record { said = said; entry = entry 0 [] }
+
+abbrev pub byValues : ℕ → Read → Line
+byValues kind r = pick (eqb (r .wrong) 0) (record { said = Record; entry = entry kind (r .values) }) (noRecord (Wrong kind (r .wrong)))
+
+abbrev pub byKind : Whole → List ℕ → Line
+byKind kind text = pick (kind .good) (byValues (kind .value) (valuesFrom 512 0 (kind .value) text)) (noRecord (Wrong 0 1))
+
+-- what a line says that has no comment: a line of 1,024 bytes or more is not read; the others have no more than 512 words
+unfoldable pub lineOf : List ℕ → Line
+lineOf text =
+    pick (leb 1024 (length text)) (noRecord (Wrong 0 0))
+    (pick (eqb (length (nthWord 0 text)) 0) (noRecord Nothing)
+    (byKind (kindOf (nthWord 0 text)) text))
+
+-- a close that is typed without its count has the records before it
+unfoldable pub completedOf : Entry → ℕ → Entry
+completedOf e records = pick (eqb (e .kind) 8 && eqb (e .count) 0) (entry 8 (records ∷ [])) e
+
+-- the values of an entry
+abbrev pub valuesIn : Entry → List ℕ
+valuesIn e = take (e .count) (e .values)
+
+-- what writing an entry after the state s gives, for a buffer of room bytes
+abbrev pub writeEntry : State → Entry → ℕ → Write
+writeEntry s e room = write s (completedOf e (s .account .records) .kind) (valuesIn (completedOf e (s .account .records))) room
