@@ -8,12 +8,17 @@ use mathlib.Core.Logic.{_⊎_, inl, inr}
 use native.Mathlib.Omega.{arith}
 use borrow.Author.Tests.{ltb-true, ltb-false}
 use lib.Dec.{ltb}
-use Rattle.codec.specs.Codec.{pick}
+use Rattle.base.specs.Choice.{pick}
+
+-- by cases on a test, with what it tells
+pub by-test : {P : Type 0} (b : Bool) → (b ≡ true → P) → (b ≡ false → P) → P
+by-test true f g = f refl
+by-test false f g = g refl
 
 -- what holds of both branches holds of the choice
-pub by-test : {A : Type 0} (P : A → Type 0) (b : Bool) {x y : A} → (b ≡ true → P x) → (b ≡ false → P y) → P (pick b x y)
-by-test P true f g = f refl
-by-test P false f g = g refl
+pub of-choice : {A : Type 0} (P : A → Type 0) (b : Bool) {x y : A} → (b ≡ true → P x) → (b ≡ false → P y) → P (pick b x y)
+of-choice P true f g = f refl
+of-choice P false f g = g refl
 
 -- no two constructors of Bool are equal
 pub no-bool : {A : Type 0} → false ≡ true → A
@@ -48,6 +53,18 @@ and-l false b e = e
 pub and-r : (a b : Bool) → a && b ≡ true → b ≡ true
 and-r true b e = e
 and-r false b e = no-bool e
+
+pub both : (a b : Bool) → a && b ≡ true → (a ≡ true) × (b ≡ true)
+both true b e = (refl, e)
+both false b e = no-bool e
+
+pub and-false : (a : Bool) → a && false ≡ false
+and-false true = refl
+and-false false = refl
+
+pub neither : (a b : Bool) → a || b ≡ false → (a ≡ false) × (b ≡ false)
+neither true b e = no-bool (sym e)
+neither false b e = (refl, e)
 
 -- a conjunction that fails although its first part holds fails by its second
 pub and-no : (a b : Bool) → a && b ≡ false → a ≡ true → b ≡ false

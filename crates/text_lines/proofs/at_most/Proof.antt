@@ -3,11 +3,11 @@ use mathlib.Core.Path.{sym}
 use native.Mathlib.Nat.{le-of-lt}
 use lib.Seq.{take-all, length-take-le}
 use borrow.Author.Needs.{needs}
-use Rattle.text_lines.proofs.first_of.Statement.{statement}
-use Rattle.text_lines.proofs.first_of.Tie as tie
+use Rattle.text_lines.proofs.at_most.Statement.{statement}
+use Rattle.text_lines.proofs.at_most.Tie as tie
 
-pub first-of-spec : {M : Type 1} → statement M
-first-of-spec =
+pub at-most-spec : {M : Type 1} → statement M
+at-most-spec =
     tie.close
     (tie.spec
     (λ c. sym (take-all _ _ (c .if1 .taken)))

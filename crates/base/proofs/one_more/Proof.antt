@@ -1,8 +1,8 @@
 -- The number goes up by one where it can. Assumes nothing.
 use borrow.Author.Tests.{lt-ltb, le-ltb}
 use borrow.Author.Needs.{needs}
-use Rattle.text_lines.proofs.one_more.Statement.{statement}
-use Rattle.text_lines.proofs.one_more.Tie as tie
+use Rattle.base.proofs.one_more.Statement.{statement}
+use Rattle.base.proofs.one_more.Tie as tie
 
 pub one-more-spec : {M : Type 1} → statement M
 one-more-spec =
