@@ -1,6 +1,6 @@
 /* host BOOKS: runs herd_desk on every book of the file and compares with what the second program says of it.
 
-   A line of the file is `book room number lines`, bytes as hex or `-`, numbers in hex (docs/notes-second.md). The book and the line
+   A line of the file is `book room number lines`, bytes as hex or `-`, numbers in hex (docs/TRIALS.md). The book and the line
    buffer stand between guard bytes, at every alignment in turn. */
 #include "herd_desk.h"
 
