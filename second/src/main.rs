@@ -8,8 +8,10 @@ mod dice;
 mod feed;
 mod figures;
 mod judge;
+mod kind;
 mod lister;
 mod parts;
+mod plain;
 mod record;
 mod slip;
 mod slips;
@@ -24,10 +26,6 @@ mod writes;
 
 #[cfg(test)]
 mod tests;
-#[cfg(test)]
-mod typed_tests;
-#[cfg(test)]
-mod writer_tests;
 
 use std::io::{self, BufRead, BufWriter, Read, Write};
 

@@ -1,8 +1,8 @@
 //! Document 02's W1: what is refused, in which order, and that what is written reads back.
 
 use crate::books::{after, closed_run, values_outside};
-use crate::cases::{place_of, plain_values, sample, under};
 use crate::dice::Dice;
+use crate::plain::{place_of, plain_values, sample, under};
 use crate::record::{fields_of, length_of, record_of};
 use crate::state::{Refusal, State, CLOSED, MOST_RECORDS, OPEN, REFUSED};
 use crate::states::{beside_bounds, right_state};
