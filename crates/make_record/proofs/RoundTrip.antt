@@ -11,7 +11,7 @@ use lib.Dec.{leb, eqb, lit<}
 use lib.ListN.{length, getD}
 use Rattle.base.specs.Choice.{pick}
 use Rattle.base.proofs.Tests.{and-l, and-r}
-use Rattle.codec.specs.Table.{fields, lengthOf, Of}
+use Rattle.codec.specs.Table.{fields, lengthOf, Of, isKind, lastKind}
 use Rattle.codec.specs.Codec.{valAt, recordBytes}
 use Rattle.codec.proofs.BigEndian.{Bytes, one-byte}
 use Rattle.codec.proofs.Values.{values-length}
@@ -49,7 +49,7 @@ not-refused a r h = go (eqb (first (refusals a r)) 0) _ refl h
 
 record Accepted (a : Account) (r : List ℕ) : Type 0 where
   version : versionOf r ≡ 1
-  kinds : leb 1 (kindOf r) && leb (kindOf r) 8 ≡ true
+  kinds : isKind (kindOf r) ≡ true
   long : valAt r 0 2 ≡ lengthOf (kindOf r)
 
 lead : (b : Bool) (n c : ℕ) → 0 < n → pick b n c ≡ 0 → (b ≡ false) × (c ≡ 0)
@@ -60,7 +60,7 @@ accepted-so : (a : Account) (r : List ℕ) → (judge a r .account .stage ≡ 3 
 unfolding first
 accepted-so a r h =
     let t2 = lead (not (eqb (versionOf r) 1)) 2 _ (lit< tt) (not-refused a r h) in
-    let t3 = lead (not (leb 1 (kindOf r) && leb (kindOf r) 8)) 3 _ (lit< tt) (t2 .1) in
+    let t3 = lead (not (isKind (kindOf r))) 3 _ (lit< tt) (t2 .1) in
     let t4 = lead (not (eqb (valAt r 0 2) (lengthOf (kindOf r)))) 4 _ (lit< tt) (t3 .1) in
     record { version = eqb-true _ _ (not-false _ (t2 .0)); kinds = not-false _ (t3 .0); long = eqb-true _ _ (not-false _ (t4 .0)) }
 
@@ -72,8 +72,8 @@ written-again s r room y b w h f =
     let v = valuesOf r in
     let t = accepted-so (s .account) r h in
     let o : Of k v = record {
-      least = leb-true _ _ (and-l (leb 1 k) (leb k 8) (t .kinds));
-      most = leb-true _ _ (and-r (leb 1 k) (leb k 8) (t .kinds));
+      least = leb-true _ _ (and-l (leb 1 k) (leb k lastKind) (t .kinds));
+      most = leb-true _ _ (and-r (leb 1 k) (leb k lastKind) (t .kinds));
       count = values-length (fields k) r 4;
     } in
     let e : judge (s .account) r ≡ weigh (s .account) k v =

@@ -17,7 +17,7 @@ use Rattle.printing.specs.Said.{Said}
 use Rattle.printing.proofs.Puts.{none, put-length, and-then}
 use Rattle.printing.specs.Ascii.{ascii}
 use Rattle.names.specs.Names.{kindName, sentence}
-use Rattle.codec.specs.Table.{table, fields, lengthOf}
+use Rattle.codec.specs.Table.{table, fields, lengthOf, isKind, lastKind}
 use Rattle.codec.specs.Codec.{valAt, valuesAt}
 use Rattle.codec.proofs.Values.{values-length}
 use Rattle.codec.proofs.BigEndian.{one-byte}
@@ -174,11 +174,11 @@ typable a r w h =
     )
     (no-refusal a r h) in
     let k = kindOf r in
-    let eight : leb 1 k && leb k 8 ≡ true = not-false _ (t .1 .0 (omega arith)) in
+    let eight : isKind k ≡ true = not-false _ (t .1 .0 (omega arith)) in
     let long : valAt r 0 2 ≡ lengthOf k = eqb-true _ _ (not-false _ (t .1 .1 .0 (omega arith))) in
     record {
-      least = leb-true _ _ (and-l (leb 1 k) (leb k 8) eight);
-      most = leb-true _ _ (and-r (leb 1 k) (leb k 8) eight);
+      least = leb-true _ _ (and-l (leb 1 k) (leb k lastKind) eight);
+      most = leb-true _ _ (and-r (leb 1 k) (leb k lastKind) eight);
       long = w .long ∙ ap (λ (x : ℕ). x + 2) long;
     }
 

@@ -11,6 +11,7 @@ use lib.ListN.{length, getD}
 use lib.Dec.{eqb, leb, ltb}
 use Rattle.base.specs.Choice.{pick, oneMore}
 use Rattle.base.proofs.Tests.{and-l, and-r, of-choice, or-l, or-r}
+use Rattle.codec.specs.Table.{lastKind}
 use Rattle.codec.specs.Codec.{recordBytes}
 use Rattle.account.specs.declared.Account.{Account}
 use Rattle.account.specs.Judge.{Step, headingServes, inPlace, accepted, weigh}
@@ -47,7 +48,7 @@ group-no-head k g =
     let low = leb-true 3 k (and-l (leb 3 k) (leb k 5) g) in
     let high = leb-true k 5 (and-r (leb 3 k) (leb k 5) g) in
     let two : eqb k 2 ≡ false = ne-eqb k 2 (λ (e : k ≡ 2). omega arith) in
-    (two, rw (two, le-ltb k 1 (omega arith), le-ltb 8 k (omega arith)))
+    (two, rw (two, le-ltb k 1 (omega arith), le-ltb lastKind k (omega arith)))
 
 -- ---- what a written record does to the heading
 
@@ -98,7 +99,7 @@ still-lost true n lost m h A l z f = absurd (omega arith)
 still-lost false n lost m h A l z f = f z
 
 -- a kind that the book has not is refused by 3
-three : (s : State) (k : ℕ) (v : List ℕ) (room : ℕ) → inRange s ≡ true → s .account .stage < 2 → s .count ≡ 0 → ltb k 1 || ltb 8 k ≡ true
+three : (s : State) (k : ℕ) (v : List ℕ) (room : ℕ) → inRange s ≡ true → s .account .stage < 2 → s .count ≡ 0 → ltb k 1 || ltb lastKind k ≡ true
     → writer.write s k v room .answer ≡ answers.Refused (writer.refusalBy 3 (s .account .records))
 unfolding writer.write writer.refusals writer.answerOf
 three s k v room r early c g =
@@ -139,14 +140,14 @@ module _ (m : Mark) (h : List ℕ) (t : Typist) (k : Kept m h t) (e : Entry) whe
       stays (p .0) (p .1) x a b
 
   -- refused by the number code, which is 3 for a kind that the book has not
-  refused-keeps : (n : ℕ) → 1 ≤ n → (code : ℕ) → (t .state .account .stage < 2 → ltb (e .kind) 1 || ltb 8 (e .kind) ≡ true → code ≡ 3) → (x : Typist)
+  refused-keeps : (n : ℕ) → 1 ≤ n → (code : ℕ) → (t .state .account .stage < 2 → ltb (e .kind) 1 || ltb lastKind (e .kind) ≡ true → code ≡ 3) → (x : Typist)
       → x .state ≡ t .state → x .lost ≡ pick (eqb (e .kind) 2 || eqb code 3) n (t .lost) → Kept (markSaid said.Record e m) h x
   refused-keeps n l code g x a b =
       record {
         range = rw a (k .range);
         empty = rw a (k .empty);
         under =
-            λ z early. rw a (marks (eqb (e .kind) 2) (ltb (e .kind) 1 || ltb 8 (e .kind)) (eqb code 3) (sym b ∙ z)
+            λ z early. rw a (marks (eqb (e .kind) 2) (ltb (e .kind) 1 || ltb lastKind (e .kind)) (eqb code 3) (sym b ∙ z)
             (λ o. eq-eqb code 3 (g (rw a at early) o)) (λ y. k .under y (rw a at early)));
       }
     where
@@ -190,7 +191,7 @@ module _ (m : Mark) (h : List ℕ) (t : Typist) (k : Kept m h t) (e : Entry) whe
           let low = so .of .least in
           let high = so .of .most in
           let one : ltb (e .kind) 1 ≡ false = rw (← completed-kind e (t .state .account .records)) (le-ltb _ _ low) in
-          let last : ltb 8 (e .kind) ≡ false = rw (← completed-kind e (t .state .account .records)) (le-ltb _ _ high) in
+          let last : ltb lastKind (e .kind) ≡ false = rw (← completed-kind e (t .state .account .records)) (le-ltb _ _ high) in
           let head : writeEntry (t .state) e 28 .state .account .heading ≡ t .state .account .heading =
           ap (λ (x : writer.Write). x .state .account .heading) (so .is) ∙ heading-after (t .state .account) _ _ (so .still) not-two in
           rw (y, one, last, head) (k .under (rw y at z) (so .ready .early))
