@@ -1,6 +1,7 @@
 pub mod Choices
 pub mod MovedBytes
 pub mod FrontLaws
+pub mod WholeRecordLaws
 pub mod RangeLaws
 pub mod RunLaws
 pub mod Longest
