@@ -14,6 +14,7 @@ pub fn damaged(seed: u64, index: u64) -> Vec<u8> {
     let dice = &mut dice;
     let start = State::default();
     let count = dice.between(1, 40);
+    let round = index / 100 * 3 + index % 100 / 30;
     match index % 100 {
         0 => Vec::new(),
         1 => closed_run(dice, &start, count),
@@ -29,8 +30,8 @@ pub fn damaged(seed: u64, index: u64) -> Vec<u8> {
             turned_over(dice, book)
         }
         7 => headless(dice),
-        8 => beside_the_most(dice, index / 100),
-        9 => beside_the_longest(dice, index / 100),
+        8 | 38 | 68 => beside_the_most(dice, round),
+        9 | 39 | 69 => beside_the_longest(dice, round),
         _ => spoilt(dice, count),
     }
 }

@@ -9,5 +9,6 @@ pub mod SalvagedAccepted
 pub mod Untouched
 pub mod KeptOrListed
 pub mod HeadingKept
+pub mod Told
 pub mod OneAnswer
-pub mod Sample
+pub mod Witnesses

@@ -1,8 +1,8 @@
 -- What a person is told of a salvage, on standard error: "record N: dropped CODE: " and words for each record of the list, then "K kept, D dropped",
 -- K without the close; or "refused 19" alone. And the byte of the exit status.
 -- Assumes nothing.
-use Prim.Native.Nat.{ℕ, zero, suc, _-_, _/_, _≤_}
-use mathlib.Core.List.{List, [], _++_}
+use Prim.Native.Nat.{ℕ, zero, suc, _-_, _/_}
+use mathlib.Core.List.{List, [], _∷_, _++_}
 use mathlib.Core.Bool.{Bool, true, false, _&&_}
 use lib.ListN.{length, drop}
 use lib.Dec.{ltb}
@@ -12,6 +12,7 @@ use Rattle.printing.specs.Decimal.{decimal}
 use Rattle.names.specs.Names.{sentence}
 use Rattle.salvaging.specs.declared.Salvaged.{Salvaged}
 use Rattle.salvaging.specs.declared.Salvaged.the-variants.{Saved, Refused}
+use Rattle.salvaging.specs.Salvage.{Entry}
 
 -- a record of the list: its number in the damaged book, the number that dropped it, and the sentence of that
 unfoldable pub droppedText : ℕ → ℕ → List ℕ
@@ -26,6 +27,11 @@ listTextBy (suc n) list = pick (ltb (length list) 9) [] (droppedText (valAt list
 -- all of them: there are no more of them than bytes
 unfoldable pub listText : List ℕ → List ℕ
 listText list = listTextBy (suc (length list)) list
+
+-- the lines of some entries, in order: what the text of their list is proved to be
+unfoldable pub entriesText : List Entry → List ℕ
+entriesText [] = []
+entriesText (e ∷ es) = droppedText (e .number) (e .code) ++ entriesText es
 
 -- how many records are kept: the close counts them, which the clean book ends with
 unfoldable pub keptIn : List ℕ → ℕ
