@@ -25,6 +25,8 @@ mod writer;
 mod writes;
 
 #[cfg(test)]
+mod salvage_tests;
+#[cfg(test)]
 mod tests;
 #[cfg(test)]
 mod typed_tests;

@@ -124,9 +124,8 @@ pub fn tell(damaged: &[u8]) -> Told {
     if found.has_no_farm() {
         return unsaved("refused 19\n");
     }
-    let line = |&(number, code): &Dropped| {
-        format!("record {number}: dropped {code}: {}\n", why(code))
-    };
+    let line =
+        |&(number, code): &Dropped| format!("record {number}: dropped {code}: {}\n", why(code));
     let mut said: String = found.dropped.iter().map(line).collect();
     said += &format!("{} kept, {} dropped\n", found.state.records, found.dropped.len());
     Told { book: found.book(), said, saved: true }

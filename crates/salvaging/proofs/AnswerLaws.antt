@@ -17,7 +17,8 @@ use Rattle.salvaging.specs.declared.Reading.{Reading}
 use Rattle.salvaging.specs.declared.passes.Sizes.{Sizes}
 use Rattle.salvaging.specs.declared.Salvaged.{Salvaged}
 use Rattle.salvaging.specs.declared.Salvaged.the-variants.{Saved}
-use Rattle.salvaging.specs.Salvage.{Entry, Found, start, found, bookOf, entryBytes, listOf, farmAmong, refusing, saving, Salvage, answering, salvageOf, laid, answerFor, bookAfter, listAfter, foundIn}
+use Rattle.salvaging.specs.Salvage.{Entry, Found, start, found, bookOf, entryBytes, listOf, farmAmong, refusing, saving, Salvage, answering}
+use Rattle.salvaging.specs.Salvage.{salvageOf, laid, answerFor, bookAfter, listAfter, foundIn}
 use Rattle.salvaging.specs.Inner.{Open, Measured}
 use Rattle.salvaging.proofs.FateLaws.{gets-none, first-farm, dropped-account, open-after}
 use Rattle.salvaging.proofs.TurnLaws.{by-records}
@@ -66,7 +67,8 @@ module _ (xs : List ℕ) (bookRoom listRoom : ℕ) (m : Sizes) (d : Measured (fo
   farm-is : farmAmong (foundIn start xs .kept) ≡ not (eqb (m .kept) 0)
   farm-is = rw (d .kept) (farmed start _ refl open-start)
 
-  room-is : ltb bookRoom (length (bookOf (foundIn start xs .kept))) || ltb listRoom (length (listOf (foundIn start xs .dropped))) ≡ ltb bookRoom (m .book) || ltb (listRoom / 9) (m .dropped)
+  room-is : ltb bookRoom (length (bookOf (foundIn start xs .kept))) || ltb listRoom (length (listOf (foundIn start xs .dropped)))
+      ≡ ltb bookRoom (m .book) || ltb (listRoom / 9) (m .dropped)
   room-is = rw (list-long, d .book, d .dropped, ninth)
 
   pub salvage-19 : m .kept ≡ 0 → salvageOf xs bookRoom listRoom ≡ refusing 19

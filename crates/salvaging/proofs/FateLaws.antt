@@ -70,7 +70,8 @@ code-is a r f h =
 -- where it is 0, no refusal's test holds
 clear : (a : Account) (r : List ℕ) → wouldGet a r ≡ 0 → Clear (refusals a r)
 clear a r =
-    first-clear (refusals a r) (omega arith, (omega arith, (omega arith, (omega arith, (omega arith, (omega arith, (omega arith, (omega arith, (omega arith, (omega arith, (omega arith, tt)))))))))))
+    first-clear (refusals a r)
+    (omega arith, (omega arith, (omega arith, (omega arith, (omega arith, (omega arith, (omega arith, (omega arith, (omega arith, (omega arith, (omega arith, tt)))))))))))
 
 pub below-4096 : (a : Account) (r : List ℕ) → wouldGet a r ≡ 0 → a .records < 4096
 below-4096 a r e = leb-false _ _ (clear a r e .1 .1 .1 .0 (omega arith))
@@ -103,7 +104,8 @@ pub first-farm : (a : Account) (r : List ℕ) → wouldGet a r ≡ 0 → a .reco
 unfolding inPlace
 first-farm a r e z = go (eqb (kindOf r) 1) refl (not-false _ (clear a r e .1 .1 .1 .1 .0 (omega arith)))
   where
-    go : (b : Bool) → eqb (kindOf r) 1 ≡ b → pick b (eqb (a .records) 0) (headingServes (a .heading .class) (kindOf r) && not (eqb (a .records) 0)) ≡ true → kindOf r ≡ 1
+    go : (b : Bool) → eqb (kindOf r) 1 ≡ b
+        → pick b (eqb (a .records) 0) (headingServes (a .heading .class) (kindOf r) && not (eqb (a .records) 0)) ≡ true → kindOf r ≡ 1
     go true k p = eqb-true _ _ k
     go false k p = no-bool ((ap (λ (n : ℕ). not (eqb n 0)) (sym z)) ∙ and-r (headingServes (a .heading .class) (kindOf r)) _ p)
 
@@ -208,7 +210,10 @@ module _ (s : Reading) (r : List ℕ) where
               → Open (record { account = pick b (judge (s .account) r .account) (s .account); lost = after s r .lost; number = after s r .number })
           go true d =
               let z = eqb-true _ _ d in
-              record { range = in-range-judge (s .account) r (o .range) (o .early); early = grows (s .account) r (gets-none z) .early (no-close z) (o .early) }
+              record {
+                range = in-range-judge (s .account) r (o .range) (o .early);
+                early = grows (s .account) r (gets-none z) .early (no-close z) (o .early);
+              }
           go false d = record { range = o .range; early = o .early }
 
     pub records-after : after s r .account .records ≡ s .account .records + pick (eqb (droppedBy s r) 0) 1 0

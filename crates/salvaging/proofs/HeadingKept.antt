@@ -67,24 +67,28 @@ module _ (s : Reading) (r : List ℕ) (rs : List (List ℕ)) (f : Found) (ih : K
       record {
         from = from-less (s .number) (f .dropped) (ih .from);
         same = λ h h′ p.
-            rw (m, unlisted-kept (record { detail = r; heading = h }) (underHeadings (pick (eqb (kindOf r) 2) r h) (take (readBy f) rs)) (s .number) (f .dropped) (ih .from))
+            let others = underHeadings (pick (eqb (kindOf r) 2) r h) (take (readBy f) rs) in
+            rw (m, unlisted-kept (record { detail = r; heading = h }) others (s .number) (f .dropped) (ih .from))
             (same-details (ofGroupKind (kindOf r)) (record { detail = r; heading = h′ }) (record { detail = r; heading = h }) _ _
             (λ k. ap (λ (x : List ℕ). record { detail = r; heading = x }) (sym (p (not-lost s r d k))))
             (ih .same (pick (eqb (kindOf r) 2) r h) (pick (eqb (kindOf r) 2) r h′) (next h h′ p (eqb (kindOf r) 2))));
       }
     where
-      next : (h h′ : List ℕ) → (s .lost ≡ false → h ≡ h′) → (b : Bool) → pick b (not (eqb (droppedBy s r) 0)) (s .lost) ≡ false → pick b r h ≡ pick b r h′
+      next : (h h′ : List ℕ) → (s .lost ≡ false → h ≡ h′) → (b : Bool) → pick b (not (eqb (droppedBy s r) 0)) (s .lost) ≡ false
+          → pick b r h ≡ pick b r h′
       next h h′ p true e = refl
       next h h′ p false e = p e
 
-  one-dropped : (droppedBy s r ≡ 0 → ⊥) → Kept s (r ∷ rs) (record { kept = f .kept; dropped = record { number = s .number; code = droppedBy s r } ∷ f .dropped })
+  one-dropped : (droppedBy s r ≡ 0 → ⊥)
+      → Kept s (r ∷ rs) (record { kept = f .kept; dropped = record { number = s .number; code = droppedBy s r } ∷ f .dropped })
   unfolding underHeadings
   one-dropped n =
       let m : length (f .kept) + suc (length (f .dropped)) ≡ suc (readBy f) = omega arith in
       record {
         from = omega arith;
         same = λ h h′ p.
-            rw (m, unlisted-listed (record { detail = r; heading = h }) (underHeadings (pick (eqb (kindOf r) 2) r h) (take (readBy f) rs)) (s .number) (droppedBy s r) (f .dropped))
+            let others = underHeadings (pick (eqb (kindOf r) 2) r h) (take (readBy f) rs) in
+            rw (m, unlisted-listed (record { detail = r; heading = h }) others (s .number) (droppedBy s r) (f .dropped))
             (ih .same (pick (eqb (kindOf r) 2) r h) h′ (next h h′ p (eqb (kindOf r) 2)));
       }
     where
@@ -98,7 +102,8 @@ headings-kept = by-records Kept none-kept (λ s r rs f e d ih. one-kept s r rs f
 -- ---- the records of the clean book
 
 kept-whole : (s : Reading) (rs : List (List ℕ)) → AllWhole rs → AllWhole (found s rs .kept)
-kept-whole = by-records (λ s rs f. AllWhole rs → AllWhole (f .kept)) (λ s rs w. tt) (λ s r rs f e d ih w. (w .0, ih (w .1))) (λ s r rs f e n ih w. ih (w .1))
+kept-whole =
+    by-records (λ s rs f. AllWhole rs → AllWhole (f .kept)) (λ s rs w. tt) (λ s r rs f e d ih w. (w .0, ih (w .1))) (λ s r rs f e n ih w. ih (w .1))
 
 records-first : (r ys : List ℕ) → WholeRecord r → recordsOf (r ++ ys) ≡ r ∷ recordsOf ys
 records-first r ys w =
@@ -107,14 +112,16 @@ records-first r ys w =
 
 records-joined : (rs : List (List ℕ)) (ys : List ℕ) → AllWhole rs → recordsOf (joined rs ++ ys) ≡ rs ++ recordsOf ys
 records-joined [] ys w = refl
-records-joined (r ∷ rs) ys w = rw append-assoc (records-first r (joined rs ++ ys) (w .0) ∙ ap (λ (l : List (List ℕ)). r ∷ l) (records-joined rs ys (w .1)))
+records-joined (r ∷ rs) ys w =
+    rw append-assoc (records-first r (joined rs ++ ys) (w .0) ∙ ap (λ (l : List (List ℕ)). r ∷ l) (records-joined rs ys (w .1)))
 
 records-none : recordsOf [] ≡ []
 unfolding recordsOf recordsBy
 records-none = rw front-none
 
 -- a record behind them that is no detail adds none
-details-last : (rs : List (List ℕ)) (h c : List ℕ) → ofGroupKind (kindOf c) ≡ false → details (underHeadings h (rs ++ (c ∷ []))) ≡ details (underHeadings h rs)
+details-last : (rs : List (List ℕ)) (h c : List ℕ) → ofGroupKind (kindOf c) ≡ false
+    → details (underHeadings h (rs ++ (c ∷ []))) ≡ details (underHeadings h rs)
 unfolding underHeadings details
 details-last [] h c e = rw e
 details-last (r ∷ rs) h c e = rw (details-last rs (pick (eqb (kindOf r) 2) r h) c e)

@@ -31,7 +31,9 @@ from-less n [] h = tt
 from-less n (e ∷ es) h = omega arith
 
 pub numbers-from : (s : Reading) (rs : List (List ℕ)) → From (s .number) (found s rs .dropped)
-numbers-from = by-records (λ s rs f. From (s .number) (f .dropped)) (λ s rs. tt) (λ s r rs f e d ih. from-less (s .number) (f .dropped) ih) (λ s r rs f e n ih. omega arith)
+numbers-from =
+    by-records (λ s rs f. From (s .number) (f .dropped)) (λ s rs. tt) (λ s r rs f e d ih. from-less (s .number) (f .dropped) ih)
+    (λ s r rs f e n ih. omega arith)
 
 -- what is not listed is passed over, what is listed is left out
 module _ {A : Type 0} (x : A) (xs : List A) (n : ℕ) where
@@ -82,8 +84,10 @@ reason s r n =
     let c = wouldGet (s .account) r in
     go c (oneOf 2 4 c) refl (s .lost && ofGroupKind (kindOf r)) refl (oneOf 6 11 c) refl n
   where
-    go : (c : ℕ) (b : Bool) → oneOf 2 4 c ≡ b → (b′ : Bool) → s .lost && ofGroupKind (kindOf r) ≡ b′ → (b″ : Bool) → oneOf 6 11 c ≡ b″ → (pick b c (pick b′ 6 (pick b″ c 0)) ≡ 0 → ⊥)
-        → ((c ≡ pick b c (pick b′ 6 (pick b″ c 0))) × (oneOf 2 4 (pick b c (pick b′ 6 (pick b″ c 0))) || oneOf 6 11 (pick b c (pick b′ 6 (pick b″ c 0))) ≡ true))
+    go : (c : ℕ) (b : Bool) → oneOf 2 4 c ≡ b → (b′ : Bool) → s .lost && ofGroupKind (kindOf r) ≡ b′ → (b″ : Bool) → oneOf 6 11 c ≡ b″
+        → (pick b c (pick b′ 6 (pick b″ c 0)) ≡ 0 → ⊥)
+        → ((c ≡ pick b c (pick b′ 6 (pick b″ c 0)))
+        × (oneOf 2 4 (pick b c (pick b′ 6 (pick b″ c 0))) || oneOf 6 11 (pick b c (pick b′ 6 (pick b″ c 0))) ≡ true))
         ⊎ ((pick b c (pick b′ 6 (pick b″ c 0)) ≡ 6) × (s .lost ≡ true) × (ofGroupKind (kindOf r) ≡ true))
     go c true p b′ p′ b″ p″ n = inl (refl, rw p)
     go c false p true p′ b″ p″ n = inr (refl, and-l (s .lost) _ p′, and-r (s .lost) _ p′)
@@ -98,7 +102,8 @@ pass s r rs (x ∷ es) e d h q =
     let l : after s r .lost ≡ pick (eqb (kindOf r) 2) false (s .lost) = rw d in
     (λ z. absurd (omega (arith, z)), λ z. rw (← kept-account s r e d, ← l) q)
 
-reasons : (s : Reading) (rs : List (List ℕ)) → From (s .number) (found s rs .dropped) × Reasons (s .account) (s .lost) (s .number) rs (found s rs .dropped)
+reasons : (s : Reading) (rs : List (List ℕ))
+    → From (s .number) (found s rs .dropped) × Reasons (s .account) (s .lost) (s .number) rs (found s rs .dropped)
 reasons =
     by-records (λ s rs f. From (s .number) (f .dropped) × Reasons (s .account) (s .lost) (s .number) rs (f .dropped)) (λ s rs. (tt, tt))
     (λ s r rs f e d ih. (from-less (s .number) (f .dropped) (ih .0), pass s r rs (f .dropped) e d (ih .0) (ih .1)))

@@ -47,7 +47,9 @@ module _ (code number : ℕ) (r : List ℕ) (f : Found) where
   unfolding listOf
   listed-bytes = go (eqb code 0)
     where
-      go : (b : Bool) → listOf (pick b (f .dropped) (record { number = number; code = code } ∷ f .dropped)) ≡ pick b [] (entryBytes (record { number = number; code = code })) ++ listOf (f .dropped)
+      go : (b : Bool)
+          → listOf (pick b (f .dropped) (record { number = number; code = code } ∷ f .dropped))
+          ≡ pick b [] (entryBytes (record { number = number; code = code })) ++ listOf (f .dropped)
       go true = refl
       go false = refl
 
@@ -59,7 +61,8 @@ module _ (code number : ℕ) (r : List ℕ) (f : Found) where
       go false = omega arith
 
   -- the clean book that is still to come begins with the record, if it is kept
-  pub book-turn : (s s′ : Reading) → s′ .account .records ≡ s .account .records + pick (eqb code 0) 1 0 → bookFrom s (with code number r f) ≡ pick (eqb code 0) r [] ++ bookFrom s′ f
+  pub book-turn : (s s′ : Reading) → s′ .account .records ≡ s .account .records + pick (eqb code 0) 1 0
+      → bookFrom s (with code number r f) ≡ pick (eqb code 0) r [] ++ bookFrom s′ f
   book-turn s s′ e =
       let n : s .account .records + length (with code number r f .kept) ≡ s′ .account .records + length (f .kept) = omega (arith, e, kept-count) in
       rw (kept-bytes, n, append-assoc)
@@ -103,7 +106,16 @@ pub record Measuring (xs : List ℕ) (s : Reading) (at book dropped : ℕ) : Typ
 
 pub measuring-none : (xs : List ℕ) → Measuring xs start 0 6 0
 measuring-none xs =
-    record { within = omega arith; opened = open-start; numbered = omega arith; short = omega arith; few = omega arith; kept = omega arith; bytes = omega arith; entries = omega arith }
+    record {
+      within = omega arith;
+      opened = open-start;
+      numbered = omega arith;
+      short = omega arith;
+      few = omega arith;
+      kept = omega arith;
+      bytes = omega arith;
+      entries = omega arith;
+    }
 
 module _ (xs : List ℕ) (at : ℕ) {s : Reading} {t : Turn} (v : Turned s (drop at xs) t) (h : 0 < t .n) where
   pub turn-inside : at ≤ length xs → at + t .n ≤ length xs
@@ -120,7 +132,10 @@ module _ (xs : List ℕ) (at : ℕ) {s : Reading} {t : Turn} (v : Turned s (drop
       let f = foundIn (t .next) (drop (at + t .n) xs) in
       let g = goes-so in
       let grown : length (joined (foundIn s (drop at xs) .kept)) ≡ pick b (t .n) 0 + length (joined (f .kept)) =
-      rw g (ap length (kept-bytes (t .code) (s .number) r f) ∙ length-append (pick b r []) (joined (f .kept)) ∙ rw (pick-length b (t .n) (drop at xs) (v .inside))) in
+      rw g
+      (ap length (kept-bytes (t .code) (s .number) r f)
+      ∙ length-append (pick b r []) (joined (f .kept))
+      ∙ rw (pick-length b (t .n) (drop at xs) (v .inside))) in
       let counted : length (foundIn s (drop at xs) .kept) ≡ pick b 1 0 + length (f .kept) = rw g (kept-count (t .code) (s .number) r f) in
       let listed : length (foundIn s (drop at xs) .dropped) ≡ pick b 0 1 + length (f .dropped) = rw g (listed-count (t .code) (s .number) r f) in
       record {
@@ -159,7 +174,8 @@ laying-none : (out all : List ℕ) → length all ≤ length out → Laying out 
 laying-none out all h = record { long = refl; room = omega arith; goal = refl }
 
 -- some of them more
-laying-on : {out₀ out out′ : List ℕ} {w n : ℕ} {todo all : List ℕ} (bs : List ℕ) → Laying out₀ out w (bs ++ todo) all → length bs ≡ n → out′ ≡ sets out w bs
+laying-on : {out₀ out out′ : List ℕ} {w n : ℕ} {todo all : List ℕ} (bs : List ℕ) → Laying out₀ out w (bs ++ todo) all → length bs ≡ n
+    → out′ ≡ sets out w bs
     → Laying out₀ out′ (w + n) todo all
 laying-on {out₀} {out} {out′} {w} {n} {todo} bs l e p =
     record {
@@ -176,17 +192,30 @@ pub record Writing (xs book₀ list₀ : List ℕ) (book list : List ℕ) (s : R
   pub clean : Laying book₀ book w (bookFrom s (foundIn s (drop at xs))) (bookOf (foundIn start xs .kept))
   pub listed : Laying list₀ list v (listOf (foundIn s (drop at xs) .dropped)) (listOf (foundIn start xs .dropped))
 
-pub writing-none : (xs book list : List ℕ) → length (bookOf (foundIn start xs .kept)) ≤ length book → length (listOf (foundIn start xs .dropped)) ≤ length list
+pub writing-none : (xs book list : List ℕ) → length (bookOf (foundIn start xs .kept)) ≤ length book
+    → length (listOf (foundIn start xs .dropped)) ≤ length list
     → Writing xs book list book list start 0 0 0
 writing-none xs book list p q =
-    record { within = omega arith; opened = open-start; numbered = omega arith; clean = rw zero-add (laying-none book _ p); listed = laying-none list _ q }
+    record {
+      within = omega arith;
+      opened = open-start;
+      numbered = omega arith;
+      clean = rw zero-add (laying-none book _ p);
+      listed = laying-none list _ q;
+    }
 
 module _ {xs book₀ list₀ book list : List ℕ} {s : Reading} {at w v : ℕ} (y : Writing xs book₀ list₀ book list s at w v) where
   module _ {t : Turn} (d : Turned s (drop at xs) t) (h : 0 < t .n) where
-    to-come : Laying book₀ book w (pick (eqb (t .code) 0) (take (t .n) (drop at xs)) [] ++ bookFrom (t .next) (foundIn (t .next) (drop (at + t .n) xs))) (bookOf (foundIn start xs .kept))
+    -- the bytes of the record, where it is kept
+    abbrev its : List ℕ
+    its = pick (eqb (t .code) 0) (take (t .n) (drop at xs)) []
+
+    to-come : Laying book₀ book w (its ++ bookFrom (t .next) (foundIn (t .next) (drop (at + t .n) xs))) (bookOf (foundIn start xs .kept))
     to-come = rw (goes-so xs at d h, book-turn (t .code) (s .number) _ _ s (t .next) (d .records h)) at (y .clean)
 
-    to-list : Laying list₀ list v (noteOf (t .code) (s .number) ++ listOf (foundIn (t .next) (drop (at + t .n) xs) .dropped)) (listOf (foundIn start xs .dropped))
+    to-list : Laying list₀ list v
+        (noteOf (t .code) (s .number) ++ listOf (foundIn (t .next) (drop (at + t .n) xs) .dropped))
+        (listOf (foundIn start xs .dropped))
     to-list = rw (goes-so xs at d h, listed-bytes (t .code) (s .number) _ _) at (y .listed)
 
     -- there is room for the record, if it is kept, and for its entry, if it is not
@@ -209,7 +238,9 @@ module _ {xs book₀ list₀ book list : List ℕ} {s : Reading} {at w v : ℕ} 
           within = turn-inside xs at d h (y .within);
           opened = d .opened;
           numbered = omega (arith, d .number h, y .numbered);
-          clean = laying-on (pick (eqb (t .code) 0) (take (t .n) (drop at xs)) []) to-come (pick-length (eqb (t .code) 0) (t .n) (drop at xs) (d .inside) ∙ sym e) (rw (e, pick-take (eqb (t .code) 0) (t .n) (drop at xs)) at p);
+          clean =
+              laying-on its to-come (pick-length (eqb (t .code) 0) (t .n) (drop at xs) (d .inside) ∙ sym e)
+              (rw (e, pick-take (eqb (t .code) 0) (t .n) (drop at xs)) at p);
           listed = laying-on (noteOf (t .code) (s .number)) to-list (sym l) q;
         }
 
@@ -221,7 +252,8 @@ module _ {xs book₀ list₀ book list : List ℕ} {s : Reading} {at w v : ℕ} 
     unfolding table size
     close-room = omega (arith, last .room, last .long, record-length 8 (s .account .records ∷ []))
 
-    pub book-written : {book′ : List ℕ} → book′ ≡ sets book w (recordBytes 8 (s .account .records ∷ [])) → book′ ≡ sets book₀ 0 (bookOf (foundIn start xs .kept))
+    pub book-written : {book′ : List ℕ} → book′ ≡ sets book w (recordBytes 8 (s .account .records ∷ []))
+        → book′ ≡ sets book₀ 0 (bookOf (foundIn start xs .kept))
     book-written p = p ∙ last .goal
 
     pub book-length : {book′ : List ℕ} → book′ ≡ sets book w (recordBytes 8 (s .account .records ∷ [])) → length book′ ≡ length book₀

@@ -56,7 +56,8 @@ telling-none out list = record { inside = omega arith; room = omega arith; long 
 
 module _ {out₀ list out : List ℕ} {i at : ℕ} (t : Telling out₀ list out i at) where
   -- one entry more
-  pub telling-on : {out′ entry : List ℕ} {r : ℕ} → entry ≡ drop i list → 9 ≤ length list - i → Said out out′ at (frontText entry) r → Telling out₀ list out′ (i + 9) r
+  pub telling-on : {out′ entry : List ℕ} {r : ℕ} → entry ≡ drop i list → 9 ≤ length list - i → Said out out′ at (frontText entry) r
+      → Telling out₀ list out′ (i + 9) r
   telling-on {out′} {entry} {r} e h s =
       let some : listText (drop i list) ≡ frontText (drop i list) ++ listText (drop (i + 9) list) =
       rw (drop-drop 9 i list) at (text-some (drop i list) (rw length-drop h)) in

@@ -24,7 +24,8 @@ use Rattle.book.specs.WholeRecords.{beginsWith, recordsBy, recordsOf}
 use Rattle.salvaging.specs.declared.Reading.{Reading}
 use Rattle.salvaging.specs.declared.Lengths.{Lengths}
 use Rattle.salvaging.specs.declared.Salvaged.the-variants.{Saved}
-use Rattle.salvaging.specs.Salvage.{Found, nothing, with, droppedBy, ends, after, start, found, bookOf, listOf, farmAmong, refusing, saving, answering, salvageOf}
+use Rattle.salvaging.specs.Salvage.{Found, nothing, with, droppedBy, ends, after, start, found, bookOf, listOf, farmAmong, refusing, saving}
+use Rattle.salvaging.specs.Salvage.{answering, salvageOf}
 use Rattle.salvaging.specs.Inner.{Open, bookFrom}
 use Rattle.salvaging.proofs.FateLaws.{few, kept-account, dropped-account, kept-records, open-after}
 use Rattle.salvaging.proofs.TurnLaws.{by-records}
@@ -57,7 +58,8 @@ all-whole xs = all-by (suc (length xs)) xs
 pub record-front : (r ys : List ℕ) → WholeRecord r → front (r ++ ys) ≡ whole
 record-front r ys w = whole-append r ys (is-whole r (omega (arith, w .long), w .low, w .high, omega (arith, w .long)))
 
-pub book-record : (a : Account) (r ys : List ℕ) → WholeRecord r → a .stage < 2 → book a (r ++ ys) ≡ then (judge a r .lines) (book (judge a r .account) ys)
+pub book-record : (a : Account) (r ys : List ℕ) → WholeRecord r → a .stage < 2
+    → book a (r ++ ys) ≡ then (judge a r .lines) (book (judge a r .account) ys)
 book-record a r ys w h =
     let n : need (r ++ ys) ≡ length r = rw (length-append-two r ys (omega (arith, w .long))) (sym (w .long)) in
     rw (n, take-append-seam r ys, drop-append-seam r ys) at (book-whole a (r ++ ys) h (record-front r ys w))
@@ -81,7 +83,8 @@ close-done s o l h =
 
 -- the clean book that is still to come closes the book
 abbrev Closing : Reading → List (List ℕ) → Found → Type 0
-Closing s rs f = AllWhole rs → Open s → s .account .records ≤ 4095 → 1 ≤ s .account .records + length (f .kept) → Done (book (s .account) (bookFrom s f))
+Closing s rs f =
+    AllWhole rs → Open s → s .account .records ≤ 4095 → 1 ≤ s .account .records + length (f .kept) → Done (book (s .account) (bookFrom s f))
 
 kept-closing : (s : Reading) (r : List ℕ) (rs : List (List ℕ)) (f : Found) → ends s r ≡ false → droppedBy s r ≡ 0 → Closing (after s r) rs f
     → Closing s (r ∷ rs) (record { kept = r ∷ f .kept; dropped = f .dropped })
@@ -90,7 +93,8 @@ kept-closing s r rs f e d ih w o h l =
     let n = kept-records s r e d in
     let c : s .account .records + length (r ∷ f .kept) ≡ after s r .account .records + length (f .kept) = omega (arith, n) in
     let m = ih (w .1) (open-after s r e o) (omega (arith, n, few s r e)) (omega (arith, c, l)) in
-    let b = book-record (s .account) r ys (w .0) (o .early) ∙ ap (λ (a : Account). then (judge (s .account) r .lines) (book a ys)) (sym (kept-account s r e d)) in
+    let same = ap (λ (a : Account). then (judge (s .account) r .lines) (book a ys)) (sym (kept-account s r e d)) in
+    let b = book-record (s .account) r ys (w .0) (o .early) ∙ same in
     rw (c, append-assoc, b) (record { stage = m .stage; held = m .held; left = m .left })
 
 dropped-closing : (s : Reading) (r : List ℕ) (rs : List (List ℕ)) (f : Found) → ends s r ≡ false → (droppedBy s r ≡ 0 → ⊥) → Closing (after s r) rs f
@@ -108,10 +112,13 @@ clean-done = by-records Closing (λ s rs w o h l. close-done s o (omega arith) h
 pub saved-so : (f : Found) (bookRoom listRoom : ℕ) (l : Lengths) → answering f bookRoom listRoom .answer ≡ Saved l
     → (farmAmong (f .kept) ≡ true) × (answering f bookRoom listRoom ≡ saving (bookOf (f .kept)) (listOf (f .dropped)))
 unfolding answering
-saved-so f bookRoom listRoom l = go (farmAmong (f .kept)) refl (ltb bookRoom (length (bookOf (f .kept))) || ltb listRoom (length (listOf (f .dropped))))
+saved-so f bookRoom listRoom l =
+    go (farmAmong (f .kept)) refl (ltb bookRoom (length (bookOf (f .kept))) || ltb listRoom (length (listOf (f .dropped))))
   where
-    go : (b : Bool) → farmAmong (f .kept) ≡ b → (b′ : Bool) → pick (not b) (refusing 19) (pick b′ (refusing 16) (saving (bookOf (f .kept)) (listOf (f .dropped)))) .answer ≡ Saved l
-        → (b ≡ true) × (pick (not b) (refusing 19) (pick b′ (refusing 16) (saving (bookOf (f .kept)) (listOf (f .dropped)))) ≡ saving (bookOf (f .kept)) (listOf (f .dropped)))
+    go : (b : Bool) → farmAmong (f .kept) ≡ b → (b′ : Bool)
+        → pick (not b) (refusing 19) (pick b′ (refusing 16) (saving (bookOf (f .kept)) (listOf (f .dropped)))) .answer ≡ Saved l
+        → (b ≡ true)
+        × (pick (not b) (refusing 19) (pick b′ (refusing 16) (saving (bookOf (f .kept)) (listOf (f .dropped)))) ≡ saving (bookOf (f .kept)) (listOf (f .dropped)))
     go true e true x = let z : _≡_ {A = ℕ} 0 1 = cc in absurd (omega arith)
     go true e false x = (refl, refl)
     go false e b′ x = let z : _≡_ {A = ℕ} 0 1 = cc in absurd (omega arith)

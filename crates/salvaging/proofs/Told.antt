@@ -32,7 +32,8 @@ use Rattle.salvaging.specs.declared.Reading.{Reading}
 use Rattle.salvaging.specs.declared.Lengths.{Lengths}
 use Rattle.salvaging.specs.declared.Salvaged.{Salvaged}
 use Rattle.salvaging.specs.declared.Salvaged.the-variants.{Saved}
-use Rattle.salvaging.specs.Salvage.{oneOf, ofGroupKind, wouldGet, drops, droppedBy, ends, after, start, Entry, Found, found, foundIn, bookOf, entryBytes, listOf, saving, salvageOf}
+use Rattle.salvaging.specs.Salvage.{oneOf, ofGroupKind, wouldGet, drops, droppedBy, ends, after, start, Entry, Found, found, foundIn, bookOf}
+use Rattle.salvaging.specs.Salvage.{entryBytes, listOf, saving, salvageOf}
 use Rattle.salvaging.specs.Remarks.{droppedText, listTextBy, listText, entriesText, keptIn, savedText, endText}
 use Rattle.salvaging.proofs.FateLaws.{few, kept-records, dropped-account}
 use Rattle.salvaging.proofs.TurnLaws.{by-records}
@@ -53,7 +54,8 @@ AllFit (e ∷ es) = Fits e × AllFit es
 
 would-get-most : (a : Account) (r : List ℕ) → wouldGet a r ≤ 12
 would-get-most a r =
-    first-most 12 (refusals a r) (omega arith, (omega arith, (omega arith, (omega arith, (omega arith, (omega arith, (omega arith, (omega arith, (omega arith, (omega arith, (omega arith, tt)))))))))))
+    first-most 12 (refusals a r)
+    (omega arith, (omega arith, (omega arith, (omega arith, (omega arith, (omega arith, (omega arith, (omega arith, (omega arith, (omega arith, (omega arith, tt)))))))))))
 
 drops-most : (c k : ℕ) (lost : Bool) → c ≤ 12 → first (drops c k lost) < 256
 unfolding first
@@ -97,7 +99,8 @@ entry-long e = refl
 module _ (e : Entry) (rest : List ℕ) (f : Fits e) where
   number-back : valAt (entryBytes e ++ rest) 0 8 ≡ e .number
   unfolding bytesHold
-  number-back = rw (append-assoc (be 8 (e .number)) (be 1 (e .code)) rest) (valAt-be 8 (e .number) [] (be 1 (e .code) ++ rest) (omega (arith, f .number)))
+  number-back =
+      rw (append-assoc (be 8 (e .number)) (be 1 (e .code)) rest) (valAt-be 8 (e .number) [] (be 1 (e .code) ++ rest) (omega (arith, f .number)))
 
   code-back : valAt (entryBytes e ++ rest) 8 1 ≡ e .code
   unfolding bytesHold
@@ -115,10 +118,12 @@ list-told (e ∷ es) a =
     let rest = listOf es in
     let l : 9 ≤ length (entryBytes e ++ rest) = omega (arith, length-append (entryBytes e) rest, entry-long e) in
     text-some (entryBytes e ++ rest) l
-    ∙ rw (number-back e rest (a .0), code-back e rest (a .0), behind e rest (a .0)) (ap (λ (t : List ℕ). droppedText (e .number) (e .code) ++ t) (list-told es (a .1)))
+    ∙ rw (number-back e rest (a .0), code-back e rest (a .0), behind e rest (a .0))
+    (ap (λ (t : List ℕ). droppedText (e .number) (e .code) ++ t) (list-told es (a .1)))
 
 -- The text of the list is a line for each dropped record, in order, with its number and its code.
-pub told-list : (damaged : List ℕ) → length damaged < 2 ^ 64 → listText (listOf (foundIn start damaged .dropped)) ≡ entriesText (foundIn start damaged .dropped)
+pub told-list : (damaged : List ℕ) → length damaged < 2 ^ 64
+    → listText (listOf (foundIn start damaged .dropped)) ≡ entriesText (foundIn start damaged .dropped)
 told-list damaged h =
     list-told (foundIn start damaged .dropped) (all-fit start (recordsOf damaged) (omega (arith, few-records damaged, h)))
 
@@ -138,7 +143,10 @@ kept-most : (s : Reading) (rs : List (List ℕ)) → s .account .records ≤ 409
 kept-most =
     by-records (λ s rs f. s .account .records ≤ 4095 → s .account .records + length (f .kept) ≤ 4095) (λ s rs h. omega arith)
     (λ s r rs f e d ih h. let n = kept-records s r e d in let m = ih (omega (arith, n, few s r e)) in omega (arith, n, m))
-    (λ s r rs f e n ih h. let a = ap (λ (b : Account). b .records) (dropped-account s r e n) in let m = ih (omega (arith, a, h)) in omega (arith, a, m))
+    (λ s r rs f e n ih h.
+    let a = ap (λ (b : Account). b .records) (dropped-account s r e n) in
+    let m = ih (omega (arith, a, h)) in
+    omega (arith, a, m))
 
 ninth : (n : ℕ) → n * 9 / 9 ≡ n
 ninth n = omega arith

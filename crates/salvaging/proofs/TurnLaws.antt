@@ -35,7 +35,8 @@ pub told-account : {a : Account} {s : Step} {j : Judged} → TellsIn linesMost a
 told-account t = tells-fit t (lines-short t) .account
 
 module _ (s : Reading) (r : List ℕ) (code kind : ℕ) (k : kind ≡ kindOf r) where
-  pub code-told : (j : Judged) → Open s → TellsIn linesMost (s .account) (judge (s .account) r) j → code ≡ first (drops (j .account .refusal .code) kind (s .lost)) → code ≡ droppedBy s r
+  pub code-told : (j : Judged) → Open s → TellsIn linesMost (s .account) (judge (s .account) r) j
+      → code ≡ first (drops (j .account .refusal .code) kind (s .lost)) → code ≡ droppedBy s r
   unfolding droppedBy
   code-told j o t e = e ∙ rw (told-account t, code-is (s .account) r (o .range) (o .early), k)
 
@@ -46,7 +47,8 @@ module _ (s : Reading) (r : List ℕ) (code kind : ℕ) (k : kind ≡ kindOf r) 
     pub other-goes : leb 4095 (s .account .records) ≡ false → eqb kind 8 && eqb code 0 ≡ false → ends s r ≡ false
     other-goes f e = rw f (rw (k, d) at e)
 
-    pub next-is : (a : Account) (lost : Bool) → a ≡ pick (eqb code 0) (judge (s .account) r .account) (s .account) → lost ≡ pick (eqb kind 2) (not (eqb code 0)) (s .lost)
+    pub next-is : (a : Account) (lost : Bool) → a ≡ pick (eqb code 0) (judge (s .account) r .account) (s .account)
+        → lost ≡ pick (eqb kind 2) (not (eqb code 0)) (s .lost)
         → _≡_ {A = Reading} (record { account = a; lost = lost; number = s .number + 1 }) (after s r)
     next-is a lost e l = rw (e, l, d, k)
 
@@ -56,7 +58,8 @@ pub found-ends : (s : Reading) (r : List ℕ) (rs : List (List ℕ)) → ends s 
 unfolding found
 found-ends s r rs e = rw e
 
-pub found-goes : (s : Reading) (r : List ℕ) (rs : List (List ℕ)) → ends s r ≡ false → found s (r ∷ rs) ≡ with (droppedBy s r) (s .number) r (found (after s r) rs)
+pub found-goes : (s : Reading) (r : List ℕ) (rs : List (List ℕ)) → ends s r ≡ false
+    → found s (r ∷ rs) ≡ with (droppedBy s r) (s .number) r (found (after s r) rs)
 unfolding found
 found-goes s r rs e = rw e
 
@@ -75,7 +78,10 @@ by-records P ended kept dropped s (r ∷ rs) = go (ends s r) refl (by-records P 
     f = found (after s r) rs
 
     behind : ends s r ≡ false → (b : Bool) → eqb (droppedBy s r) 0 ≡ b → P (after s r) rs f
-        → P s (r ∷ rs) (record { kept = pick b (r ∷ f .kept) (f .kept); dropped = pick b (f .dropped) (record { number = s .number; code = droppedBy s r } ∷ f .dropped) })
+        → P s (r ∷ rs) (record {
+          kept = pick b (r ∷ f .kept) (f .kept);
+          dropped = pick b (f .dropped) (record { number = s .number; code = droppedBy s r } ∷ f .dropped);
+        })
     behind e true d ih = kept s r rs f e (eqb-true _ _ d) ih
     behind e false d ih = dropped s r rs f e (eqb-false _ _ d) ih
 
@@ -129,7 +135,8 @@ module _ (s : Reading) (xs : List ℕ) (n : ℕ) (o : Open s) (y : Ready xs n) w
       (lt-or-ge 0 n)
 
   -- or it goes on behind the record
-  pub goes-on : 0 < n → ends s (take n xs) ≡ false → (t : Turn) → t .n ≡ n → t .code ≡ droppedBy s (take n xs) → t .next ≡ after s (take n xs) → Turned s xs t
+  pub goes-on : 0 < n → ends s (take n xs) ≡ false → (t : Turn) → t .n ≡ n → t .code ≡ droppedBy s (take n xs)
+      → t .next ≡ after s (take n xs) → Turned s xs t
   goes-on h e t is-n is-code is-next =
       let w = y .some h in
       let m = meaning xs whole (w .0) in

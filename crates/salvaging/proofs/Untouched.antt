@@ -28,9 +28,11 @@ use Rattle.book.proofs.RecordLaws.{record-whole}
 use Rattle.book.specs.WholeRecords.{recordsOf}
 use Rattle.book.proofs.WholeRecordLaws.{records-whole}
 use Rattle.salvaging.specs.declared.Reading.{Reading}
-use Rattle.salvaging.specs.Salvage.{Found, nothing, with, wouldGet, droppedBy, ends, after, start, found, bookOf, listOf, farmAmong, saving, answering, salvageOf, foundIn}
+use Rattle.salvaging.specs.Salvage.{Found, nothing, with, wouldGet, droppedBy, ends, after, start, found, bookOf, listOf, farmAmong, saving}
+use Rattle.salvaging.specs.Salvage.{answering, salvageOf, foundIn}
 use Rattle.salvaging.specs.Inner.{Open, bookFrom}
-use Rattle.salvaging.proofs.FateLaws.{grows, refuses, closes-book, below-4096, first-farm, right-count, right-version, right-size, right-kept, open-after, records-after}
+use Rattle.salvaging.proofs.FateLaws.{grows, refuses, closes-book, below-4096, first-farm, right-count, right-version, right-size, right-kept}
+use Rattle.salvaging.proofs.FateLaws.{open-after, records-after}
 use Rattle.salvaging.proofs.TurnLaws.{found-ends, found-goes}
 use Rattle.salvaging.proofs.PassLaws.{open-start, kept-count, book-turn}
 use Rattle.salvaging.proofs.AnswerLaws.{farmed}
@@ -122,7 +124,8 @@ module _ (s : Reading) (xs : List ℕ) (o : Open s) (l : s .lost ≡ false) (b :
   -- the close
   at-close : Bytes xs → kindOf (leading xs) ≡ 8 → Same s xs
   at-close y k =
-      let d : rest xs ≡ [] = rw (closes-book (s .account) (leading xs) (b .gets) k, book-ended (closed (s .account)) (rest xs) (omega arith)) at (b .behind .left) in
+      let d : rest xs ≡ [] =
+      rw (closes-book (s .account) (leading xs) (b .gets) k, book-ended (closed (s .account)) (rest xs) (omega arith)) at (b .behind .left) in
       let t : leading xs ≡ xs = sym (append-nil (leading xs)) ∙ ap (λ (z : List ℕ). leading xs ++ z) (sym d) ∙ take-append-drop (need xs) xs in
       let e : ends s (leading xs) ≡ true = or-left (leb 4095 (s .account .records)) _ (λ z. rw (k, is-kept)) in
       let n : foundIn s xs ≡ nothing = rw (records-whole xs (b .is-whole)) (found-ends s (leading xs) (recordsOf (rest xs)) e) in
@@ -136,7 +139,9 @@ module _ (s : Reading) (xs : List ℕ) (o : Open s) (l : s .lost ≡ false) (b :
     few =
         let g = grows (s .account) (leading xs) (b .gets) in
         ⊎-elim (λ (h : s .account .records < 4095). h)
-        (λ (h : 4095 ≤ s .account .records). absurd (never-closed (judge (s .account) (leading xs) .account) (rest xs) (g .early k (o .early)) (omega (arith, g .records, h)) (b .behind)))
+        (λ (h : 4095 ≤ s .account .records).
+        let j = judge (s .account) (leading xs) .account in
+        absurd (never-closed j (rest xs) (g .early k (o .early)) (omega (arith, g .records, h)) (b .behind)))
         (lt-or-ge (s .account .records) 4095)
 
     goes : ends s (leading xs) ≡ false
@@ -145,7 +150,11 @@ module _ (s : Reading) (xs : List ℕ) (o : Open s) (l : s .lost ≡ false) (b :
     found-so : foundIn s xs ≡ with (droppedBy s (leading xs)) (s .number) (leading xs) (foundIn (after s (leading xs)) (rest xs))
     found-so = rw (records-whole xs (b .is-whole)) (found-goes s (leading xs) (recordsOf (rest xs)) goes)
 
-    at-other : (Open (after s (leading xs)) → after s (leading xs) .lost ≡ false → Right (reader.book (after s (leading xs) .account) (rest xs)) → Same (after s (leading xs)) (rest xs)) → Same s xs
+    at-other : (Open (after s (leading xs))
+        → after s (leading xs) .lost ≡ false
+        → Right (reader.book (after s (leading xs) .account) (rest xs))
+        → Same (after s (leading xs)) (rest xs))
+        → Same s xs
     at-other ih =
         let c = droppedBy s (leading xs) in
         let f = foundIn (after s (leading xs)) (rest xs) in
@@ -154,7 +163,9 @@ module _ (s : Reading) (xs : List ℕ) (o : Open s) (l : s .lost ≡ false) (b :
         let m = ih (open-after s (leading xs) goes o) lost (rw a (b .behind)) in
         let p : pick (eqb c 0) (leading xs) [] ≡ leading xs = rw is-kept in
         record {
-          book = rw (found-so, book-turn c (s .number) (leading xs) f s (after s (leading xs)) (records-after s (leading xs) goes), p, m .book) (take-append-drop (need xs) xs);
+          book =
+              rw (found-so, book-turn c (s .number) (leading xs) f s (after s (leading xs)) (records-after s (leading xs) goes), p, m .book)
+              (take-append-drop (need xs) xs);
           list = rw found-so (kept-list c (s .number) (leading xs) f is-kept ∙ m .list);
         }
 
@@ -168,7 +179,8 @@ same (suc n) s xs h o l y d =
     let m = meaning xs whole (b .is-whole) in
     let short : length (rest xs) < n = rw length-drop (omega arith) in
     ⊎-elim (λ (k : kindOf (leading xs) ≡ 8). at-close s xs o l b y k)
-    (λ (k : kindOf (leading xs) ≡ 8 → ⊥). at-other s xs o l b k (λ o′ l′ d′. same n (after s (leading xs)) (rest xs) short o′ l′ (bytes-drop (need xs) xs y) d′))
+    (λ (k : kindOf (leading xs) ≡ 8 → ⊥).
+    at-other s xs o l b k (λ o′ l′ d′. same n (after s (leading xs)) (rest xs) short o′ l′ (bytes-drop (need xs) xs y) d′))
     (equal-or (kindOf (leading xs)) 8)
 
 -- ---- the promise
@@ -183,7 +195,8 @@ some-kept xs b =
     rw g (omega (arith, n, p))
 
 -- A book that rule 2 closes with nothing left comes back byte for byte, with an empty list.
-pub untouched : (xs : List ℕ) (bookRoom listRoom : ℕ) → Bytes xs → run noRecordYet xs .state .account .stage ≡ 2 → run noRecordYet xs .left ≡ [] → length xs ≤ bookRoom
+pub untouched : (xs : List ℕ) (bookRoom listRoom : ℕ) → Bytes xs → run noRecordYet xs .state .account .stage ≡ 2
+    → run noRecordYet xs .left ≡ [] → length xs ≤ bookRoom
     → salvageOf xs bookRoom listRoom ≡ saving xs []
 unfolding run salvageOf answering listOf
 untouched xs bookRoom listRoom y c e h =
@@ -191,5 +204,6 @@ untouched xs bookRoom listRoom y c e h =
     let m = same (suc (length xs)) start xs (omega arith) open-start refl y d in
     let book : bookOf (foundIn start xs .kept) ≡ xs = rw zero-add at (m .book) in
     let some = some-kept xs (begins noRecord xs (omega arith) d) in
-    let farm : farmAmong (foundIn start xs .kept) ≡ true = farmed start (recordsOf xs) refl open-start ∙ rw (ne-eqb (length (foundIn start xs .kept)) 0 (λ z. omega arith)) in
+    let farm : farmAmong (foundIn start xs .kept) ≡ true =
+    farmed start (recordsOf xs) refl open-start ∙ rw (ne-eqb (length (foundIn start xs .kept)) 0 (λ z. omega arith)) in
     rw (farm, book, m .list, le-ltb bookRoom (length xs) h, le-ltb listRoom 0 (omega arith))

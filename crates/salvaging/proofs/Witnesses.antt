@@ -1,5 +1,5 @@
--- The premises of the promises are met. A damaged book, computed: a ration of no days, a heading of a wrong version with a ration under it, a close that
--- counts wrong, and a farm record behind it. And a right book, which comes back as it is.
+-- The premises of the promises are met. A damaged book, computed: a ration of no days, a heading of a wrong version with a ration under it, a
+-- close that counts wrong, and a farm record behind it. And a right book, which comes back as it is.
 -- Assumes nothing.
 use Prim.Native.Nat.{ℕ}
 use mathlib.Core.Path.{_≡_, refl}
@@ -50,7 +50,8 @@ clean = joined (farm ∷ heading 1 ∷ ration 31 ∷ energy ∷ close 4 ∷ [])
 
 -- it is saved: what salvaged-accepted and heading-kept ask
 pub damaged-saved : salvageOf damaged 51 27 ≡ saving clean (joined (entry 3 7 ∷ entry 5 2 ∷ entry 6 6 ∷ []))
-unfolding salvageOf answering found recordsOf recordsBy front valAt droppedBy first judge accepted sortOf table size valuesAt firstBad inPlace listOf farmAmong be bytesOf recordBytes
+unfolding salvageOf answering found recordsOf recordsBy front valAt droppedBy first judge accepted sortOf table size valuesAt firstBad inPlace
+    listOf farmAmong be bytesOf recordBytes
 damaged-saved = refl
 
 -- there is a detail for heading-kept to speak of
@@ -60,12 +61,14 @@ detail-kept = refl
 
 -- a byte less of room
 pub damaged-16 : (salvageOf damaged 50 27 ≡ refusing 16) × (salvageOf damaged 51 26 ≡ refusing 16)
-unfolding salvageOf answering found recordsOf recordsBy front valAt droppedBy first judge accepted sortOf table size valuesAt firstBad inPlace listOf farmAmong be bytesOf recordBytes
+unfolding salvageOf answering found recordsOf recordsBy front valAt droppedBy first judge accepted sortOf table size valuesAt firstBad inPlace
+    listOf farmAmong be bytesOf recordBytes
 damaged-16 = (refl, refl)
 
 -- no farm record, and no room either
 pub no-farm-19 : salvageOf (joined (heading 1 ∷ close 1 ∷ [])) 0 0 ≡ refusing 19
-unfolding salvageOf answering found recordsOf recordsBy front valAt droppedBy first judge accepted sortOf table size valuesAt firstBad inPlace farmAmong
+unfolding salvageOf answering found recordsOf recordsBy front valAt droppedBy first judge accepted sortOf table size valuesAt firstBad inPlace
+    farmAmong
 no-farm-19 = refl
 
 -- ---- a right book

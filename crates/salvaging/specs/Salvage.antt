@@ -35,7 +35,8 @@ abbrev pub drops : ℕ → ℕ → Bool → List (Bool × ℕ)
 drops c k lost =
     -- "A record that would get any of 2 to 4 .."
     (oneOf 2 4 c, c)
-    -- "If a record of kind byte 2 is dropped, so is every kind 3, 4 and 5 record up to the next kept heading, listed with 6 unless 2 to 4 comes first."
+    -- "If a record of kind byte 2 is dropped, so is every kind 3, 4 and 5 record up to the next kept heading, listed with 6 unless 2 to 4 comes
+    -- first."
     ∷ (lost && ofGroupKind k, 6)
     -- ".. or 6 to 11, read after the kept ones, is dropped."
     ∷ (oneOf 6 11 c, c)

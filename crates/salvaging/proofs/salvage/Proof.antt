@@ -20,7 +20,8 @@ salvage-spec =
     let i = c .before .before .before in
     let m = i .before .before in
     let a = m .before .before .before .before .args in
-    let g = gets (a .damaged .now) (a .book .now) (a .list .now) (refusing 16) (salvage-16 _ _ _ _ (m .measure .ensures) (i .if1 .left) (c .if2 .taken)) in
+    let short = salvage-16 _ _ _ _ (m .measure .ensures) (i .if1 .left) (c .if2 .taken) in
+    let g = gets (a .damaged .now) (a .book .now) (a .list .now) (refusing 16) short in
     (g .0, (g .1 .0, (g .1 .1, tt))))
     (λ c κs. rooms _ _ _ _ (c .before .before .before .before .before .before .before .measure .ensures) (c .before .before .if2 .left))
     (λ c.

@@ -29,7 +29,8 @@ whole-so : (f : tie.After-first-of) → WholeRecord (f .first-of .result .now)
 whole-so f = let y = f .before .before .before .ready .ensures .some (some (f .before)) in rw (f .first-of .ensures) (record-whole _ _ (y .0) (y .1))
 
 -- its kind byte
-kind-so : (f : tie.After-first-of) → getD (f .first-of .result .now) 3 0 ≡ kindOf (take (f .before .before .before .ready .result) (entry f .args .xs .now))
+kind-so : (f : tie.After-first-of)
+    → getD (f .first-of .result .now) 3 0 ≡ kindOf (take (f .before .before .before .ready .result) (entry f .args .xs .now))
 kind-so f = ap (λ (l : List ℕ). getD l 3 0) (f .first-of .ensures)
 
 -- the number that drops it
@@ -42,7 +43,9 @@ told c =
     code-told _ _ _ _ (kind-so f) (j .judge .result) (entry f .pre .0) (rw (f .first-of .ensures) at (j .judge .ensures)) (c .dropped-by .ensures)
 
 -- the reading goes on behind it
-goes : (c : tie.Else2) → ends (entry (c .before .before .before .before .before) .args .self) (take (c .before .before .before .before .before .before .before .before .ready .result) (entry (c .before .before .before .before .before) .args .xs .now)) ≡ false
+goes : (c : tie.Else2)
+    → let f = c .before .before .before .before .before in
+    ends (entry f .args .self) (take (f .before .before .before .ready .result) (entry f .args .xs .now)) ≡ false
 goes c =
     let d = c .before in
     let f = d .before .before .before .before in
@@ -54,7 +57,9 @@ turn-spec =
     (tie.spec
     (λ c κs. tt)
     (λ c κs. tt)
-    (λ c. let y = c .before .before .before in rw (c .ended .ensures) (ends-before _ _ _ (y .before .before .before .pre .0) (y .ready .ensures) (c .before .if1 .taken)))
+    (λ c.
+    let y = c .before .before .before in
+    rw (c .ended .ensures) (ends-before _ _ _ (y .before .before .before .pre .0) (y .ready .ensures) (c .before .if1 .taken)))
     (λ c κs. let y = c .before .before .ready .ensures .some (some c) in record-in _ _ (y .0) (y .1))
     (λ c. let w = whole-so (c .before) in omega (arith, w .long, w .low))
     (λ c κs. let p = entry (c .before) .pre .0 in (p .range, p .early, whole-so (c .before)))
@@ -73,7 +78,8 @@ turn-spec =
     let f = d .before .before .before .before in
     let y = f .before .before .before .ready .ensures in
     goes-on _ _ _ (entry f .pre .0) y (some (f .before)) (goes (l .before)) _ refl (sym (c .if3 .taken) ∙ told d)
-    (next-is _ _ _ _ (kind-so f) (told d) _ _ (rw (eq-eqb _ _ (c .if3 .taken)) (rw (f .first-of .ensures) at (told-account (d .before .before .judge .ensures)))) (l .lost-by .ensures)))
+    (next-is _ _ _ _ (kind-so f) (told d) _ _
+    (rw (eq-eqb _ _ (c .if3 .taken)) (rw (f .first-of .ensures) at (told-account (d .before .before .judge .ensures)))) (l .lost-by .ensures)))
     (λ c.
     let l = c .before .before in
     let d = l .before .before in

@@ -31,10 +31,14 @@ copy-spec =
     let a = c .before .before .before .args in (
       omega arith,
       simp length-set (l .inv .1),
-      (rw (getD-take (a .n) (a .src .now) (l .j) 0 (c .before .loop-test .taken)) at (copied-one (take (a .n) (a .src .now)) (l .out) (a .at) (l .j) (rw (length-take-le (a .n) (a .src .now) (c .before .before .before .pre .0)) (c .before .loop-test .taken)))) ∙ l .inv .2,
+      (rw (getD-take (a .n) (a .src .now) (l .j) 0 (c .before .loop-test .taken))
+          at (copied-one (take (a .n) (a .src .now)) (l .out) (a .at) (l .j)
+          (rw (length-take-le (a .n) (a .src .now) (c .before .before .before .pre .0)) (c .before .loop-test .taken))))
+          ∙ l .inv .2,
     ))
     (λ c. c .before .loop .inv .1)
     (λ c.
     let l = c .before .loop in
     let a = c .before .before .args in
-    sym (copied-all (take (a .n) (a .src .now)) (l .out) (a .at) (l .j) (rw (length-take-le (a .n) (a .src .now) (c .before .before .pre .0)) (omega arith))) ∙ l .inv .2))
+    sym (copied-all (take (a .n) (a .src .now)) (l .out) (a .at) (l .j)
+    (rw (length-take-le (a .n) (a .src .now) (c .before .before .pre .0)) (omega arith))) ∙ l .inv .2))

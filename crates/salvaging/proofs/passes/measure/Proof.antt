@@ -17,7 +17,8 @@ abbrev entry : tie.After-turn Inv-loop μ-loop → tie.Start Inv-loop μ-loop
 entry c = c .before .before .before .before .before .before
 
 -- the turn, and that it takes a record
-turned : (c : tie.After-turn Inv-loop μ-loop) → Turned (c .before .before .before .loop .s) (drop (c .before .before .before .loop .at) (entry c .args .damaged .now)) (c .turn .result)
+turned : (c : tie.After-turn Inv-loop μ-loop)
+    → Turned (c .before .before .before .loop .s) (drop (c .before .before .before .loop .at) (entry c .args .damaged .now)) (c .turn .result)
 turned c = rw (c .before .rest-of .ensures) at (c .turn .ensures)
 
 some : (c : tie.Else1 Inv-loop μ-loop) → 0 < c .before .before .turn .result .n
@@ -28,7 +29,8 @@ on : (c : tie.After-by-code2 Inv-loop μ-loop)
     → let e = c .before .before in
     let t = e .before .before in
     let l = t .before .before .before .loop in
-    Measuring (entry t .args .damaged .now) (t .turn .result .next) (l .at + t .turn .result .n) (l .book + c .before .by-code .result) (l .dropped + c .by-code2 .result)
+    Measuring (entry t .args .damaged .now) (t .turn .result .next) (l .at + t .turn .result .n) (l .book + c .before .by-code .result)
+    (l .dropped + c .by-code2 .result)
 on c =
     let e = c .before .before in
     let t = e .before .before in
