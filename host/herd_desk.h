@@ -3,26 +3,8 @@
    Link with libdesk.a, which is for x86-64 and the System V calling convention; it wants nothing but memcpy and memset.
 
    herd_desk reads `book_len` bytes at `book`, writes lines from the start of `lines`, never more than `lines_len` bytes, and
-   gives back code × 2^32 + bytes written:
-
-       0   closed: the book ends with its close
-       1   refused: a length that no record has
-       2   refused: another version than 1
-       3   refused: no such kind of record
-       4   refused: another length than the kind's
-       5   refused: more than 4,096 records
-       6   refused: a record out of its place
-       7   refused: a value out of its range
-       8   refused: a group number not above that before
-       9   refused: more than 366 days of a kind under a heading
-       10  refused: shares or parts that do not add up
-       11  refused: more nitrogen in milk and gain than in the feed
-       12  refused: the close counts other records than there are before it
-       16  no room: the lines of the next record do not fit
-       17  unfinished: the bytes end before the close
-       18  the book is closed, and bytes stand behind its close
-
-   Numbers 1 to 12 are those of document 01. herd_desk_words gives the words of a code, for people.
+   gives back code × 2^32 + bytes written. The codes have names below; herd_desk_code and herd_desk_written take the number
+   apart, and herd_desk_words gives a code's words, for people. docs/FORMAT.md has the rules, and what to do about each number.
 
    Every book starts from no record: nothing is kept from one call to the next, and calls may run side by side.
 
@@ -64,10 +46,25 @@
 extern "C" {
 #endif
 
-#define HERD_DESK_CLOSED 0
-#define HERD_DESK_FULL 16
-#define HERD_DESK_UNFINISHED 17
-#define HERD_DESK_MORE_BYTES 18
+/* The codes: 0, the numbers of refusals, and what a whole book can come to besides. */
+enum {
+    HERD_DESK_CLOSED = 0,               /* the book is right: it ends with its close */
+    HERD_DESK_NO_SUCH_LENGTH = 1,       /* refused: a length that no record has */
+    HERD_DESK_OTHER_VERSION = 2,        /* refused: another version than 1 */
+    HERD_DESK_NO_SUCH_KIND = 3,         /* refused: no such kind of record */
+    HERD_DESK_WRONG_LENGTH = 4,         /* refused: another length than the kind's */
+    HERD_DESK_TOO_MANY_RECORDS = 5,     /* refused: more than 4,096 records */
+    HERD_DESK_OUT_OF_PLACE = 6,         /* refused: a record out of its place */
+    HERD_DESK_OUT_OF_RANGE = 7,         /* refused: a value out of its range */
+    HERD_DESK_GROUP_NOT_ABOVE = 8,      /* refused: a group number not above that before */
+    HERD_DESK_TOO_MANY_DAYS = 9,        /* refused: more than 366 days of a kind under a heading */
+    HERD_DESK_WRONG_SHARES = 10,        /* refused: cattle shares or pig parts that do not add up */
+    HERD_DESK_NITROGEN_BELOW_ZERO = 11, /* refused: more nitrogen in milk and gain than in the feed */
+    HERD_DESK_WRONG_COUNT = 12,         /* refused: the close counts other records than there are before it */
+    HERD_DESK_FULL = 16,                /* no room: the lines of the next record do not fit */
+    HERD_DESK_UNFINISHED = 17,          /* the bytes end before the close */
+    HERD_DESK_MORE_BYTES = 18           /* the book is closed, and bytes stand behind its close */
+};
 
 /* The most bytes of a book, 4,096 records of 28 bytes, and room for the lines of any book. */
 #define HERD_DESK_BOOK_MAX (4096 * 28)
@@ -86,23 +83,23 @@ static inline size_t herd_desk_written(uint64_t answer) {
 /* The words of a code; they are never freed, and have no line's end. */
 static inline const char *herd_desk_words(uint32_t code) {
     switch (code) {
-    case 0: return "closed";
-    case 1: return "a length that no record has: it is 4 to 26";
-    case 2: return "the version is not 1";
-    case 3: return "no such kind of record: kinds are 1 to 8";
-    case 4: return "a wrong length or count of values";
-    case 5: return "the book has 4096 records, and no more go in";
-    case 6: return "out of its place: a book begins with its one farm record; enteric and cattle stand under a heading of class 1 to 3, "
-                   "pig under one of class 4";
-    case 7: return "a value is out of its range";
-    case 8: return "the group number must be above that of the heading before";
-    case 9: return "more than 366 days of this kind under the heading";
-    case 10: return "cattle shares must be 100.00 per cent together; a pig's volatilised and leached parts at most 1.000";
-    case 11: return "more nitrogen in milk and gain than in the feed";
-    case 12: return "the close counts other records than there are before it; left out, the count is filled in";
-    case 16: return "no room";
-    case 17: return "the bytes end before the close";
-    case 18: return "bytes stand behind the close";
+    case HERD_DESK_CLOSED: return "closed";
+    case HERD_DESK_NO_SUCH_LENGTH: return "a length that no record has: it is 4 to 26";
+    case HERD_DESK_OTHER_VERSION: return "the version is not 1";
+    case HERD_DESK_NO_SUCH_KIND: return "no such kind of record: kinds are 1 to 8";
+    case HERD_DESK_WRONG_LENGTH: return "a wrong length or count of values";
+    case HERD_DESK_TOO_MANY_RECORDS: return "the book has 4096 records, and no more go in";
+    case HERD_DESK_OUT_OF_PLACE: return "out of its place: a book begins with its one farm record; "
+                                    "enteric and cattle stand under a heading of class 1 to 3, pig under one of class 4";
+    case HERD_DESK_OUT_OF_RANGE: return "a value is out of its range";
+    case HERD_DESK_GROUP_NOT_ABOVE: return "the group number must be above that of the heading before";
+    case HERD_DESK_TOO_MANY_DAYS: return "more than 366 days of this kind under the heading";
+    case HERD_DESK_WRONG_SHARES: return "cattle shares must be 100.00 per cent together; a pig's volatilised and leached parts at most 1.000";
+    case HERD_DESK_NITROGEN_BELOW_ZERO: return "more nitrogen in milk and gain than in the feed";
+    case HERD_DESK_WRONG_COUNT: return "the close counts other records than there are before it; left out, the count is filled in";
+    case HERD_DESK_FULL: return "no room";
+    case HERD_DESK_UNFINISHED: return "the bytes end before the close";
+    case HERD_DESK_MORE_BYTES: return "bytes stand behind the close";
     default: return "no such number";
     }
 }

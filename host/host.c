@@ -1,6 +1,6 @@
 /* host BOOKS: runs herd_desk on every book of the file and compares with what the second program says of it.
 
-   A line of the file is `book room number lines`, bytes as hex or `-`, numbers in hex (docs/notes-second.md). The book and the line
+   A line of the file is `book room number lines`, bytes as hex or `-`, numbers in hex (docs/TRIALS.md). The book and the line
    buffer stand between guard bytes, at every alignment in turn. */
 #include "herd_desk.h"
 
@@ -169,7 +169,7 @@ static void run_null(void) {
     if (herd_desk(NULL, 0, NULL, 0) != (uint64_t)HERD_DESK_UNFINISHED << 32) {
         fail(0, "no book and no buffer");
     }
-    if (herd_desk(bad_length, 2, NULL, 0) != (uint64_t)1 << 32) {
+    if (herd_desk(bad_length, 2, NULL, 0) != (uint64_t)HERD_DESK_NO_SUCH_LENGTH << 32) {
         fail(0, "a book and no buffer");
     }
     if (herd_desk(NULL, 0, &line, 1) != (uint64_t)HERD_DESK_UNFINISHED << 32 || line != FILL) {

@@ -3,6 +3,7 @@
 use crate::dice::Dice;
 use crate::feed::feed;
 use crate::figures::x_of;
+use crate::kind;
 use crate::record::{fields_of, length_of, record_of};
 use crate::state::{State, MOST_RECORDS, NO_RECORD, OPEN};
 
@@ -16,22 +17,22 @@ pub fn after(state: &State, bytes: &[u8]) -> State {
 
 /// Days left under the heading for kind 3, 4 or 5.
 fn days_left(state: &State, kind: u8) -> u64 {
-    366 - u64::from(state.heading.days[usize::from(kind - 3)])
+    366 - u64::from(state.heading.days[kind::days_at(kind)])
 }
 
 /// The kinds, the close left out, that this open state can accept.
 fn kinds_allowed(state: &State) -> Vec<u8> {
     if state.records == 0 {
-        return vec![1];
+        return vec![kind::FARM];
     }
-    let mut kinds = vec![6, 7];
+    let mut kinds = vec![kind::ENERGY, kind::SOIL];
     if state.heading.group < 65_535 {
-        kinds.push(2);
+        kinds.push(kind::HEADING);
     }
     let details: &[u8] = match state.heading.class {
         0 => &[],
-        4 => &[5, 5, 5],
-        _ => &[3, 3, 4, 4],
+        4 => &[kind::PIG; 3],
+        _ => &[kind::ENTERIC, kind::ENTERIC, kind::CATTLE, kind::CATTLE],
     };
     kinds.extend(details.iter().filter(|&&kind| days_left(state, kind) > 0));
     kinds
@@ -42,23 +43,23 @@ pub fn right_values(dice: &mut Dice, state: &State, kind: u8) -> Vec<u64> {
     let mut v: Vec<u64> =
         fields_of(kind).iter().map(|f| dice.edgy(u64::from(f.low), u64::from(f.high))).collect();
     match kind {
-        2 => v[0] = next_group(dice, state),
-        3 => {
+        kind::HEADING => v[0] = next_group(dice, state),
+        kind::ENTERIC => {
             v[0] = some_days(dice, state, kind);
             if dice.one_in(6) {
                 v[1] = dice.of(&[27_824, 27_825, 27_826, 83_475, 5_565]);
             }
         }
-        4 => {
+        kind::CATTLE => {
             v[0] = some_days(dice, state, kind);
             share(dice, &mut v);
             keep_x_up(dice, &mut v);
         }
-        5 => {
+        kind::PIG => {
             v[0] = some_days(dice, state, kind);
             v[10] = dice.edgy(0, 1_000 - v[8]);
         }
-        8 => v[0] = u64::from(state.records),
+        kind::CLOSE => v[0] = u64::from(state.records),
         _ => (),
     }
     v
@@ -111,7 +112,7 @@ pub fn right_record(dice: &mut Dice, state: &State) -> Vec<u8> {
 }
 
 pub fn right_close(state: &State) -> Vec<u8> {
-    record_of(8, &[u64::from(state.records)])
+    record_of(kind::CLOSE, &[u64::from(state.records)])
 }
 
 /// So many right records after the state, without a close.
@@ -191,10 +192,18 @@ fn length_of_another(dice: &mut Dice, state: &State) -> Vec<u8> {
 
 fn out_of_place(dice: &mut Dice, state: &State) -> Option<Vec<u8>> {
     let kinds: &[u8] = match (state.records, state.heading.class) {
-        (0, _) => &[2, 3, 4, 5, 6, 7, 8],
-        (_, 0) => &[1, 3, 4, 5],
-        (_, 4) => &[1, 3, 4],
-        _ => &[1, 5],
+        (0, _) => &[
+            kind::HEADING,
+            kind::ENTERIC,
+            kind::CATTLE,
+            kind::PIG,
+            kind::ENERGY,
+            kind::SOIL,
+            kind::CLOSE,
+        ],
+        (_, 0) => &[kind::FARM, kind::ENTERIC, kind::CATTLE, kind::PIG],
+        (_, 4) => &[kind::FARM, kind::ENTERIC, kind::CATTLE],
+        _ => &[kind::FARM, kind::PIG],
     };
     let kind = dice.of(kinds);
     Some(record_of(kind, &right_values(dice, state, kind)))
@@ -228,16 +237,16 @@ fn out_of_range(dice: &mut Dice, state: &State) -> Vec<u8> {
 }
 
 fn old_group(dice: &mut Dice, state: &State) -> Vec<u8> {
-    let mut v = right_values(dice, state, 2);
+    let mut v = right_values(dice, state, kind::HEADING);
     v[0] = dice.edgy(1, u64::from(state.heading.group));
-    record_of(2, &v)
+    record_of(kind::HEADING, &v)
 }
 
 fn too_many_days(dice: &mut Dice, state: &State) -> Option<Vec<u8>> {
     let kinds: &[u8] = match state.heading.class {
         0 => &[],
-        4 => &[5],
-        _ => &[3, 4],
+        4 => &[kind::PIG],
+        _ => &[kind::ENTERIC, kind::CATTLE],
     };
     let kind = kinds.iter().copied().find(|&kind| days_left(state, kind) < 366)?;
     let mut v = right_values(dice, state, kind);
@@ -246,12 +255,12 @@ fn too_many_days(dice: &mut Dice, state: &State) -> Option<Vec<u8>> {
 }
 
 fn bad_parts(dice: &mut Dice, state: &State) -> Option<Vec<u8>> {
-    let kind = if state.heading.class == 4 { 5 } else { 4 };
+    let kind = if state.heading.class == 4 { kind::PIG } else { kind::CATTLE };
     if state.heading.class == 0 || days_left(state, kind) == 0 {
         return None;
     }
     let mut v = right_values(dice, state, kind);
-    if kind == 5 {
+    if kind == kind::PIG {
         v[8] = dice.edgy(1, 1_000);
         v[10] = dice.edgy(1_001 - v[8], 1_000);
     } else if v[8] > 0 && dice.one_in(2) {
@@ -260,14 +269,14 @@ fn bad_parts(dice: &mut Dice, state: &State) -> Option<Vec<u8>> {
         v[6] = dice.of(&[v[6] + 1, 10_000]).min(10_000);
         v[7] = (v[7] + 1).min(10_000);
     }
-    (kind == 5 || v[6] + v[7] + v[8] != 10_000).then(|| record_of(kind, &v))
+    (kind == kind::PIG || v[6] + v[7] + v[8] != 10_000).then(|| record_of(kind, &v))
 }
 
 fn below_zero(dice: &mut Dice, state: &State) -> Option<Vec<u8>> {
-    if !(1..=3).contains(&state.heading.class) || days_left(state, 4) == 0 {
+    if !(1..=3).contains(&state.heading.class) || days_left(state, kind::CATTLE) == 0 {
         return None;
     }
-    let mut v = right_values(dice, state, 4);
+    let mut v = right_values(dice, state, kind::CATTLE);
     match dice.below(3) {
         0 => v[1..6].copy_from_slice(&[52, 1, 53, 1, 0]),
         1 => v[1..6].copy_from_slice(&[0, 4_000, 0, 0, 1]),
@@ -276,7 +285,7 @@ fn below_zero(dice: &mut Dice, state: &State) -> Option<Vec<u8>> {
     if x(&v) >= 0 {
         v[1] = 0;
     }
-    Some(record_of(4, &v))
+    Some(record_of(kind::CATTLE, &v))
 }
 
 fn wrong_count(dice: &mut Dice, state: &State) -> Vec<u8> {
@@ -288,7 +297,7 @@ fn wrong_count(dice: &mut Dice, state: &State) -> Vec<u8> {
             break drawn;
         }
     };
-    record_of(8, &[count])
+    record_of(kind::CLOSE, &[count])
 }
 
 /// Right records up to a place where this number can come, the wrong one, and bytes after it.

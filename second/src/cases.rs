@@ -1,35 +1,23 @@
 //! Trial cases: one by chance for each seed and index, and the stored set, which is the same for ever.
 
-use crate::books::{
-    after, closed_run, damaged_run, right_close, right_run, values_outside, wrong_record,
-};
+use crate::books::{after, closed_run, damaged_run, right_close, right_run, wrong_record};
 use crate::calls::{some_calls, MOST_ROOM, ROOMS};
 use crate::dice::Dice;
 use crate::figures::Subtotal;
+use crate::kind;
 use crate::parts;
-use crate::record::{fields_of, record_of};
+use crate::plain::{
+    book_of, field_end_records, place_of, plain_values, sample, several_groups, under,
+};
+use crate::record::record_of;
 use crate::slips;
 use crate::state::{Heading, Refusal, State, CLOSED, MOST_RECORDS, NO_RECORD, OPEN, REFUSED};
 use crate::states::{
     bare_states, beside_bounds, heading_beside, most_subtotal, most_sums, right_state,
     subtotal_beside,
 };
-use crate::trial::{bytes_of, Call, Case};
+use crate::trial::{Call, Case};
 use crate::writes;
-
-/// Document 01's sample book.
-pub const SAMPLE: &str = concat!(
-    "000901010000000707da01",
-    "00070102000c010028",
-    "000a0103001f00007530028a",
-    "000b0106010000007d00011170",
-    "000a0103001c00007530028a",
-    "000401080005",
-);
-
-pub fn sample() -> Vec<u8> {
-    bytes_of(SAMPLE).expect("the sample is hex")
-}
 
 /// The case of this seed and index.
 pub fn case(seed: u64, index: u64) -> Case {
@@ -162,16 +150,17 @@ fn flipped(dice: &mut Dice) -> Case {
 
 /// 4,096 records, or one more, of the two shortest kinds; many calls with the most room.
 fn longest_book(dice: &mut Dice) -> Case {
-    let mut input = record_of(1, &[dice.below(1 << 32), 2_010, dice.of(&[1, 2])]);
+    let mut input = record_of(kind::FARM, &[dice.below(1 << 32), 2_010, dice.of(&[1, 2])]);
     let details = dice.of(&[4_093, 4_094, 4_095]);
     for i in 0..details {
         if dice.one_in(3) {
-            input.extend(record_of(2, &[i + 1, dice.between(1, 4), dice.below(20_001)]));
+            input
+                .extend(record_of(kind::HEADING, &[i + 1, dice.between(1, 4), dice.below(20_001)]));
         } else {
-            input.extend(record_of(7, &[dice.edgy(0, 10_000_000)]));
+            input.extend(record_of(kind::SOIL, &[dice.edgy(0, 10_000_000)]));
         }
     }
-    input.extend(record_of(8, &[details + 1]));
+    input.extend(record_of(kind::CLOSE, &[details + 1]));
     let offer = input.len();
     let calls = vec![Call { offer, room: MOST_ROOM }; 13];
     Case::Book { state: State::default(), input, calls }
@@ -220,39 +209,33 @@ fn byte_by_byte(input: Vec<u8>) -> Case {
     Case::Book { state: State::default(), input, calls }
 }
 
-/// Records of these kinds with plain values, a heading with its group and class, and a right close where 8 stands.
-pub fn book_of(records: &[(u8, u64, u64)]) -> Vec<u8> {
-    let record = |(before, &(kind, group, class)): (usize, &(u8, u64, u64))| match kind {
-        2 => record_of(2, &[group, class, 40]),
-        8 => record_of(8, &[before as u64]),
-        _ => record_of(kind, &plain_values(kind)),
-    };
-    records.iter().enumerate().flat_map(record).collect()
-}
-
-/// Cattle, nothing, pigs and cattle again, with energy and soil between their rations.
-pub fn several_groups() -> Vec<u8> {
-    let plain = |kind| (kind, 0, 0);
-    let heading = |group, class| (2, group, class);
-    let cattle = [heading(12, 1), plain(3), plain(6), plain(4), plain(7), plain(3)];
-    let pigs = [heading(13, 2), heading(500, 4), plain(7), plain(5), plain(6), plain(5)];
-    let last = [heading(65_535, 3), plain(4), plain(6), plain(8)];
-    book_of(&[&[plain(1), plain(6)], &cattle[..], &pigs, &last].concat())
-}
-
 /// Books whose groups have many rations, one, or none.
 fn groups() -> Vec<Case> {
     let start = State::default();
     let plain = |kind| (kind, 0, 0);
-    let heading = |group| (2, group, 1);
+    let heading = |group| (kind::HEADING, group, 1);
     let books = [
         several_groups(),
-        book_of(&[plain(1), plain(8)]),
-        book_of(&[plain(1), plain(7), plain(6), plain(8)]),
-        book_of(&[plain(1), heading(1), plain(8)]),
-        book_of(&[plain(1), heading(1), heading(2), heading(65_535), plain(8)]),
-        book_of(&[plain(1), heading(9), plain(6), plain(7), heading(10), plain(3), plain(8)]),
-        book_of(&[plain(1), heading(9), plain(3), heading(9), plain(8)]),
+        book_of(&[plain(kind::FARM), plain(kind::CLOSE)]),
+        book_of(&[plain(kind::FARM), plain(kind::SOIL), plain(kind::ENERGY), plain(kind::CLOSE)]),
+        book_of(&[plain(kind::FARM), heading(1), plain(kind::CLOSE)]),
+        book_of(&[plain(kind::FARM), heading(1), heading(2), heading(65_535), plain(kind::CLOSE)]),
+        book_of(&[
+            plain(kind::FARM),
+            heading(9),
+            plain(kind::ENERGY),
+            plain(kind::SOIL),
+            heading(10),
+            plain(kind::ENTERIC),
+            plain(kind::CLOSE),
+        ]),
+        book_of(&[
+            plain(kind::FARM),
+            heading(9),
+            plain(kind::ENTERIC),
+            heading(9),
+            plain(kind::CLOSE),
+        ]),
     ];
     let mut cases: Vec<Case> = Vec::new();
     for input in books {
@@ -274,9 +257,12 @@ fn group_ends() -> Vec<Case> {
     let full_group = State { subtotal: most_subtotal(4), ..with_group };
     let no_group =
         State { heading: Heading::default(), subtotal: Subtotal::default(), ..with_group };
-    let (enteric, energy) = (record_of(3, &plain_values(3)), record_of(6, &plain_values(6)));
-    let heading = |group, head| record_of(2, &[group, 1, head]);
-    let close = |before| record_of(8, &[before]);
+    let (enteric, energy) = (
+        record_of(kind::ENTERIC, &plain_values(kind::ENTERIC)),
+        record_of(kind::ENERGY, &plain_values(kind::ENERGY)),
+    );
+    let heading = |group, head| record_of(kind::HEADING, &[group, 1, head]);
+    let close = |before| record_of(kind::CLOSE, &[before]);
     let ends = [
         (with_group, heading(6, 40)),
         (full_group, heading(6, 40)),
@@ -305,40 +291,11 @@ fn group_ends() -> Vec<Case> {
     cases
 }
 
-/// Twelve heads of cattle or pigs, and nothing eaten yet.
-pub fn under(class: u8) -> State {
-    let heading = Heading { group: 5, class, head: 12, days: [0; 3] };
-    State { stage: OPEN, records: 2, set: 1, heading, ..State::default() }
-}
-
-pub fn place_of(kind: u8) -> State {
-    match kind {
-        1 => State::default(),
-        5 => under(4),
-        _ => under(1),
-    }
-}
-
-/// Records of a kind with each field at its ends, and outside them, all other fields right.
-pub fn field_end_records(kind: u8) -> Vec<Vec<u8>> {
-    let mut records = Vec::new();
-    for (position, f) in fields_of(kind).iter().enumerate() {
-        let mut values = vec![u64::from(f.low), u64::from(f.high)];
-        values.extend(values_outside(kind, position));
-        for value in values {
-            let mut v = plain_values(kind);
-            v[position] = value;
-            records.push(record_of(kind, &v));
-        }
-    }
-    records
-}
-
 fn field_ends() -> Vec<Case> {
     let cases_of = |kind| {
         field_end_records(kind).into_iter().map(move |record| whole(place_of(kind), record, 100))
     };
-    (1..=8).flat_map(cases_of).collect()
+    kind::ALL.flat_map(cases_of).collect()
 }
 
 /// Each kind with no record before it, with no heading, and under each class.
@@ -347,7 +304,7 @@ fn each_place() -> Vec<Case> {
     let mut places = vec![State::default(), no_heading];
     places.extend((1..=4).map(under));
     let mut cases = Vec::new();
-    for kind in 1..=8 {
+    for kind in kind::ALL {
         let record = record_of(kind, &plain_values(kind));
         cases.extend(places.iter().map(|&state| whole(state, record.clone(), 100)));
     }
@@ -357,12 +314,15 @@ fn each_place() -> Vec<Case> {
 /// The largest figures there are, added to the largest subtotal and sums.
 fn heaviest() -> Vec<Case> {
     let records: [(u8, &[u64]); 6] = [
-        (3, &[366, 100_000, 2_000]),
-        (4, &[366, 5_000, 4_000, 0, 0, 0, 0, 10_000, 0]),
-        (5, &[366, 1_000, 5_000, 2_000, 1_000, 4_000, 2_000, 10_000, 999, 10_000, 1, 9_999]),
-        (5, &[366, 1_000, 5_000, 2_000, 1_000, 4_000, 2_000, 10_000, 0, 10_000, 0, 10_000]),
-        (6, &[8, 10_000_000, 10_000_000]),
-        (7, &[10_000_000]),
+        (kind::ENTERIC, &[366, 100_000, 2_000]),
+        (kind::CATTLE, &[366, 5_000, 4_000, 0, 0, 0, 0, 10_000, 0]),
+        (
+            kind::PIG,
+            &[366, 1_000, 5_000, 2_000, 1_000, 4_000, 2_000, 10_000, 999, 10_000, 1, 9_999],
+        ),
+        (kind::PIG, &[366, 1_000, 5_000, 2_000, 1_000, 4_000, 2_000, 10_000, 0, 10_000, 0, 10_000]),
+        (kind::ENERGY, &[8, 10_000_000, 10_000_000]),
+        (kind::SOIL, &[10_000_000]),
     ];
     let mut cases = Vec::new();
     for (kind, values) in records {
@@ -370,24 +330,10 @@ fn heaviest() -> Vec<Case> {
         state.heading.head = 20_000;
         state.subtotal = most_subtotal(state.records);
         state.sums = most_sums(state.records);
-        let input = [record_of(kind, values), record_of(8, &[3])].concat();
+        let input = [record_of(kind, values), record_of(kind::CLOSE, &[3])].concat();
         cases.push(whole(state, input, 146));
     }
     cases
-}
-
-/// Right values of each kind, as the paper's examples have them where it gives any.
-pub fn plain_values(kind: u8) -> Vec<u64> {
-    match kind {
-        1 => vec![7, 2010, 1],
-        2 => vec![12, 1, 40],
-        3 => vec![31, 30_000, 650],
-        4 => vec![30, 2_000, 1_600, 3_000, 320, 0, 2_000, 8_000, 0],
-        5 => vec![100, 200, 1_000, 1_000, 200, 1_800, 1_000, 200, 250, 1_000, 0, 0],
-        6 => vec![1, 125, 70_000],
-        7 => vec![100],
-        _ => vec![2],
-    }
 }
 
 /// Each refusal number, several times, with room and without.

@@ -1,9 +1,9 @@
 //! Damaged books by chance: right books whose records are spoilt, lost, doubled, exchanged or cut.
 
 use crate::books::{after, closed_run, right_close, right_record, wrong_record};
-use crate::cases::plain_values;
 use crate::desk::{long_book, many_groups};
 use crate::dice::Dice;
+use crate::plain::plain_values;
 use crate::record::{length_of, record_of};
 use crate::salvage::LONGEST;
 use crate::state::State;

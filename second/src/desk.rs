@@ -2,9 +2,10 @@
 
 use crate::books::{closed_run, damaged_run, right_run};
 use crate::calls::ROOMS;
-use crate::cases::{field_end_records, plain_values, sample, several_groups};
 use crate::dice::Dice;
 use crate::feed::herd_desk;
+use crate::kind;
+use crate::plain::{field_end_records, plain_values, sample, several_groups};
 use crate::record::record_of;
 use crate::state::State;
 use crate::trial::hex;
@@ -55,13 +56,17 @@ pub fn some_book(dice: &mut Dice, index: u64) -> Vec<u8> {
 /// A book for each field of each kind at its ends and outside them, a line each with room for all.
 pub fn field_end_text() -> String {
     let mut text = String::new();
-    for kind in 1..=8 {
+    for kind in kind::ALL {
         let place = match kind {
-            1 => Vec::new(),
-            2 => record_of(1, &plain_values(1)),
+            kind::FARM => Vec::new(),
+            kind::HEADING => record_of(kind::FARM, &plain_values(kind::FARM)),
             _ => {
-                let class = if kind == 5 { 4 } else { 1 };
-                [record_of(1, &plain_values(1)), record_of(2, &[5, class, 12])].concat()
+                let class = if kind == kind::PIG { 4 } else { 1 };
+                [
+                    record_of(kind::FARM, &plain_values(kind::FARM)),
+                    record_of(kind::HEADING, &[5, class, 12]),
+                ]
+                .concat()
             }
         };
         for record in field_end_records(kind) {
@@ -83,19 +88,19 @@ fn cut(dice: &mut Dice, mut book: Vec<u8>) -> Vec<u8> {
 
 /// So many soil records between the farm and a right close.
 pub fn long_book(details: u64) -> Vec<u8> {
-    long_book_of(details, |i| record_of(7, &[i]))
+    long_book_of(details, |i| record_of(kind::SOIL, &[i]))
 }
 
 /// So many headings between the farm and a right close, without a ration under any.
 pub fn many_groups(groups: u64) -> Vec<u8> {
-    long_book_of(groups, |i| record_of(2, &[i + 1, 1, i]))
+    long_book_of(groups, |i| record_of(kind::HEADING, &[i + 1, 1, i]))
 }
 
 fn long_book_of(count: u64, record: impl Fn(u64) -> Vec<u8>) -> Vec<u8> {
-    let mut book = record_of(1, &[7, 2010, 2]);
+    let mut book = record_of(kind::FARM, &[7, 2010, 2]);
     for i in 0..count {
         book.extend(record(i));
     }
-    book.extend(record_of(8, &[count + 1]));
+    book.extend(record_of(kind::CLOSE, &[count + 1]));
     book
 }

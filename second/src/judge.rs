@@ -1,14 +1,12 @@
 //! Document 01, "Refusal numbers, in the order they are tried": what one whole record does, from 2 to 12; document 02's W2: subtotals.
 
 use crate::figures::{self, Figures, Subtotal};
+use crate::kind;
 use crate::record::{big_endian, fields_of, length_of, values_of};
 use crate::state::{Heading, State, CLOSED, MOST_RECORDS, OPEN};
 
 /// A record's refusal: code, and field where the code is 7.
 pub type Fault = (u8, u8);
-
-/// The kind of a subtotal's line, which is no record's.
-const SUBTOTAL: u8 = 16;
 
 /// An accepted record: the state after it and the bytes of its lines, which fit together or not at all.
 pub struct Accepted {
@@ -42,7 +40,7 @@ fn refuse_if(wrong: bool, code: u8) -> Result<(), Fault> {
 fn kind_of(record: &[u8]) -> Result<u8, Fault> {
     let (version, kind) = (record[2], record[3]);
     refuse_if(version != 1, 2)?;
-    refuse_if(!(1..=8).contains(&kind), 3)?;
+    refuse_if(!kind::ALL.contains(&kind), 3)?;
     refuse_if(record.len() != 2 + usize::from(length_of(kind)), 4)?;
     Ok(kind)
 }
@@ -51,10 +49,10 @@ fn kind_of(record: &[u8]) -> Result<u8, Fault> {
 fn in_its_place(state: &State, kind: u8) -> Result<(), Fault> {
     refuse_if(state.records >= MOST_RECORDS, 5)?;
     let first = state.records == 0;
-    refuse_if(first != (kind == 1), 6)?;
+    refuse_if(first != (kind == kind::FARM), 6)?;
     let heading_fits = match kind {
-        3 | 4 => (1..=3).contains(&state.heading.class),
-        5 => state.heading.class == 4,
+        kind::ENTERIC | kind::CATTLE => (1..=3).contains(&state.heading.class),
+        kind::PIG => state.heading.class == 4,
         _ => true,
     };
     refuse_if(!heading_fits, 6)
@@ -73,25 +71,25 @@ fn in_their_ranges(kind: u8, values: &[u128]) -> Result<(), Fault> {
 /// Refusals 8 to 12.
 fn makes_sense(state: &State, kind: u8, v: &[u128]) -> Result<(), Fault> {
     match kind {
-        2 => refuse_if(v[0] <= u128::from(state.heading.group), 8),
-        3 => days_fit(state, kind, v),
-        4 => {
+        kind::HEADING => refuse_if(v[0] <= u128::from(state.heading.group), 8),
+        kind::ENTERIC => days_fit(state, kind, v),
+        kind::CATTLE => {
             days_fit(state, kind, v)?;
             refuse_if(v[6] + v[7] + v[8] != 10_000, 10)?;
             refuse_if(figures::x_of(v) < 0, 11)
         }
-        5 => {
+        kind::PIG => {
             days_fit(state, kind, v)?;
             refuse_if(v[8] + v[10] > 1_000, 10)
         }
-        8 => refuse_if(v[0] != u128::from(state.records), 12),
+        kind::CLOSE => refuse_if(v[0] != u128::from(state.records), 12),
         _ => Ok(()),
     }
 }
 
 /// Refusal 9.
 fn days_fit(state: &State, kind: u8, v: &[u128]) -> Result<(), Fault> {
-    let before = state.heading.days[usize::from(kind - 3)];
+    let before = state.heading.days[kind::days_at(kind)];
     refuse_if(u128::from(before) + v[0] > 366, 9)
 }
 
@@ -99,13 +97,13 @@ fn accept(state: &State, kind: u8, v: &[u128]) -> Accepted {
     let counted = State { records: state.records + 1, stage: OPEN, ..*state };
     let head = u128::from(state.heading.head);
     match kind {
-        1 => Accepted { state: State { set: v[2] as u8, ..counted }, lines: Vec::new() },
-        2 => new_group(counted, heading_of(v)),
-        3 => of_group(with_days(counted, kind, v), kind, figures::enteric(head, v)),
-        4 => of_group(with_days(counted, kind, v), kind, figures::cattle(head, v)),
-        5 => of_group(with_days(counted, kind, v), kind, figures::pig(head, v)),
-        6 => of_farm(counted, kind, figures::energy(v)),
-        7 => of_farm(counted, kind, figures::soil(v)),
+        kind::FARM => Accepted { state: State { set: v[2] as u8, ..counted }, lines: Vec::new() },
+        kind::HEADING => new_group(counted, heading_of(v)),
+        kind::ENTERIC => of_group(with_days(counted, kind, v), kind, figures::enteric(head, v)),
+        kind::CATTLE => of_group(with_days(counted, kind, v), kind, figures::cattle(head, v)),
+        kind::PIG => of_group(with_days(counted, kind, v), kind, figures::pig(head, v)),
+        kind::ENERGY => of_farm(counted, kind, figures::energy(v)),
+        kind::SOIL => of_farm(counted, kind, figures::soil(v)),
         _ => close(counted),
     }
 }
@@ -116,7 +114,7 @@ fn heading_of(v: &[u128]) -> Heading {
 }
 
 fn with_days(mut state: State, kind: u8, v: &[u128]) -> State {
-    state.heading.days[usize::from(kind - 3)] += v[0] as u16;
+    state.heading.days[kind::days_at(kind)] += v[0] as u16;
     state
 }
 
@@ -143,14 +141,14 @@ fn of_farm(state: State, kind: u8, made: Figures) -> Accepted {
 fn close(state: State) -> Accepted {
     let mut numbers = state.sums.in_order().to_vec();
     numbers.push(figures::co2e(state.set, state.sums));
-    let lines = [subtotal_line(&state), line_of(8, 0, &numbers)].concat();
+    let lines = [subtotal_line(&state), line_of(kind::CLOSE, 0, &numbers)].concat();
     Accepted { state: State { stage: CLOSED, ..state }, lines }
 }
 
 /// The line of the group under the heading; none where there is no heading.
 fn subtotal_line(state: &State) -> Vec<u8> {
     if state.heading.stands() {
-        line_of(SUBTOTAL, state.heading.group, &state.subtotal.figures().in_order())
+        line_of(kind::SUBTOTAL, state.heading.group, &state.subtotal.figures().in_order())
     } else {
         Vec::new()
     }

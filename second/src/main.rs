@@ -9,8 +9,10 @@ mod dice;
 mod feed;
 mod figures;
 mod judge;
+mod kind;
 mod lister;
 mod parts;
+mod plain;
 mod record;
 mod salvage;
 mod slip;
@@ -25,13 +27,7 @@ mod writer;
 mod writes;
 
 #[cfg(test)]
-mod salvage_tests;
-#[cfg(test)]
 mod tests;
-#[cfg(test)]
-mod typed_tests;
-#[cfg(test)]
-mod writer_tests;
 
 use std::io::{self, BufRead, BufWriter, Read, Write};
 

@@ -2,8 +2,9 @@
 
 use crate::books::{after, damaged_run, right_close, right_run, wrong_record};
 use crate::calls::calls_to_the_end;
-use crate::cases::{book_of, plain_values, under};
 use crate::dice::Dice;
+use crate::kind;
+use crate::plain::{book_of, plain_values, under};
 use crate::record::record_of;
 use crate::state::{State, MOST_RECORDS, NO_RECORD, OPEN};
 use crate::states::right_state;
@@ -89,11 +90,24 @@ fn part_size(size: usize) -> [Case; 4] {
 }
 
 fn cattle_book() -> Vec<u8> {
-    book_of(&[(1, 0, 0), (2, 12, 1), (3, 0, 0), (7, 0, 0), (4, 0, 0), (8, 0, 0)])
+    book_of(&[
+        (kind::FARM, 0, 0),
+        (kind::HEADING, 12, 1),
+        (kind::ENTERIC, 0, 0),
+        (kind::SOIL, 0, 0),
+        (kind::CATTLE, 0, 0),
+        (kind::CLOSE, 0, 0),
+    ])
 }
 
 fn pig_book() -> Vec<u8> {
-    book_of(&[(1, 0, 0), (2, 500, 4), (6, 0, 0), (5, 0, 0), (8, 0, 0)])
+    book_of(&[
+        (kind::FARM, 0, 0),
+        (kind::HEADING, 500, 4),
+        (kind::ENERGY, 0, 0),
+        (kind::PIG, 0, 0),
+        (kind::CLOSE, 0, 0),
+    ])
 }
 
 /// A right record and one that is refused, by each number in turn.
@@ -103,7 +117,7 @@ fn refused_book(size: usize) -> (State, Vec<u8>) {
     let mut state = under(if number == 11 { 1 } else { dice.of(&[1, 4]) });
     state.heading.days = [300, 300, 300];
     state.records = if number == 5 { MOST_RECORDS - 1 } else { 3 };
-    let soil = record_of(7, &plain_values(7));
+    let soil = record_of(kind::SOIL, &plain_values(kind::SOIL));
     let wrong = wrong_record(&mut dice, &after(&state, &soil), number);
     (state, [soil, wrong.expect("a place where every number can come")].concat())
 }

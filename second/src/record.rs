@@ -1,5 +1,7 @@
 //! Document 01, "The book": the table of the eight kinds, and numbers to bytes and back.
 
+use crate::kind;
+
 /// One field: how many bytes it takes and the range it must lie in.
 pub struct Field {
     pub bytes: usize,
@@ -13,10 +15,10 @@ const fn field(bytes: usize, low: u32, high: u32) -> Field {
 
 const DAYS: Field = field(2, 1, 366);
 
-const FARM: [Field; 3] = [field(4, 0, u32::MAX), field(2, 1900, 2200), field(1, 1, 2)];
-const HEADING: [Field; 3] = [field(2, 1, 65_535), field(1, 1, 4), field(2, 0, 20_000)];
-const ENTERIC: [Field; 3] = [DAYS, field(4, 0, 100_000), field(2, 0, 2_000)];
-const CATTLE: [Field; 9] = [
+const FARM_FIELDS: [Field; 3] = [field(4, 0, u32::MAX), field(2, 1900, 2200), field(1, 1, 2)];
+const HEADING_FIELDS: [Field; 3] = [field(2, 1, 65_535), field(1, 1, 4), field(2, 0, 20_000)];
+const ENTERIC_FIELDS: [Field; 3] = [DAYS, field(4, 0, 100_000), field(2, 0, 2_000)];
+const CATTLE_FIELDS: [Field; 9] = [
     DAYS,
     field(2, 0, 5_000),
     field(2, 0, 4_000),
@@ -27,7 +29,7 @@ const CATTLE: [Field; 9] = [
     field(2, 0, 10_000),
     field(2, 0, 10_000),
 ];
-const PIG: [Field; 12] = [
+const PIG_FIELDS: [Field; 12] = [
     DAYS,
     field(2, 0, 1_000),
     field(2, 0, 5_000),
@@ -41,9 +43,10 @@ const PIG: [Field; 12] = [
     field(2, 0, 1_000),
     field(2, 0, 10_000),
 ];
-const ENERGY: [Field; 3] = [field(1, 1, 8), field(4, 0, 10_000_000), field(4, 0, 10_000_000)];
-const SOIL: [Field; 1] = [field(4, 0, 10_000_000)];
-const CLOSE: [Field; 1] = [field(2, 0, 65_535)];
+const ENERGY_FIELDS: [Field; 3] =
+    [field(1, 1, 8), field(4, 0, 10_000_000), field(4, 0, 10_000_000)];
+const SOIL_FIELDS: [Field; 1] = [field(4, 0, 10_000_000)];
+const CLOSE_FIELDS: [Field; 1] = [field(2, 0, 65_535)];
 
 /// The lengths that a record may state at all.
 pub const LENGTHS: std::ops::RangeInclusive<u16> = 4..=26;
@@ -51,14 +54,14 @@ pub const LENGTHS: std::ops::RangeInclusive<u16> = 4..=26;
 /// The fields of a kind 1..8, in order.
 pub fn fields_of(kind: u8) -> &'static [Field] {
     match kind {
-        1 => &FARM,
-        2 => &HEADING,
-        3 => &ENTERIC,
-        4 => &CATTLE,
-        5 => &PIG,
-        6 => &ENERGY,
-        7 => &SOIL,
-        8 => &CLOSE,
+        kind::FARM => &FARM_FIELDS,
+        kind::HEADING => &HEADING_FIELDS,
+        kind::ENTERIC => &ENTERIC_FIELDS,
+        kind::CATTLE => &CATTLE_FIELDS,
+        kind::PIG => &PIG_FIELDS,
+        kind::ENERGY => &ENERGY_FIELDS,
+        kind::SOIL => &SOIL_FIELDS,
+        kind::CLOSE => &CLOSE_FIELDS,
         _ => panic!("{kind} is no kind"),
     }
 }

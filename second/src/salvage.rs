@@ -1,6 +1,7 @@
 //! Document 02, W5: a clean book saved from a damaged one, and the list of what was dropped.
 
 use crate::judge::judge;
+use crate::kind;
 use crate::record::{record_of, LENGTHS};
 use crate::state::State;
 use crate::words::sentence;
@@ -44,9 +45,9 @@ fn fate(state: &State, heading_dropped: bool, record: &[u8]) -> Fate {
     let code = judged.as_ref().err().map_or(0, |fault| fault.0);
     match (code, kind) {
         (2..=4, _) => Fate::Dropped(code),
-        (_, 3..=5) if heading_dropped => Fate::Dropped(6),
+        _ if heading_dropped && kind::OF_GROUP.contains(&kind) => Fate::Dropped(6),
         (6..=11, _) => Fate::Dropped(code),
-        (_, 8) => Fate::End,
+        (_, kind::CLOSE) => Fate::End,
         _ => Fate::Kept(judged.ok().expect("what is left is accepted").state),
     }
 }
@@ -73,7 +74,7 @@ pub fn find(damaged: &[u8]) -> Found {
                 false
             }
         };
-        if record[3] == 2 {
+        if record[3] == kind::HEADING {
             heading_dropped = dropped;
         }
         rest = &rest[record.len()..];
@@ -84,7 +85,7 @@ pub fn find(damaged: &[u8]) -> Found {
 impl Found {
     /// The clean book, with a right close.
     pub fn book(&self) -> Vec<u8> {
-        let close = record_of(8, &[u64::from(self.state.records)]);
+        let close = record_of(kind::CLOSE, &[u64::from(self.state.records)]);
         [self.kept.clone(), close].concat()
     }
 

@@ -1,8 +1,9 @@
 //! Typed texts by chance: right books as people type them, and the mistakes that they make.
 
 use crate::books::{after, right_close, right_record, wrong_record};
-use crate::cases::plain_values;
 use crate::dice::Dice;
+use crate::kind;
+use crate::plain::plain_values;
 use crate::record::{fields_of, values_of};
 use crate::state::{State, MOST_RECORDS};
 use crate::words::{kind_name, spoken_of};
@@ -124,10 +125,10 @@ fn too_many_records(dice: &mut Dice) -> Vec<u8> {
 
 /// In its place, a line of a kind for each of its fields with that field's word wrong, and one with such a word behind them.
 fn each_field(kind: u8, wrong: fn(u8, usize) -> String) -> Vec<u8> {
-    let class = if kind == 5 { 4 } else { 1 };
+    let class = if kind == kind::PIG { 4 } else { 1 };
     let mut text = match kind {
-        1 => String::new(),
-        2 => "farm 7 2012 1\n".to_string(),
+        kind::FARM => String::new(),
+        kind::HEADING => "farm 7 2012 1\n".to_string(),
         _ => format!("farm 7 2012 1\nheading 1 {class} 40\n"),
     };
     let count = fields_of(kind).len();
@@ -206,10 +207,13 @@ fn typed_book(dice: &mut Dice) -> Vec<u8> {
 fn planned_record(dice: &mut Dice, state: &State, year: u64) -> Vec<u8> {
     let mut record = right_record(dice, state);
     let kind = record[3];
-    if kind == 1 {
+    if kind == kind::FARM {
         record[8..10].copy_from_slice(&(year as u16).to_be_bytes());
     }
-    if (3..=5).contains(&kind) && state.heading.days[usize::from(kind) - 3] == 0 && dice.one_in(3) {
+    if kind::OF_GROUP.contains(&kind)
+        && state.heading.days[kind::days_at(kind)] == 0
+        && dice.one_in(3)
+    {
         let days: u16 = dice.of(&[365, 366]);
         record[4..6].copy_from_slice(&days.to_be_bytes());
     }

@@ -1,4 +1,4 @@
-//! The text of trial cases and of their answers; docs/notes-second.md gives the format.
+//! The text of trial cases and of their answers; docs/TRIALS.md gives the format.
 
 use crate::feed::{feed, Answer, Reply};
 use crate::figures::{Figures, Subtotal};

@@ -1,5 +1,6 @@
 //! The typed book: a text's lines one after the other, the bytes that they write and what is said of them.
 
+use crate::kind;
 use crate::state::{Heading, Refusal, State, CLOSED, OPEN};
 use crate::words::{class_name, kind_name, sentence, shown, spoken_of, KINDS};
 use crate::writer::write;
@@ -135,14 +136,18 @@ impl Clerk {
         match read(line) {
             None => (),
             Some(Reading::NotRead(kind, why)) => self.note_not_read(number, kind, &why),
-            Some(Reading::Read(typed)) => match (typed.kind, self.first_failed, self.lost_by) {
-                (8, Some(failed), _) if self.state.stage == OPEN => {
-                    let why = "failed, and a book with a failed line is not closed";
-                    self.tell(number, &format!("close withheld: line {failed} {why}"));
+            Some(Reading::Read(typed)) => {
+                match (kind::of(typed.kind), self.first_failed, self.lost_by) {
+                    (Some(kind::CLOSE), Some(failed), _) if self.state.stage == OPEN => {
+                        let why = "failed, and a book with a failed line is not closed";
+                        self.tell(number, &format!("close withheld: line {failed} {why}"));
+                    }
+                    (Some(kind::ENTERIC..=kind::PIG), _, Some(lost_by)) => {
+                        self.note_without_heading(number, lost_by)
+                    }
+                    _ => self.judge(number, typed),
                 }
-                (3..=5, _, Some(lost_by)) => self.note_without_heading(number, lost_by),
-                _ => self.judge(number, typed),
-            },
+            }
         }
     }
 
@@ -176,7 +181,7 @@ impl Clerk {
 
     /// Offers the line to the writer.
     fn judge(&mut self, number: usize, mut typed: Typed) {
-        if typed.kind == 8 && typed.values.is_empty() {
+        if kind::of(typed.kind) == Some(kind::CLOSE) && typed.values.is_empty() {
             typed.values.push(self.state.records.into());
         }
         match write(&self.state, typed.kind, &typed.values, ROOM) {
@@ -191,20 +196,20 @@ impl Clerk {
 
     fn note_written(&mut self, typed: &Typed) {
         self.written += 1;
-        match typed.kind {
-            1 => self.year = typed.values[1],
-            2 => {
+        match kind::of(typed.kind) {
+            Some(kind::FARM) => self.year = typed.values[1],
+            Some(kind::HEADING) => {
                 self.say_group();
                 self.lost_by = None;
             }
-            8 => self.say_group(),
+            Some(kind::CLOSE) => self.say_group(),
             _ => (),
         }
     }
 
     fn note_refused(&mut self, number: usize, typed: &Typed, refusal: Refusal) {
         self.refused += 1;
-        if typed.kind == 2 || refusal.code == 3 {
+        if kind::of(typed.kind) == Some(kind::HEADING) || refusal.code == 3 {
             self.lost_by = Some(number);
         }
         self.fail(number, &refusal_text(typed, refusal));
@@ -217,12 +222,12 @@ impl Clerk {
             return;
         }
         let year = days_of(self.year);
-        let days_text = |(kind, days): (u64, u16)| {
+        let days_text = |(kind, days): (u8, u16)| {
             let of = if days == year { String::new() } else { format!(" of {year}") };
-            format!("{} {days} days{of}", kind_name(kind))
+            format!("{} {days} days{of}", kind_name(kind.into()))
         };
         let kinds: Vec<String> =
-            (3..).zip(days).filter(|&(_, days)| days > 0).map(days_text).collect();
+            kind::OF_GROUP.zip(days).filter(|&(_, days)| days > 0).map(days_text).collect();
         let kinds = if kinds.is_empty() { "no days".to_string() } else { kinds.join(", ") };
         self.said += &format!("group {group} {}, {head} head: {kinds}\n", class_name(class));
     }
@@ -248,7 +253,7 @@ impl Clerk {
 
 /// Whether a line of this kind may have been meant as a heading: it is one, or none of the book's.
 fn may_be_heading(kind: u64) -> bool {
-    kind == 2 || !(1..=8).contains(&kind)
+    matches!(kind::of(kind), None | Some(kind::HEADING))
 }
 
 fn refusal_text(typed: &Typed, refusal: Refusal) -> String {

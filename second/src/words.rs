@@ -1,5 +1,7 @@
 //! The typed book's words: names of kinds, fields and classes, what is expected of a field, and the sentence of each refusal.
 
+use crate::kind;
+
 /// How people name a field: its name, the decimals of the unit that they say, and what is expected of it.
 pub struct Spoken {
     pub name: &'static str,
@@ -68,24 +70,21 @@ const CLOSE: [Spoken; 1] = [spoken("records before it", 0, "0 to 65535")];
 
 /// The fields of a kind, in order; a kind that the book has not has none.
 pub fn spoken_of(kind: u64) -> &'static [Spoken] {
-    match kind {
-        1 => &FARM,
-        2 => &HEADING,
-        3 => &ENTERIC,
-        4 => &CATTLE,
-        5 => &PIG,
-        6 => &ENERGY,
-        7 => &SOIL,
-        8 => &CLOSE,
+    match kind::of(kind) {
+        Some(kind::FARM) => &FARM,
+        Some(kind::HEADING) => &HEADING,
+        Some(kind::ENTERIC) => &ENTERIC,
+        Some(kind::CATTLE) => &CATTLE,
+        Some(kind::PIG) => &PIG,
+        Some(kind::ENERGY) => &ENERGY,
+        Some(kind::SOIL) => &SOIL,
+        Some(kind::CLOSE) => &CLOSE,
         _ => &[],
     }
 }
 
 pub fn kind_name(kind: u64) -> &'static str {
-    match kind {
-        1..=8 => KINDS[kind as usize - 1],
-        _ => "record",
-    }
+    kind::of(kind).map_or("record", |kind| KINDS[usize::from(kind) - 1])
 }
 
 /// The name of a class 1..4.

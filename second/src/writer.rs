@@ -1,6 +1,7 @@
 //! Document 02, W1: a record written from its values, or the number the reader would give.
 
 use crate::judge::judge_values;
+use crate::kind;
 use crate::record::{fields_of, record_of};
 use crate::state::{Refusal, State, CLOSED, REFUSED};
 
@@ -15,10 +16,7 @@ pub struct Wrote {
 pub fn write(state: &State, kind: u64, values: &[u64], room: usize) -> Result<Wrote, Refusal> {
     can_be_written_to(state)?;
     let refusal = |code, field| Refusal { code, record: state.records, field };
-    let kind = match kind {
-        1..=8 => kind as u8,
-        _ => return Err(refusal(3, 0)),
-    };
+    let Some(kind) = kind::of(kind) else { return Err(refusal(3, 0)) };
     if values.len() != fields_of(kind).len() {
         return Err(refusal(4, 0));
     }

@@ -1,8 +1,9 @@
 //! Trial cases of the writer: right and wrong values of each kind, after states of every sort, with rooms around a record.
 
 use crate::books::{after, closed_run, right_close, right_record, values_outside, wrong_record};
-use crate::cases::{place_of, plain_values, sample, under};
 use crate::dice::Dice;
+use crate::kind;
+use crate::plain::{place_of, plain_values, sample, under};
 use crate::record::{fields_of, length_of, values_of};
 use crate::state::{Heading, Refusal, State, CLOSED, MOST_RECORDS, NO_RECORD, OPEN, REFUSED};
 use crate::states::{bare_states, beside_bounds, right_state, some_refusal};
@@ -83,7 +84,7 @@ pub fn some_write(dice: &mut Dice) -> Case {
         0 => past_its_bytes(dice, known, &mut values),
         1 => another_count(dice, &mut values),
         2 => kind = dice.of(&NO_KINDS),
-        3 => kind = dice.between(1, 8),
+        3 => kind = dice.between(kind::FARM.into(), kind::CLOSE.into()),
         _ => (),
     }
     let state = some_state(dice, &base);
@@ -164,7 +165,7 @@ pub fn stored() -> Vec<Case> {
 /// Each kind with each room that matters.
 fn rooms() -> Vec<Case> {
     let mut cases = Vec::new();
-    for kind in 1..=8 {
+    for kind in kind::ALL {
         let size = size_of(kind);
         for room in [0, size - 1, size, size + 1, 64] {
             cases.push(case(place_of(kind), kind, &plain_values(kind), room));
@@ -176,7 +177,7 @@ fn rooms() -> Vec<Case> {
 /// Too few and too many values.
 fn counts() -> Vec<Case> {
     let mut cases = Vec::new();
-    for kind in 1..=8 {
+    for kind in kind::ALL {
         let right = plain_values(kind);
         for count in [right.len() - 1, right.len() + 1, MOST_VALUES] {
             let mut values = right.clone();
@@ -197,7 +198,7 @@ fn with_value(kind: u8, position: usize, value: u64) -> Case {
 /// Each field with a value whose last bytes alone would be right, and each kind's last field with the largest there is.
 fn values_too_big() -> Vec<Case> {
     let mut cases = Vec::new();
-    for kind in 1..=8 {
+    for kind in kind::ALL {
         let plain = plain_values(kind);
         for (position, f) in fields_of(kind).iter().enumerate() {
             cases.push(with_value(kind, position, plain[position] + (1 << (8 * f.bytes))));
@@ -222,7 +223,8 @@ fn values_out_of_range() -> Vec<Case> {
 }
 
 fn no_kinds() -> Vec<Case> {
-    let offered = |kind| Case::Write { state: under(1), kind, values: plain_values(3), room: 64 };
+    let offered =
+        |kind| Case::Write { state: under(1), kind, values: plain_values(kind::ENTERIC), room: 64 };
     NO_KINDS.into_iter().map(offered).collect()
 }
 
@@ -241,7 +243,10 @@ fn every_sort_of_state() -> Vec<Case> {
     states.push(State { held_count: 1 << 32, ..open });
     states.push(State { stage: 4, ..open });
     states.push(State { records: MOST_RECORDS, ..open });
-    states.into_iter().map(|state| case(state, 6, &plain_values(6), 64)).collect()
+    states
+        .into_iter()
+        .map(|state| case(state, kind::ENERGY, &plain_values(kind::ENERGY), 64))
+        .collect()
 }
 
 fn refused(open: State, code: u8, field: u8) -> State {
@@ -255,27 +260,27 @@ pub fn in_order() -> Vec<Case> {
     let late = State { heading: Heading { days: [366; 3], ..open.heading }, ..open };
     let pig = State { heading: Heading { class: 4, ..late.heading }, ..open };
     let full = State { records: MOST_RECORDS, ..open };
-    let offered: [(State, u64, &[u64]); 16] = [
+    let offered: [(State, u8, &[u64]); 16] = [
         (State { set: 3, ..refused(open, 6, 0) }, 0, &[]),
         (refused(open, 6, 0), 0, &[]),
         (State { stage: CLOSED, ..open }, 0, &[]),
         (after(&open, &[0]), 9, &[]),
         (full, 0, &[]),
-        (full, 1, &[7, 0]),
-        (full, 1, &[7, 0, 3]),
-        (open, 1, &[7, 0, 3]),
-        (open, 5, &[0; 12]),
-        (open, 2, &[5, 5, 20_001]),
-        (open, 2, &[5, 4, 20_000]),
-        (late, 4, &[1, 0, 0, 0, 0, 1, 0, 0, 0]),
-        (pig, 5, &[1, 0, 0, 0, 0, 0, 0, 0, 1_000, 0, 1, 0]),
-        (open, 4, &[1, 0, 0, 0, 0, 1, 0, 0, 0]),
-        (open, 4, &[1, 0, 0, 0, 0, 1, 0, 0, 10_000]),
-        (open, 8, &[3]),
+        (full, kind::FARM, &[7, 0]),
+        (full, kind::FARM, &[7, 0, 3]),
+        (open, kind::FARM, &[7, 0, 3]),
+        (open, kind::PIG, &[0; 12]),
+        (open, kind::HEADING, &[5, 5, 20_001]),
+        (open, kind::HEADING, &[5, 4, 20_000]),
+        (late, kind::CATTLE, &[1, 0, 0, 0, 0, 1, 0, 0, 0]),
+        (pig, kind::PIG, &[1, 0, 0, 0, 0, 0, 0, 0, 1_000, 0, 1, 0]),
+        (open, kind::CATTLE, &[1, 0, 0, 0, 0, 1, 0, 0, 0]),
+        (open, kind::CATTLE, &[1, 0, 0, 0, 0, 1, 0, 0, 10_000]),
+        (open, kind::CLOSE, &[3]),
     ];
-    let no_room = |(state, kind, values): (State, u64, &[u64])| Case::Write {
+    let no_room = |(state, kind, values): (State, u8, &[u64])| Case::Write {
         state,
-        kind,
+        kind: kind.into(),
         values: values.to_vec(),
         room: 0,
     };

@@ -8,6 +8,7 @@ use mathlib.Core.Logic.{_⊎_, inl, inr, ⊎-elim}
 use native.Mathlib.Omega.{arith}
 use borrow.Author.Tests.{leb-true, le-leb, eqb-true, eqb-false, eq-eqb, ne-eqb}
 use lib.Dec.{leb, eqb}
+use Rattle.base.proofs.Tests.{Each, all-each, and-l, and-r, each-all, implied, implies, or-cases, or-left, or-right}
 use Rattle.account.specs.declared.Account.{Account}
 use Rattle.account.specs.declared.Heading.{Heading}
 use Rattle.account.specs.declared.Days.{Days}
@@ -15,7 +16,6 @@ use Rattle.account.specs.declared.Figures.{Figures}
 use Rattle.account.specs.declared.Subtotal.{Subtotal}
 use Rattle.account.specs.declared.Refusal.{Refusal}
 use Rattle.account.specs.Range.{Counted, Warmed, Headed, Unheaded, Bounded, Grouped, Ungrouped, Numbered, Unrefused, AccountInRange, countedTest, warmedTest, headedTest, unheadedTest, boundedTest, groupedTest, ungroupedTest, numberedTest, unrefusedTest, accountInRange}
-use Rattle.account.proofs.Tests.{and-l, and-r, all-each, each-all, implied, implies, or-cases, or-left, or-right, Each}
 
 -- ---- clause by clause, from the test
 

@@ -7,11 +7,11 @@ use mathlib.Core.Logic.{_⊎_, inl, inr, ⊎-elim}
 use native.Mathlib.Omega.{arith}
 use lib.ListN.{length}
 use lib.Dec.{eqb}
+use Rattle.base.proofs.Tests.{of-choice}
 use Rattle.account.specs.declared.Account.{Account}
 use Rattle.account.specs.Sorts.{sortOf}
 use Rattle.account.specs.Line.{joined}
 use Rattle.account.specs.Judge.{kindOf, refusals, first, Step, accepted, judge}
-use Rattle.account.proofs.Tests.{by-test}
 use Rattle.account.proofs.Sorts.{by-sort}
 use Rattle.account.proofs.Keeps.{judge-short}
 
@@ -26,7 +26,7 @@ Counted n s = ((s .lines ≡ []) × (s .account .records ≡ n)) ⊎ (s .account
 counted : (a : Account) (r : List ℕ) → Counted (a .records) (judge a r)
 unfolding judge accepted
 counted a r =
-    by-test (Counted (a .records)) (eqb (first (refusals a r)) 0)
+    of-choice (Counted (a .records)) (eqb (first (refusals a r)) 0)
     (λ e. by-sort (Counted (a .records)) (sortOf (kindOf r)) (λ e. inr refl) (λ e. inr refl) (λ e. inr refl) (λ e. inr refl) (λ e. inr refl))
     (λ e. inl (refl, refl))
 

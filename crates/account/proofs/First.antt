@@ -5,9 +5,9 @@ use mathlib.Core.Path.{_≡_, refl, sym, _∙_}
 use mathlib.Core.List.{List, [], _∷_}
 use mathlib.Core.Bool.{Bool, true, false}
 use native.Mathlib.Omega.{arith}
-use Rattle.codec.specs.Codec.{pick}
+use Rattle.base.specs.Choice.{pick}
+use Rattle.base.proofs.Tests.{no-bool, of-choice}
 use Rattle.account.specs.Judge.{first}
-use Rattle.account.proofs.Tests.{by-test, no-bool}
 
 -- ---- over any list
 
@@ -19,7 +19,7 @@ Within n (t ∷ ts) = (t .1 ≤ n) × Within n ts
 pub first-most : (n : ℕ) (ts : List (Bool × ℕ)) → Within n ts → first ts ≤ n
 unfolding first
 first-most n [] w = omega arith
-first-most n (t ∷ ts) w = by-test (λ (c : ℕ). c ≤ n) (t .0) (λ e. w .0) (λ e. first-most n ts (w .1))
+first-most n (t ∷ ts) w = of-choice (λ (c : ℕ). c ≤ n) (t .0) (λ e. w .0) (λ e. first-most n ts (w .1))
 
 -- where no test of the number c holds, the first refusal is not c
 abbrev pub Without : ℕ → List (Bool × ℕ) → Type 0
@@ -29,7 +29,7 @@ Without c (t ∷ ts) = (t .1 ≡ c → t .0 ≡ false) × Without c ts
 pub first-other : (c : ℕ) (ts : List (Bool × ℕ)) → 0 < c → Without c ts → first ts ≡ c → ⊥
 unfolding first
 first-other c [] h w = λ e. omega arith
-first-other c (t ∷ ts) h w = by-test (λ (f : ℕ). f ≡ c → ⊥) (t .0) (λ b e. no-bool (sym (w .0 e) ∙ b)) (λ b. first-other c ts h (w .1))
+first-other c (t ∷ ts) h w = of-choice (λ (f : ℕ). f ≡ c → ⊥) (t .0) (λ b e. no-bool (sym (w .0 e) ∙ b)) (λ b. first-other c ts h (w .1))
 
 -- no refusal means that no test holds
 abbrev pub Clear : List (Bool × ℕ) → Type 0

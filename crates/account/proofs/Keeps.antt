@@ -9,9 +9,11 @@ use native.Mathlib.Omega.{arith}
 use borrow.Author.Tests.{leb-true, leb-false, ltb-false, eqb-true, eqb-false, eq-eqb, ne-eqb}
 use lib.ListN.{length, getD}
 use lib.Dec.{leb, ltb, eqb}
+use Rattle.base.specs.Choice.{pick}
+use Rattle.base.proofs.Tests.{and-l, and-r, not-false, not-true, of-choice}
 use Rattle.codec.specs.declared.Field.{Field}
 use Rattle.codec.specs.Table.{table, fields}
-use Rattle.codec.specs.Codec.{pick, valAt, valuesAt, firstBad}
+use Rattle.codec.specs.Codec.{valAt, valuesAt, firstBad}
 use Rattle.codec.proofs.Round.{line-length, total-length}
 use Rattle.codec.proofs.Within.{bad-position}
 use Rattle.grams.proofs.Small.{enteric-small, cattle-excreted-small, cattle-n2o-small, pig-ch4-small, pig-n2o-small, pig-excreted-small, pig-land-small, energy-small, soil-small}
@@ -25,7 +27,6 @@ use Rattle.account.specs.Line.{joined, lineWith, lineOf, subtotals, tota
 use Rattle.account.specs.Range.{Headed, Unheaded, Grouped, Ungrouped, Unrefused, AccountInRange}
 use Rattle.account.specs.Judge.{kindOf, valuesOf, noRecord, refused, opened, underHeading, withDetail, closed, headingServes, inPlace, daysOver, partsWrong, valueRefusals, refusals, first, Step, accepted, decided, weigh, judge}
 use Rattle.account.specs.Told.{Small}
-use Rattle.account.proofs.Tests.{by-test, not-true, not-false, and-l, and-r}
 use Rattle.account.proofs.Sorts.{by-sort, each-kind}
 use Rattle.account.proofs.Sums.{bounded-none, bounded-next, bounded-added, grouped-none, ungrouped-none, grouped-next, grouped-added}
 use Rattle.account.proofs.First.{first-most, first-other, first-clear}
@@ -334,7 +335,7 @@ no-refusal a r e =
     (not-false _ (t .1 .0 (omega arith)), rw (t .0 (omega arith), t .1 .0 (omega arith), t .1 .1 .0 (omega arith)) at e)
 
 field-of : (c x : ℕ) → x ≤ 12 → pick (eqb c 7) x 0 ≤ 12
-field-of c x h = by-test (λ (n : ℕ). n ≤ 12) (eqb c 7) (λ e. h) (λ e. omega arith)
+field-of c x h = of-choice (λ (n : ℕ). n ≤ 12) (eqb c 7) (λ e. h) (λ e. omega arith)
 
 pub in-range-judge : (a : Account) (r : List ℕ) → AccountInRange a → a .stage < 2 → AccountInRange (judge a r .account)
 unfolding judge
@@ -342,7 +343,7 @@ in-range-judge a r f early =
     let code = first (refusals a r) in
     let bad = firstBad (fields (kindOf r)) (valuesOf r) 0 in
     let short : bad ≤ 12 = omega (arith, bad-position (fields (kindOf r)) (valuesOf r) 0, row-short (kindOf r)) in
-    by-test Kept (eqb code 0)
+    of-choice Kept (eqb code 0)
     (λ e. let n = no-refusal a r (eqb-true _ _ e) in in-range-accepted a f early (kindOf r) (valuesOf r) (clear a (kindOf r) (valuesOf r) (n .1)) (n .0))
     (λ e.
     let some : code ≡ 0 → ⊥ = eqb-false _ _ e in
@@ -374,7 +375,7 @@ ends-short a = go (eqb (a .heading .group) 0)
 pub judge-short : (a : Account) (r : List ℕ) → length (joined (judge a r .lines)) ≤ 100
 unfolding judge accepted
 judge-short a r =
-    by-test ShortLines (eqb (first (refusals a r)) 0)
+    of-choice ShortLines (eqb (first (refusals a r)) 0)
     (λ e. by-sort ShortLines (sortOf (kindOf r)) (λ e. omega arith) (λ e. ends-short a .0)
     (λ e. one-line (lineOf (a .heading) (kindOf r) (valuesOf r)) 46 (line-length _ _ _ _ _ _ _) (omega arith))
     (λ e. one-line (lineOf (a .heading) (kindOf r) (valuesOf r)) 46 (line-length _ _ _ _ _ _ _) (omega arith)) (λ e. ends-short a .1))

@@ -1,4 +1,3 @@
-pub mod Tests
 pub mod Sorts
 pub mod Sums
 pub mod First

@@ -8,13 +8,13 @@ use mathlib.Core.Logic.{⊎-elim}
 use native.Mathlib.Omega.{arith}
 use borrow.Author.Tests.{leb-true, le-leb, eqb-true, eq-eqb, ne-eqb}
 use lib.Dec.{leb, eqb}
+use Rattle.base.proofs.Tests.{all-each, and-l, and-r, each-all, implied, or-cases}
 use Rattle.account.specs.declared.Account.{Account}
 use Rattle.account.specs.declared.Heading.{Heading}
 use Rattle.account.specs.declared.Days.{Days}
 use Rattle.account.specs.declared.Subtotal.{Subtotal}
 use Rattle.account.specs.Range.{countedTest, warmedTest, headedTest, unheadedTest, boundedTest, groupedTest, ungroupedTest, numberedTest, unrefusedTest, accountInRange}
 use Rattle.account.proofs.Sums.{ungrouped-bounded}
-use Rattle.account.proofs.Tests.{and-l, and-r, all-each, each-all, implied, or-cases}
 use Rattle.account.proofs.Clauses.{counted-parts, counted-test, warmed-parts, warmed-test, headed-parts, unheaded-parts, grouped-test, ungrouped-parts}
 
 -- two tests that say each other are the same

@@ -9,8 +9,10 @@ use native.Mathlib.Omega.{arith}
 use borrow.Author.Tests.{leb-true, leb-false, le-leb, lt-leb, eqb-true, eq-eqb, ne-eqb}
 use lib.ListN.{length, getD, length-append}
 use lib.Dec.{ltb, leb, eqb}
+use Rattle.base.specs.Choice.{pick}
+use Rattle.base.proofs.Tests.{no-bool, not-false}
 use Rattle.codec.specs.Table.{fields, lengthOf}
-use Rattle.codec.specs.Codec.{pick, valAt, valuesAt, firstBad, lineBytes, totalBytes}
+use Rattle.codec.specs.Codec.{valAt, valuesAt, firstBad, lineBytes, totalBytes}
 use Rattle.codec.proofs.Round.{line-length, total-length}
 use Rattle.grams.specs.Cattle.{belowZero, manureOf, CattleSmall, Nitrogen}
 use Rattle.grams.specs.Pig.{Manure}
@@ -30,7 +32,6 @@ use Rattle.account.specs.Line.{joined, bytesOf, lineWith, co2eIn, subtot
 use Rattle.account.specs.Range.{Headed, Unheaded, Bounded, Grouped, AccountInRange}
 use Rattle.account.specs.Judge.{versionOf, kindOf, judge, first, inPlace, daysOver, partsWrong, valueRefusals, refused, underHeading, withDetail, closed, Step, accepted, decided, weigh}
 use Rattle.account.specs.Told.{Tells, TellsIn, inRoom, Kind, Small, noLine, quiet, refusing, detailing, heading, closing}
-use Rattle.account.proofs.Tests.{not-false, no-bool}
 use Rattle.account.proofs.Sums.{bounded-more, grouped-more}
 use Rattle.account.proofs.First.{three-clear, three-first}
 

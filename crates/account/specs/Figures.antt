@@ -4,7 +4,7 @@ use Prim.Native.Nat.{ℕ, _+_}
 use mathlib.Core.List.{List}
 use lib.ListN.{getD}
 use lib.Dec.{eqb}
-use Rattle.codec.specs.Codec.{pick}
+use Rattle.base.specs.Choice.{pick}
 use Rattle.grams.specs.Cattle as cattle
 use Rattle.grams.specs.Pig as pig
 use Rattle.grams.specs.Farm.{energyOf, soilOf}

@@ -3,8 +3,9 @@
 use Prim.Native.Nat.{ℕ}
 use mathlib.Core.List.{List, [], _∷_, _++_}
 use lib.Dec.{eqb}
+use Rattle.base.specs.Choice.{pick}
 use Rattle.codec.specs.Table.{lineSize, totalSize}
-use Rattle.codec.specs.Codec.{pick, lineBytes, totalBytes}
+use Rattle.codec.specs.Codec.{lineBytes, totalBytes}
 use Rattle.grams.specs.Farm.{co2eOf, warmingOf}
 use Rattle.account.specs.declared.Account.{Account}
 use Rattle.account.specs.declared.Figures.{Figures}

@@ -6,7 +6,7 @@ use mathlib.Core.List.{List, [], _∷_}
 use mathlib.Core.Bool.{Bool, true, false, _&&_, _||_, not}
 use mathlib.Core.Logic.{_⊎_}
 use lib.Dec.{ltb, leb, eqb}
-use Rattle.codec.specs.Codec.{pick}
+use Rattle.base.specs.Choice.{pick}
 use Rattle.account.specs.declared.Account.{Account}
 use Rattle.account.specs.declared.Heading.{Heading}
 use Rattle.account.specs.declared.Days.{Days}

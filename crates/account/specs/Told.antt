@@ -6,8 +6,8 @@ use mathlib.Core.List.{List}
 use mathlib.Core.Bool.{Bool}
 use lib.ListN.{length}
 use lib.Dec.{leb, eqb}
+use Rattle.base.specs.Choice.{pick}
 use Rattle.codec.specs.Table.{lineSize, totalSize, linesMost}
-use Rattle.codec.specs.Codec.{pick}
 use Rattle.account.specs.declared.Account.{Account}
 use Rattle.account.specs.declared.Days.{Days}
 use Rattle.account.specs.declared.Figures.{Figures}

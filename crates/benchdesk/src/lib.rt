@@ -1,4 +1,5 @@
 // For the bench alone: a book read in parts, as the herd desk reads it whole.
+use base::least;
 use book::Answer;
 use book::Fed;
 use book::State;
@@ -14,12 +15,6 @@ fn code_of(answer: Answer) -> u64
         Answer::More => 17,
         Answer::Refused(refusal) => refusal.code as u64,
     }
-}
-
-fn least(a: usize, b: usize) -> usize
-    ensures { λ r. ⌜ (r ≤ a) × (r ≤ b) ⌝ }
-{
-    if a < b { a } else { b }
 }
 
 // The first bytes of rest, part of them at most.

@@ -9,13 +9,13 @@ use borrow.Author.Tests.{ltb-true, ltb-false, lt-ltb, le-ltb}
 use lib.ListN.{length, take, length-append, List·getD-append}
 use lib.Seq.{length-take-le, getD-take}
 use lib.Dec.{ltb}
-use Rattle.codec.specs.Codec.{pick, valAt}
+use Rattle.base.specs.Choice.{pick}
+use Rattle.base.proofs.Tests.{lt-or-ge, neither, no-bool, of-choice}
+use Rattle.codec.specs.Codec.{valAt}
 use Rattle.codec.proofs.BigEndian.{valAt-same}
 use Rattle.book.specs.Front.{Front, unfinished, badLength, whole, need, bad, front}
 use Rattle.book.specs.State.{isUnfinished}
 use Rattle.book.specs.Inner.{codeOf}
-use Rattle.account.proofs.Tests.{by-test, no-bool, lt-or-ge}
-use Rattle.book.proofs.Choices.{neither}
 
 -- ---- the length stands in the first two bytes
 
@@ -48,9 +48,9 @@ good xs e = let n = neither (ltb (valAt xs 0 2) 4) (ltb 26 (valAt xs 0 2)) e in 
 means : (xs : List ℕ) → Means xs (front xs)
 unfolding front
 means xs =
-    by-test (Means xs) (ltb (length xs) 2) (λ e1 k. let h : length xs < 2 = ltb-true _ _ e1 in absurd (omega arith))
-    (λ e1. by-test (Means xs) (bad xs) (λ e2. (ltb-false _ _ e1, e2))
-    (λ e2. by-test (Means xs) (ltb (length xs) (need xs)) (λ e3 k. (good xs e2 .0, good xs e2 .1, ltb-true _ _ e3))
+    of-choice (Means xs) (ltb (length xs) 2) (λ e1 k. let h : length xs < 2 = ltb-true _ _ e1 in absurd (omega arith))
+    (λ e1. of-choice (Means xs) (bad xs) (λ e2. (ltb-false _ _ e1, e2))
+    (λ e2. of-choice (Means xs) (ltb (length xs) (need xs)) (λ e3 k. (good xs e2 .0, good xs e2 .1, ltb-true _ _ e3))
     (λ e3. (ltb-false _ _ e1, good xs e2 .0, good xs e2 .1, ltb-false _ _ e3))))
 
 pub meaning : (xs : List ℕ) (f : Front) → front xs ≡ f → Means xs f
@@ -62,7 +62,7 @@ good-length xs p q = simp (le-ltb _ _ p, le-ltb _ _ q)
 pub is-unfinished : (xs : List ℕ) → Means xs unfinished → front xs ≡ unfinished
 unfolding front
 is-unfinished xs m =
-    by-test (λ (f : Front). f ≡ unfinished) (ltb (length xs) 2) (λ e. refl)
+    of-choice (λ (f : Front). f ≡ unfinished) (ltb (length xs) 2) (λ e. refl)
     (λ e. let g = m (ltb-false _ _ e) in simp (good-length xs (g .0) (g .1), lt-ltb _ _ (g .2)))
 
 pub is-bad : (xs : List ℕ) → Means xs badLength → front xs ≡ badLength

@@ -1,4 +1,3 @@
-pub mod Choices
 pub mod MovedBytes
 pub mod FrontLaws
 pub mod WholeRecordLaws

@@ -4,8 +4,8 @@ use mathlib.Core.Path.{_≡_, refl, _∙_}
 use mathlib.Core.Bool.{Bool, true, false}
 use mathlib.Core.Logic.{⊎-elim}
 use native.Mathlib.Omega.{arith}
+use Rattle.base.proofs.Tests.{lt-or-ge}
 use Rattle.book.specs.Call.{longest}
-use Rattle.account.proofs.Tests.{lt-or-ge}
 
 pub longest-top : (ok : ℕ → Bool) (n : ℕ) → ok n ≡ true → longest ok n ≡ n
 unfolding longest

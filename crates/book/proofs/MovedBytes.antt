@@ -11,10 +11,10 @@ use borrow.Author.Tests.{eq-eqb}
 use lib.Dec.{eqb}
 use lib.ListN.{length, getD, take, drop, set, replicate}
 use lib.Seq.{paste, paste-suc, length-paste, take-paste, take-suc, set-at, append-snoc, drop-cons, length-take-le, take-take, take-append-seam}
+use Rattle.base.proofs.Tests.{lt-or-ge}
 use Rattle.codec.specs.Codec.{valAt}
 use Rattle.book.specs.State.{zeros}
 use Rattle.book.specs.Inner.{Filled, Gathered}
-use Rattle.account.proofs.Tests.{lt-or-ge}
 
 -- one byte more is kept
 pub keep-on : (held s : List ℕ) (j : ℕ) → held ≡ take j s ++ replicate (27 - j) 0 → j < length s → j < 27

@@ -8,14 +8,13 @@ use borrow.Author.Tests.{ltb-false, le-ltb, le-leb, lt-leb, leb-true, eqb-true, 
 use lib.ListN.{length, drop, replicate, length-append, length-drop, length-replicate, take-append-drop}
 use lib.Seq.{length-take-le, take-append-seam, drop-append-seam}
 use lib.Dec.{ltb, leb, eqb}
+use Rattle.base.proofs.Tests.{and-false, both, no-bool, or-left, or-right}
 use Rattle.account.specs.declared.Account.{Account}
 use Rattle.account.specs.Range.{AccountInRange, accountInRange}
 use Rattle.account.proofs.Clauses.{in-range-parts, in-range-test}
 use Rattle.book.specs.declared.State.{State}
 use Rattle.book.specs.Front.{Front, unfinished, badLength, whole, front}
 use Rattle.book.specs.State.{heldOf, holding, zeros, isUnfinished, InRange, inRange}
-use Rattle.account.proofs.Tests.{no-bool, or-right, or-left}
-use Rattle.book.proofs.Choices.{both, and-false}
 use Rattle.book.proofs.FrontLaws.{unfinished-short, front-none}
 
 -- ---- the parts and the test

@@ -6,6 +6,7 @@ use mathlib.Core.Logic.{⊎-elim}
 use native.Mathlib.Omega.{arith}
 use lib.ListN.{length, take, drop, length-drop, drop-of-length-le}
 use lib.Seq.{paste, length-take-le, take-all}
+use Rattle.base.proofs.Tests.{lt-or-ge}
 use Rattle.codec.specs.Codec.{valAt}
 use Rattle.account.specs.declared.Account.{Account}
 use Rattle.account.specs.declared.Judged.{Judged}
@@ -20,7 +21,6 @@ use Rattle.book.specs.State.{holding}
 use Rattle.book.specs.Run.{Outcome, outcome, book, run}
 use Rattle.book.specs.WholeRecords.{Ready}
 use Rattle.book.specs.Inner.{Reading, Ran}
-use Rattle.account.proofs.Tests.{lt-or-ge}
 use Rattle.book.proofs.FrontLaws.{meaning, is-whole, length-take-two}
 use Rattle.book.proofs.RangeLaws.{range-idle}
 use Rattle.book.proofs.RunLaws.{book-whole, book-none, run-none}

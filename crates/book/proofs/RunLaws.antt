@@ -8,7 +8,8 @@ use borrow.Author.Tests.{lt-ltb, le-ltb}
 use lib.ListN.{length, take, drop, length-drop}
 use lib.Seq.{take-append-le, drop-append-le}
 use lib.Dec.{ltb}
-use Rattle.codec.specs.Codec.{pick}
+use Rattle.base.specs.Choice.{pick}
+use Rattle.base.proofs.Tests.{lt-or-ge}
 use Rattle.account.specs.declared.Account.{Account}
 use Rattle.account.specs.Range.{AccountInRange}
 use Rattle.account.specs.Judge.{judge, refused}
@@ -16,7 +17,6 @@ use Rattle.book.specs.declared.State.{State}
 use Rattle.book.specs.Front.{Front, unfinished, badLength, whole, need, front}
 use Rattle.book.specs.State.{heldOf, InRange, holding}
 use Rattle.book.specs.Run.{Run, then, ended, byFront, bookBy, book, run}
-use Rattle.account.proofs.Tests.{lt-or-ge}
 use Rattle.book.proofs.FrontLaws.{meaning, length-append-two, bad-append, whole-append}
 use Rattle.book.proofs.WholeRecordLaws.{rest-short}
 use Rattle.book.proofs.RangeLaws.{held-holding, holding-held, ended-held, ended-is, range-idle}

@@ -6,6 +6,7 @@ use mathlib.Core.Logic.{⊎-elim}
 use native.Mathlib.Omega.{arith}
 use lib.ListN.{length, take, drop, length-append, length-drop}
 use lib.Seq.{drop-append-add, drop-drop, drop-length}
+use Rattle.base.proofs.Tests.{lt-or-ge}
 use Rattle.account.specs.declared.Account.{Account}
 use Rattle.account.specs.Range.{AccountInRange}
 use Rattle.account.specs.Judge.{judge, refused}
@@ -14,7 +15,6 @@ use Rattle.book.specs.declared.State.{State}
 use Rattle.book.specs.Front.{Front, unfinished, badLength, whole, need, front}
 use Rattle.book.specs.State.{heldOf, InRange}
 use Rattle.book.specs.Run.{Run, book, run}
-use Rattle.account.proofs.Tests.{lt-or-ge}
 use Rattle.book.proofs.FrontLaws.{meaning, held-bad, held-whole}
 use Rattle.book.proofs.RangeLaws.{range-holding, range-idle}
 use Rattle.book.proofs.RunLaws.{book-ended, book-unfinished, book-bad, book-whole, run-ended}

@@ -7,7 +7,9 @@ use native.Mathlib.Omega.{arith}
 use lib.Dec.{eqb}
 use lib.ListN.{length, take, drop, length-append, length-drop, drop-of-length-le, take-append-drop}
 use lib.Seq.{length-take-le, take-take, take-length, take-append-add}
-use Rattle.codec.specs.Codec.{pick, valAt}
+use Rattle.base.specs.Choice.{pick}
+use Rattle.base.proofs.Tests.{no-bool}
+use Rattle.codec.specs.Codec.{valAt}
 use Rattle.account.specs.declared.Account.{Account}
 use Rattle.account.specs.Judge.{judge, refused}
 use Rattle.account.specs.Line.{joined}
@@ -18,7 +20,6 @@ use Rattle.book.specs.Front.{Front, unfinished, badLength, whole, need, 
 use Rattle.book.specs.State.{heldOf, holding}
 use Rattle.book.specs.Run.{outcome, book, run}
 use Rattle.book.specs.Inner.{Gathered, Ran, Offered, Begins, Turned, leftBy, codeOf}
-use Rattle.account.proofs.Tests.{no-bool}
 use Rattle.book.proofs.MovedBytes.{gathered-held, gathered-more}
 use Rattle.book.proofs.FrontLaws.{meaning, unfinished-short, is-unfinished, is-bad, length-take-two, held-bad, held-whole}
 use Rattle.book.proofs.RangeLaws.{held-length, range-holding, range-idle}

@@ -6,7 +6,7 @@ use mathlib.Core.List.{List, [], _∷_, _++_}
 use mathlib.Core.Bool.{Bool}
 use lib.ListN.{length, take, drop}
 use lib.Dec.{ltb, leb, eqb}
-use Rattle.codec.specs.Codec.{pick}
+use Rattle.base.specs.Choice.{pick}
 use Rattle.account.specs.declared.Account.{Account}
 use Rattle.account.specs.Line.{joined}
 use Rattle.book.specs.declared.State.{State}

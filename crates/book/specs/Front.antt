@@ -5,8 +5,9 @@ use mathlib.Core.List.{List}
 use mathlib.Core.Bool.{Bool, _||_}
 use lib.ListN.{length}
 use lib.Dec.{ltb}
+use Rattle.base.specs.Choice.{pick}
 use Rattle.codec.specs.Table.{lengthMost}
-use Rattle.codec.specs.Codec.{pick, valAt}
+use Rattle.codec.specs.Codec.{valAt}
 
 -- what some bytes are at their front: the beginning of a record, a length that no record has, or a whole record
 pub data Front : Type 0 where

@@ -9,22 +9,6 @@ ghost use Rattle.codec.specs.Table.{recordMost};
 ghost use Rattle.book.specs.State.{zeros};
 ghost use Rattle.book.specs.Inner.{Filled};
 
-// The first n bytes of s.
-pub(crate) fn first_of(s: &[u8], n: usize) -> &[u8]
-    requires { ⌜ n ≤ length (now s) ⌝ }
-    ensures { λ r. ⌜ now r ≡ take n (now (s .entry)) ⌝ }
-{
-    &s[..n]
-}
-
-// The bytes of s from i on.
-pub(crate) fn rest_of(s: &[u8], i: usize) -> &[u8]
-    requires { ⌜ i ≤ length (now s) ⌝ }
-    ensures { λ r. ⌜ now r ≡ drop i (now (s .entry)) ⌝ }
-{
-    &s[i..]
-}
-
 // A place from n on, up to which all are zero: four are looked at as one number.
 fn past_zeros(a: [u8; 27], n: usize) -> usize
     ensures { λ i. ⌜ zeros (drop i a) ≡ zeros (drop n a) ⌝ }

@@ -1,9 +1,9 @@
 // The whole records of some bytes, judged where they lie.
-use crate::bytes::first_of;
-use crate::bytes::rest_of;
 use crate::front::ready;
 use account::Account;
 use account::line::write;
+use base::first_of;
+use base::rest_of;
 use rules::judge;
 ghost use mathlib.Core.Path.{_≡_};
 ghost use Prim.Native.Nat.{_<_};

@@ -1,20 +1,21 @@
 // One turn of a call: as many records as lie together in the input, or the record that the held bytes begin.
 use crate::State;
 use crate::bytes::fill;
-use crate::bytes::first_of;
 use crate::bytes::kept;
-use crate::bytes::rest_of;
 use crate::front::front_of;
 use crate::records::judge_all;
 use account::Account;
+use base::first_of;
+use base::rest_of;
 use codec::RECORD_MOST;
 use codec::numbers::be16;
 ghost use mathlib.Core.Path.{_≡_};
 ghost use mathlib.Core.List.{[]};
 ghost use Prim.Native.Nat.{_+_, _-_, _≤_, _<_};
 ghost use lib.ListN.{length, take, drop};
+ghost use Rattle.base.specs.Choice.{pick};
 ghost use Rattle.codec.specs.Table.{lengthMost, recordMost};
-ghost use Rattle.codec.specs.Codec.{pick, valAt};
+ghost use Rattle.codec.specs.Codec.{valAt};
 ghost use lib.Dec.{eqb};
 ghost use Rattle.book.specs.Front.{front};
 ghost use Rattle.book.specs.State.{InRange, heldOf, holding};

@@ -10,9 +10,10 @@ use borrow.Author.Tests.{leb-true, le-leb, lt-leb}
 use lib.Dec.{leb}
 use lib.ListN.{length, getD, drop, drop-of-length-le}
 use lib.Seq.{drop-cons}
+use Rattle.base.specs.Choice.{pick}
 use Rattle.codec.specs.declared.Field.{Field}
 use Rattle.codec.specs.Table.{field}
-use Rattle.codec.specs.Codec.{firstBad, pick}
+use Rattle.codec.specs.Codec.{firstBad}
 
 -- what stands at a place where no field is
 abbrev pub none : Field

@@ -6,13 +6,9 @@ use mathlib.Core.Bool.{Bool, true, false}
 use mathlib.Core.List.{List, [], _∷_, _++_}
 use lib.ListN.{getD}
 use lib.Dec.{leb}
+use Rattle.base.specs.Choice.{pick}
 use Rattle.codec.specs.declared.Field.{Field}
 use Rattle.codec.specs.Table.{fields, lengthOf, lineFields, totalFields, lineSize, totalSize, isTotal}
-
--- the first where the test holds, else the second
-abbrev pub pick : {A : Type 0} → Bool → A → A → A
-pick true a b = a
-pick false a b = b
 
 -- how many values w bytes can hold
 unfoldable pub bytesHold : ℕ → ℕ

@@ -3,7 +3,7 @@ use mathlib.Core.Bool.{Bool, true, false}
 use mathlib.Core.List.{List, [], _∷_}
 use Prim.Native.Nat.{ℕ, _+_}
 use lib.Dec.{eqb}
-use Rattle.grams.specs.Pick.{pick}
+use Rattle.base.specs.Choice.{pick}
 use Rattle.grams.specs.Cattle.{entericOf, nitrogenOf}
 use Rattle.grams.specs.Pig.{manureOf}
 use Rattle.grams.specs.Farm.{soilOf}

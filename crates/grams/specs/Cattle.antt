@@ -3,7 +3,7 @@ use mathlib.Core.Path.{_≡_}
 use mathlib.Core.Bool.{Bool}
 use Prim.Native.Nat.{ℕ, _+_, _-_, _*_, _^_, _≤_}
 use lib.Dec.{ltb}
-use Rattle.grams.specs.Pick.{pick}
+use Rattle.base.specs.Choice.{pick}
 use Rattle.grams.specs.Round.{roundDiv}
 use Rattle.grams.specs.Units.{gramsN2o}
 use Rattle.grams.specs.Figure.{Figure}

@@ -1,7 +1,7 @@
 -- Document 01, "The arithmetic": energy, organic soil, and the total's CO2e. Assumes nothing.
 use Prim.Native.Nat.{ℕ, _+_, _*_, _^_, _≤_}
 use lib.Dec.{eqb}
-use Rattle.grams.specs.Pick.{pick}
+use Rattle.base.specs.Choice.{pick}
 use Rattle.grams.specs.Round.{roundDiv}
 use Rattle.grams.specs.Figure.{Figure}
 use Rattle.grams.specs.declared.farm.Warming.{Warming}

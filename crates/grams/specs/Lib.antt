@@ -1,4 +1,3 @@
-pub mod Pick
 pub mod Round
 pub mod Units
 pub mod Figure

@@ -8,9 +8,9 @@ use borrow.Author.Tests.{ltb-false, lt-ltb, le-ltb, eq-eqb, ne-eqb}
 use lib.ListN.{length, getD, take, drop, length-drop}
 use lib.Seq.{drop-drop, take-append-seam}
 use lib.Dec.{ltb}
+use Rattle.base.proofs.Tests.{of-choice}
 use Rattle.codec.specs.Table.{lineFields, totalFields, lineSize, totalSize, isTotal}
 use Rattle.codec.specs.Codec.{valuesAt, frontSize}
-use Rattle.account.proofs.Tests.{by-test}
 use Rattle.account.specs.declared.Account.{Account}
 use Rattle.book.specs.declared.State.{State}
 use Rattle.book.specs.declared.Fed.{Fed}
@@ -20,7 +20,7 @@ use Rattle.printing.proofs.Puts.{none, put-length, and-then}
 use Rattle.listing.specs.Listing.{lineNumbers, textBy, linesText, closedWord, unfinishedWord, refusedWord, endText, Lists}
 
 pub size-least : (xs : List ℕ) → lineSize ≤ frontSize xs
-size-least xs = by-test (λ (n : ℕ). lineSize ≤ n) (isTotal xs) (λ e. omega arith) (λ e. omega arith)
+size-least xs = of-choice (λ (n : ℕ). lineSize ≤ n) (isTotal xs) (λ e. omega arith) (λ e. omega arith)
 
 -- the count of lines that bounds a text does not matter, as long as it is above the count of bytes
 same-text : (n m : ℕ) (xs : List ℕ) → length xs < n → length xs < m → textBy n xs ≡ textBy m xs
@@ -28,7 +28,7 @@ unfolding textBy
 same-text zero m xs p q = absurd (omega arith)
 same-text (suc n) zero xs p q = absurd (omega arith)
 same-text (suc n) (suc m) xs p q =
-    by-test (λ (t : List ℕ). t ≡ textBy (suc m) xs) (ltb (length xs) (frontSize xs)) (λ e. rw e)
+    of-choice (λ (t : List ℕ). t ≡ textBy (suc m) xs) (ltb (length xs) (frontSize xs)) (λ e. rw e)
     (λ e. rw e (ap (λ (t : List ℕ). numbersLine (lineNumbers xs) ++ t) (same-text n m (drop (frontSize xs) xs) (shorter n p e) (shorter m q e))))
   where
     shorter : (k : ℕ) → length xs < suc k → ltb (length xs) (frontSize xs) ≡ false → length (drop (frontSize xs) xs) < k

@@ -5,7 +5,8 @@ use mathlib.Core.Path.{_≡_}
 use mathlib.Core.List.{List, [], _∷_, _++_}
 use lib.ListN.{length, drop}
 use lib.Dec.{ltb, eqb}
-use Rattle.codec.specs.Codec.{pick, valuesAt, frontSize, frontFields}
+use Rattle.base.specs.Choice.{pick}
+use Rattle.codec.specs.Codec.{valuesAt, frontSize, frontFields}
 use Rattle.printing.specs.Ascii.{ascii}
 use Rattle.printing.specs.Decimal.{numbersLine, Put}
 use Rattle.account.specs.declared.Account.{Account}

@@ -1,5 +1,6 @@
 // The lister's text: a text line per line record, and the last word; what it remarks to a person, and its status.
 use account::Account;
+use base::rest_of;
 use book::State;
 use codec::LINE_SIZE;
 use codec::lines::detail_numbers;
@@ -42,14 +43,6 @@ fn put_line(out: &mut [u8], at: usize, s: &[u8]) -> usize
         let numbers = detail_numbers(s);
         put_numbers(out, at, &numbers)
     }
-}
-
-// The bytes of s from i on.
-fn rest_of(s: &[u8], i: usize) -> &[u8]
-    requires { ⌜ i ≤ length (now s) ⌝ }
-    ensures { λ r. ⌜ now r ≡ drop i (now (s .entry)) ⌝ }
-{
-    &s[i..]
 }
 
 // A text line per line record, from the start of out: at most four bytes for each byte of the lines.

@@ -10,13 +10,14 @@ use borrow.Author.Tests.{ltb-false, eqb-true, eqb-false, le-ltb, lt-ltb, eq-eqb,
 use lib.ListN.{length}
 use lib.Seq.{sets, sets-eq}
 use lib.Dec.{ltb, eqb}
+use Rattle.base.specs.Choice.{pick}
+use Rattle.base.proofs.Tests.{or-l, or-r}
 use Rattle.codec.specs.Table.{fields, lengthOf, Of, lastKind}
-use Rattle.codec.specs.Codec.{pick, firstBad, recordBytes}
+use Rattle.codec.specs.Codec.{firstBad, recordBytes}
 use Rattle.codec.proofs.Round.{record-length}
 use Rattle.account.specs.declared.Account.{Account}
 use Rattle.account.specs.declared.Refusal.{Refusal}
 use Rattle.account.specs.Judge.{first, valueRefusals, refused, accepted, weigh}
-use Rattle.account.proofs.Tests.{or-l, or-r}
 use Rattle.account.proofs.Keeps.{stage-most, clear}
 use Rattle.book.specs.declared.State.{State}
 use Rattle.book.specs.State.{InRange, inRange, holding}

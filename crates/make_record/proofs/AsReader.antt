@@ -10,19 +10,19 @@ use mathlib.Core.Logic.{⊎-elim}
 use borrow.Author.Tests.{ne-eqb, eqb-true, eqb-false, ltb-true, le-ltb, le-leb, lt-leb}
 use lib.Dec.{ltb, leb, eqb}
 use lib.ListN.{length, replicate, length-replicate}
+use Rattle.base.specs.Choice.{pick}
+use Rattle.base.proofs.Tests.{and-false, or-cases}
 use Rattle.codec.specs.Table.{fields, lengthOf, Of, lastKind}
-use Rattle.codec.specs.Codec.{pick, valAt, recordBytes}
+use Rattle.codec.specs.Codec.{valAt, recordBytes}
 use Rattle.codec.proofs.Rows.{Fit, fit-kind}
 use Rattle.account.specs.declared.Account.{Account}
 use Rattle.account.specs.declared.Refusal.{Refusal}
 use Rattle.account.specs.Judge.{first, judge, weigh}
 use Rattle.account.specs.Told.{Kind}
-use Rattle.account.proofs.Tests.{or-cases}
 use Rattle.book.specs.declared.State.{State}
 use Rattle.book.specs.State.{InRange, inRange}
 use Rattle.book.specs.Run.{run}
 use Rattle.book.specs.Call as reader
-use Rattle.book.proofs.Choices.{and-false}
 use Rattle.book.proofs.RangeLaws.{range-parts}
 use Rattle.book.proofs.RunLeaves.{run-leaves}
 use Rattle.book.proofs.ReadingLaws.{reading-none}

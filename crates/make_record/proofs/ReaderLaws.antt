@@ -11,6 +11,7 @@ use borrow.Author.Tests.{le-leb, leb-true}
 use lib.Dec.{leb}
 use lib.ListN.{length, getD, take}
 use lib.Seq.{take-all, take-length}
+use Rattle.base.proofs.Tests.{and-l, and-r, lt-or-ge}
 use Rattle.codec.specs.Table.{table, fields, size, lengthOf, Of, lastKind}
 use Rattle.codec.specs.Codec.{be, valuesAt, bytesOf, recordBytes}
 use Rattle.codec.proofs.BigEndian.{one-byte}
@@ -20,7 +21,6 @@ use Rattle.account.specs.declared.Account.{Account}
 use Rattle.account.specs.Judge.{WholeRecord, judge, weigh}
 use Rattle.account.specs.Line.{joined}
 use Rattle.account.specs.Told.{Kind}
-use Rattle.account.proofs.Tests.{and-l, and-r, lt-or-ge}
 use Rattle.account.proofs.Told.{right-length}
 use Rattle.account.proofs.Keeps.{judge-short}
 use Rattle.book.specs.declared.State.{State}

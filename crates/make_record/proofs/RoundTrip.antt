@@ -9,15 +9,16 @@ use native.Mathlib.Omega.{arith}
 use borrow.Author.Tests.{eqb-true, leb-true, not-false}
 use lib.Dec.{leb, eqb, lit<}
 use lib.ListN.{length, getD}
+use Rattle.base.specs.Choice.{pick}
+use Rattle.base.proofs.Tests.{and-l, and-r}
 use Rattle.codec.specs.Table.{fields, lengthOf, Of}
-use Rattle.codec.specs.Codec.{pick, valAt, recordBytes}
+use Rattle.codec.specs.Codec.{valAt, recordBytes}
 use Rattle.codec.proofs.BigEndian.{Bytes, one-byte}
 use Rattle.codec.proofs.Values.{values-length}
 use Rattle.codec.proofs.Rows.{fit-kind}
 use Rattle.codec.proofs.Round.{record-again}
 use Rattle.account.specs.declared.Account.{Account}
 use Rattle.account.specs.Judge.{WholeRecord, versionOf, kindOf, valuesOf, refused, refusals, first, accepted, judge, weigh}
-use Rattle.account.proofs.Tests.{and-l, and-r}
 use Rattle.account.proofs.Told.{right-length}
 use Rattle.book.specs.declared.State.{State}
 use Rattle.book.specs.State.{holding}

@@ -10,13 +10,13 @@ use native.Mathlib.Nat.{zero-add}
 use borrow.Author.Tests.{ltb-true, lt-leb, ne-eqb}
 use lib.Dec.{ltb}
 use lib.ListN.{length, getD}
+use Rattle.base.proofs.Tests.{and-l, and-r}
 use Rattle.codec.specs.declared.Field.{Field}
 use Rattle.codec.specs.Table.{table, fields, Of}
 use Rattle.codec.specs.Codec.{bytesHold, firstBad}
 use Rattle.codec.proofs.Within.{none, Good, too-high}
 use Rattle.account.specs.declared.Account.{Account}
 use Rattle.account.specs.Judge.{first, inPlace, weigh, refused}
-use Rattle.account.proofs.Tests.{and-l, and-r}
 use Rattle.book.specs.declared.State.{State}
 use Rattle.make_record.specs.declared.Answer.the-variants.{Refused}
 use Rattle.make_record.specs.Write.{next, write}

@@ -5,8 +5,9 @@ use mathlib.Core.List.{List, [], _∷_, _++_}
 use mathlib.Core.Bool.{Bool, _||_, not}
 use lib.ListN.{length, drop}
 use lib.Dec.{ltb, eqb}
+use Rattle.base.specs.Choice.{pick}
 use Rattle.codec.specs.Table.{fields, lastKind, lengthOf}
-use Rattle.codec.specs.Codec.{pick, recordBytes}
+use Rattle.codec.specs.Codec.{recordBytes}
 use Rattle.account.specs.declared.Account.{Account}
 use Rattle.account.specs.declared.Refusal.{Refusal}
 use Rattle.account.specs.Judge.{weigh}

@@ -8,9 +8,9 @@ use lib.ListN.{length, getD, List·getD-eq-default}
 use lib.Dec.{T, leb, eqb, leb→le}
 use lib.Ieee.Fits.{and-l, and-r}
 use borrow.Author.Tests.{eqb-true, eqb-false}
+use Rattle.base.proofs.Tests.{by-test}
 use Rattle.bytes.specs.Bytes.{indexOf, indexAfter}
 use Rattle.typed_words.specs.Words.{nthPart}
-use Rattle.printing.proofs.Digits.{by-test}
 use Rattle.codec.specs.Table.{table, fields}
 use Rattle.names.specs.Names.{lineOf, decimalsTable, decimalsOf, decimalsAt}
 

@@ -9,13 +9,13 @@ use lib.ListN.{length, getD}
 use lib.Dec.{T, ltb, eqb}
 use lib.Ieee.Fits.{and-l, and-r}
 use borrow.Author.Tests.{ltb-true, ltb-false, eqb-true}
+use Rattle.base.specs.Choice.{pick}
+use Rattle.base.proofs.Tests.{by-test}
 use Rattle.bytes.specs.Bytes.{indexOf, indexAfter}
 use Rattle.typed_words.specs.declared.Whole.{Whole}
 use Rattle.typed_words.specs.Words.{nthPart, nthWord, leadingOf}
 use Rattle.typed_words.specs.Amounts.{aWhole, numberFrom, amountOf}
-use Rattle.printing.proofs.Digits.{by-test}
 use Rattle.codec.specs.declared.Field.{Field}
-use Rattle.codec.specs.Codec.{pick}
 use Rattle.codec.specs.Table.{field, table, fields}
 use Rattle.names.specs.Names.{fieldTable, fieldNames, expectedTable, expectedTexts, expected, decimalsTable, decimalsOf, decimalsAt}
 use Rattle.names.proofs.Lines.{allBelow, at-below, no-fields}

@@ -7,9 +7,9 @@ use lib.ListN.{length, getD, set, take, length-take}
 use lib.Seq.{take-all, getD-take}
 use lib.Dec.{leb}
 use borrow.Author.Tests.{le-leb, lt-leb, leb-true, leb-false}
+use Rattle.base.proofs.Tests.{by-test}
 use Rattle.printing.specs.Decimal.{Put}
 use Rattle.printing.specs.Said.{Said}
-use Rattle.printing.proofs.Digits.{by-test}
 use Rattle.printing.proofs.Puts.{put-more}
 use Rattle.names.specs.Names.{printedByte, allPrinted, shown}
 

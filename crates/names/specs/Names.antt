@@ -4,9 +4,9 @@ use mathlib.Core.Bool.{_&&_}
 use mathlib.Core.List.{List, [], _∷_, _++_}
 use lib.ListN.{getD, take}
 use lib.Dec.{leb}
+use Rattle.base.specs.Choice.{pick}
 use Rattle.typed_words.specs.Words.{nthPart}
 use Rattle.printing.specs.Ascii.{ascii}
-use Rattle.codec.specs.Codec.{pick}
 
 -- the line k of a text, counted from 0; from the last on all are the same
 abbrev pub lineOf : ℕ → ℕ → List ℕ → List ℕ

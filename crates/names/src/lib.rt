@@ -4,7 +4,7 @@ use typed_words::part;
 ghost use mathlib.Core.Path.{_≡_};
 ghost use Prim.Native.Nat.{_-_, _≤_, min};
 ghost use lib.ListN.{length, getD};
-ghost use Rattle.codec.specs.Codec.{pick};
+ghost use Rattle.base.specs.Choice.{pick};
 ghost use Rattle.codec.specs.Table.{fields};
 ghost use Rattle.printing.specs.Said.{Said};
 ghost use Rattle.names.specs.Names.{lineOf, kindName, fieldNames, fieldName, expected, decimalsAt, className, sentence, printedByte, shown};

@@ -8,12 +8,8 @@ use mathlib.Core.List.{List, [], _∷_, _++_}
 use lib.ListN.{length, length-append}
 use lib.Dec.{ltb}
 use borrow.Author.Tests.{lt-ltb, le-ltb, ltb-true, ltb-false}
+use Rattle.base.proofs.Tests.{by-test}
 use Rattle.printing.specs.Decimal.{digit, digitsBy, decimal}
-
--- by cases on a test, with what it tells
-pub by-test : {P : Type 0} (b : Bool) → (b ≡ true → P) → (b ≡ false → P) → P
-by-test true f g = f refl
-by-test false f g = g refl
 
 by-one : (f n : ℕ) → n < 10 → digitsBy f (ltb n 10) n ≡ digit n ∷ []
 unfolding digitsBy

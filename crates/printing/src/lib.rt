@@ -1,4 +1,5 @@
 // Decimal text: numbers written into a buffer that the caller lends.
+use base::first_of;
 ghost use mathlib.Core.Path.{_≡_};
 ghost use Prim.Native.Nat.{_+_, _*_, _≤_, _<_};
 ghost use lib.ListN.{length, take, drop};
@@ -103,13 +104,6 @@ pub fn put_text(out: &mut [u8], at: usize, text: &[u8]) -> usize
         i += 1;
     }
     at + i
-}
-
-fn first_of(s: &[u8], n: usize) -> &[u8]
-    requires { ⌜ n ≤ length (now s) ⌝ }
-    ensures { λ r. ⌜ now r ≡ take n (now (s .entry)) ⌝ }
-{
-    &s[..n]
 }
 
 // As much of the text as fits: what is said to people is cut off at the buffer's end.

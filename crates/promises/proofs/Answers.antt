@@ -9,7 +9,7 @@ use native.Mathlib.Nat.{sub-zero}
 use borrow.Author.Tests.{ltb-true, ltb-false, leb-false, eqb-true, eqb-false}
 use lib.ListN.{length, take}
 use lib.Dec.{ltb, eqb}
-use Rattle.codec.specs.Codec.{pick}
+use Rattle.base.specs.Choice.{pick}
 use Rattle.account.specs.declared.Account.{Account}
 use Rattle.account.specs.Line.{joined}
 use Rattle.book.specs.declared.State.{State}

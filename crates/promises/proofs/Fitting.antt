@@ -4,20 +4,20 @@ use mathlib.Core.Path.{_≡_, refl, sym, _∙_}
 use mathlib.Core.Bool.{Bool, true, false}
 use mathlib.Core.Logic.{⊎-elim}
 use native.Mathlib.Omega.{arith}
-use Rattle.codec.specs.Codec.{pick}
+use Rattle.base.specs.Choice.{pick}
+use Rattle.base.proofs.Tests.{lt-or-ge, no-bool, of-choice}
 use Rattle.book.specs.Call.{longest}
-use Rattle.account.proofs.Tests.{by-test, no-bool, lt-or-ge}
 
 pub longest-most : (ok : ℕ → Bool) (k : ℕ) → longest ok k ≤ k
 unfolding longest
 longest-most ok zero = omega arith
-longest-most ok (suc k) = let i = longest-most ok k in by-test (λ (n : ℕ). n ≤ suc k) (ok (suc k)) (λ e. omega arith) (λ e. omega arith)
+longest-most ok (suc k) = let i = longest-most ok k in of-choice (λ (n : ℕ). n ≤ suc k) (ok (suc k)) (λ e. omega arith) (λ e. omega arith)
 
 pub longest-least : (ok : ℕ → Bool) (k i : ℕ) → i ≤ k → ok i ≡ true → i ≤ longest ok k
 unfolding longest
 longest-least ok zero i h e = h
 longest-least ok (suc k) i h e =
-    by-test (λ (n : ℕ). i ≤ n) (ok (suc k)) (λ f. h)
+    of-choice (λ (n : ℕ). i ≤ n) (ok (suc k)) (λ f. h)
     (λ f.
     ⊎-elim (λ (p : i < suc k). longest-least ok k i (omega arith) e)
     (λ (p : suc k ≤ i). let z : i ≡ suc k = omega arith in no-bool (sym f ∙ (rw z at e)))

@@ -10,8 +10,10 @@ use native.Mathlib.Omega.{arith}
 use borrow.Author.Tests.{leb-true, eqb-true}
 use lib.ListN.{length, getD, take, drop, length-append, length-drop}
 use lib.Dec.{leb, eqb}
+use Rattle.base.specs.Choice.{pick}
+use Rattle.base.proofs.Tests.{and-r, lt-or-ge, not-false, of-choice}
 use Rattle.codec.specs.Table.{table, fields, lineFields, totalFields}
-use Rattle.codec.specs.Codec.{pick, valAt, be, valuesAt, bytesOf, lineBytes, totalBytes}
+use Rattle.codec.specs.Codec.{valAt, be, valuesAt, bytesOf, lineBytes, totalBytes}
 use Rattle.account.specs.declared.Account.{Account}
 use Rattle.account.specs.declared.Heading.{Heading}
 use Rattle.account.specs.Sorts.{heads, ofGroup, sortOf}
@@ -19,7 +21,6 @@ use Rattle.account.specs.Line.{lineWith, subtotals, totalOf}
 use Rattle.account.specs.Figures.{groupFigures}
 use Rattle.account.specs.Range.{Headed, Unheaded, AccountInRange}
 use Rattle.account.specs.Judge.{kindOf, valuesOf, underHeading, first, refusals, Step, accepted, judge}
-use Rattle.account.proofs.Tests.{by-test, not-false, and-r, lt-or-ge}
 use Rattle.account.proofs.Sorts.{by-sort, heads-two}
 use Rattle.account.proofs.First.{first-clear}
 use Rattle.account.proofs.Keeps.{in-range-judge}
@@ -113,7 +114,7 @@ kind-in a r e =
 judged : (a : Account) (r : List ℕ) → AccountInRange a → Stopped a (judge a r) ⊎ Grown a r (judge a r)
 unfolding judge
 judged a r f =
-    by-test (λ (j : Step). Stopped a j ⊎ Grown a r j) (eqb (first (refusals a r)) 0)
+    of-choice (λ (j : Step). Stopped a j ⊎ Grown a r j) (eqb (first (refusals a r)) 0)
     (λ e. inr (grown a r f (kind-in a r (eqb-true _ _ e))))
     (λ e. inl (record { stage = refl; counted = refl; none = refl }))
 

@@ -4,12 +4,12 @@ use Prim.Native.Nat.{ℕ, _≤_, _<_}
 use mathlib.Core.Path.{_≡_, sym, _∙_, ap}
 use mathlib.Core.Logic.{⊎-elim}
 use lib.ListN.{length}
+use Rattle.base.proofs.Tests.{lt-or-ge}
 use Rattle.account.specs.declared.Judged.{Judged}
 use Rattle.account.specs.Line.{bytesOf}
 use Rattle.account.specs.Judge.{Step}
 use Rattle.account.specs.Told.{Tells, TellsIn}
 use Rattle.account.specs.declared.Account.{Account}
-use Rattle.account.proofs.Tests.{lt-or-ge}
 use Rattle.account.proofs.Told.{tells-fit, account-kept, lines-long}
 use mathlib.Core.Bool.{Bool}
 use contract.Lifetimes.{Lfts}

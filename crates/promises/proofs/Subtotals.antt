@@ -10,8 +10,10 @@ use native.Mathlib.Omega.{arith}
 use borrow.Author.Tests.{eqb-true, ne-eqb}
 use lib.ListN.{length, getD, take, drop, length-drop}
 use lib.Dec.{leb, eqb}
+use Rattle.base.specs.Choice.{pick}
+use Rattle.base.proofs.Tests.{lt-or-ge, no-bool, of-choice, true-or-false}
 use Rattle.codec.specs.Table.{fields}
-use Rattle.codec.specs.Codec.{pick, valAt, valuesAt, lineBytes}
+use Rattle.codec.specs.Codec.{valAt, valuesAt, lineBytes}
 use Rattle.account.specs.declared.Account.{Account}
 use Rattle.account.specs.declared.Heading.{Heading}
 use Rattle.account.specs.declared.Figures.{Figures}
@@ -21,7 +23,6 @@ use Rattle.account.specs.Figures.{noFigures, noSubtotal, added, grouped, groupF
 use Rattle.account.specs.Line.{lineWith, subtotals, totalOf}
 use Rattle.account.specs.Range.{Ungrouped, AccountInRange}
 use Rattle.account.specs.Judge.{kindOf, valuesOf, noRecord, first, refusals, Step, accepted, judge}
-use Rattle.account.proofs.Tests.{by-test, no-bool, lt-or-ge, true-or-false}
 use Rattle.account.proofs.Sorts.{by-sort, not-of-group, kind-most}
 use Rattle.account.proofs.Keeps.{in-range-judge}
 use Rattle.book.specs.declared.State.{State}
@@ -204,7 +205,7 @@ module _ (a : Account) (r : List ℕ) (f : AccountInRange a) (x : Gas) where
   unfolding figuresOf
   air-alone e =
       let n = not-of-group (kindOf r) e in
-      rw (n .0, n .1 .0, n .1 .1) (by-test (λ (g : Figures). x .farm g ≡ 0) (eqb (kindOf r) 6) (λ e. x .air _) (λ e. x .air _))
+      rw (n .0, n .1 .0, n .1 .1) (of-choice (λ (g : Figures). x .farm g ≡ 0) (eqb (kindOf r) 6) (λ e. x .air _) (λ e. x .air _))
 
   abbrev Balanced : Sort → Type 0
   Balanced s =
@@ -291,7 +292,7 @@ record Stopped (a : Account) (j : Step) : Type 0 where
 judged : (a : Account) (r : List ℕ) → AccountInRange a → Stopped a (judge a r) ⊎ Made a r (judge a r)
 unfolding judge
 judged a r f =
-    by-test (λ (j : Step). Stopped a j ⊎ Made a r j) (eqb (first (refusals a r)) 0)
+    of-choice (λ (j : Step). Stopped a j ⊎ Made a r j) (eqb (first (refusals a r)) 0)
     (λ e. inr (made a r f (kind-in a r (eqb-true _ _ e))))
     (λ e. inl (record { stage = refl; counted = refl; sums = refl; none = refl }))
 

@@ -4,7 +4,8 @@
 use Prim.Native.Nat.{ℕ}
 use mathlib.Core.List.{List, [], _∷_, _++_}
 use lib.Dec.{eqb}
-use Rattle.codec.specs.Codec.{pick, valAt}
+use Rattle.base.specs.Choice.{pick}
+use Rattle.codec.specs.Codec.{valAt}
 use Rattle.account.specs.Sorts.{sortOf, bySort}
 use Rattle.account.specs.Judge.{kindOf}
 

@@ -5,7 +5,8 @@ use Prim.Native.Nat.{ℕ, _+_}
 use mathlib.Core.List.{List, [], _∷_, _++_}
 use lib.ListN.{getD}
 use lib.Dec.{eqb}
-use Rattle.codec.specs.Codec.{pick, valAt}
+use Rattle.base.specs.Choice.{pick}
+use Rattle.codec.specs.Codec.{valAt}
 use Rattle.account.specs.declared.Heading.{Heading}
 use Rattle.account.specs.declared.Figures.{Figures}
 use Rattle.account.specs.declared.Subtotal.{Subtotal}

@@ -10,13 +10,12 @@ use lib.ListN.{length, take, drop, getD, length-append, length-take, take-append
 use lib.Seq.{getD-drop, getD-take, take-append-add}
 use lib.Dec.{eqb, ltb}
 use borrow.Author.Tests.{ltb-true, eqb-false, ne-eqb}
-use Rattle.printing.proofs.Digits.{by-test}
+use Rattle.base.proofs.Tests.{and-false, and-l, and-r, by-test, lt-or-ge}
 use Rattle.codec.proofs.BigEndian.{Bytes}
 use Rattle.account.specs.declared.Account.{Account}
 use Rattle.account.specs.Judge.{WholeRecord, noRecord, kindOf, valuesOf, judge}
 use Rattle.account.specs.Line.{joined}
 use Rattle.account.specs.Range.{AccountInRange}
-use Rattle.account.proofs.Tests.{and-l, and-r, lt-or-ge}
 use Rattle.account.proofs.Keeps.{in-range-none, in-range-judge}
 use Rattle.book.specs.declared.State.{State}
 use Rattle.book.specs.State.{inRange, holding, noRecordYet}
@@ -117,10 +116,6 @@ begins (suc n) a xs = by-front (front xs) (recordsBy n (drop (need xs) xs)) (λ 
         (λ t. rw t)
 
 -- ---- the code types those
-
-and-false : (b : Bool) → (b && false) ≡ false
-and-false true = refl
-and-false false = refl
 
 no-record : (s : State) (xs : List ℕ) → wholeLength xs ≡ 0 → accepts s (wholeLength xs) (readOf s (wholeLength xs) xs .state) ≡ false
 unfolding accepts

@@ -8,11 +8,12 @@ use mathlib.Core.List.{List, [], _∷_, _++_}
 use lib.ListN.{length, length-append}
 use lib.Dec.{ltb}
 use borrow.Author.Tests.{ltb-true, ltb-false, le-leb, lt-ltb, ne-eqb}
+use Rattle.base.proofs.Tests.{by-test}
 use Rattle.typed_words.specs.Words.{leadingOf, nthWord}
 use Rattle.typed_words.specs.Amounts.{aWhole, numberFrom, numberOf, amountOf}
 use Rattle.typed_words.proofs.Amounts.{followed, digits-amount}
 use Rattle.printing.specs.Decimal.{digit, decimal, spaced}
-use Rattle.printing.proofs.Digits.{by-test, decimal-small, decimal-more, length-small, length-more, length-u64}
+use Rattle.printing.proofs.Digits.{decimal-small, decimal-more, length-small, length-more, length-u64}
 use Rattle.text_lines.specs.Lines.{has}
 use Rattle.text_lines.proofs.Bytes.{absent, index-other, has-not, has-behind}
 use Rattle.bytes.specs.Bytes.{indexOf}

@@ -5,8 +5,9 @@ use mathlib.Core.Path.{_≡_, refl, ap, _∙_}
 use mathlib.Core.Bool.{Bool, true, false, _&&_}
 use mathlib.Core.List.{List, [], _∷_, _++_, map, append-assoc}
 use lib.Dec.{eqb}
+use Rattle.base.specs.Choice.{oneMore}
 use Rattle.bytes.specs.Bytes.{indexOf}
-use Rattle.text_lines.specs.Lines.{oneMore, kept, linesOf, unmarked}
+use Rattle.text_lines.specs.Lines.{kept, linesOf, unmarked}
 use Rattle.text_lines.specs.Parts.{Numbered, numbered}
 use Rattle.text_lines.proofs.Pieces.{lines-cut}
 use Rattle.typed_words.specs.Words.{nthWord, leadingOf}

@@ -10,18 +10,19 @@ use lib.ListN.{length, take, drop, getD, replicate, length-drop}
 use lib.Seq.{drop-drop, take-all, take-at}
 use lib.Dec.{eqb, leb, ltb}
 use borrow.Author.Tests.{eq-eqb, ne-eqb, eqb-true, eqb-false, ltb-true, leb-true, lt-ltb, le-ltb, not-true, not-false}
+use Rattle.base.specs.Choice.{pick}
+use Rattle.base.proofs.Tests.{and-l, and-r}
 use Rattle.printing.specs.Decimal.{decimal, spaced, joined, numbersLine, Put}
 use Rattle.printing.specs.Said.{Said}
 use Rattle.printing.proofs.Puts.{none, put-length, and-then}
 use Rattle.printing.specs.Ascii.{ascii}
 use Rattle.names.specs.Names.{kindName, sentence}
 use Rattle.codec.specs.Table.{table, fields, lengthOf}
-use Rattle.codec.specs.Codec.{pick, valAt, valuesAt}
+use Rattle.codec.specs.Codec.{valAt, valuesAt}
 use Rattle.codec.proofs.Values.{values-length}
 use Rattle.codec.proofs.BigEndian.{one-byte}
 use Rattle.account.specs.declared.Account.{Account}
 use Rattle.account.specs.Judge.{WholeRecord, kindOf, valuesOf, refused, refusals, first, accepted, judge}
-use Rattle.account.proofs.Tests.{and-l, and-r}
 use Rattle.account.proofs.First.{first-clear}
 use Rattle.book.specs.declared.State.{State}
 use Rattle.book.specs.declared.Fed.{Fed}

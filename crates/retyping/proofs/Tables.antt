@@ -9,6 +9,7 @@ use mathlib.Core.List.{List, [], _∷_}
 use lib.ListN.{length}
 use lib.Dec.{leb, eqb}
 use borrow.Author.Tests.{leb-true, eqb-true}
+use Rattle.base.proofs.Tests.{and-l, and-r, lt-or-ge}
 use Rattle.bytes.specs.Bytes.{indexOf, indexAfter}
 use Rattle.typed_words.specs.declared.Whole.{Whole}
 use Rattle.typed_words.specs.Words.{leadingOf, nthWord, nthPart, sameText, lowered}
@@ -18,7 +19,6 @@ use Rattle.codec.specs.declared.Field.{Field}
 use Rattle.codec.specs.Table.{table, fields}
 use Rattle.codec.specs.Codec.{bytesHold, valuesAt}
 use Rattle.codec.proofs.BigEndian.{Bytes, valAt-lt}
-use Rattle.account.proofs.Tests.{and-l, and-r, lt-or-ge}
 use Rattle.typed_line.specs.Line.{names, placeFrom, kindOf}
 use Rattle.retyping.proofs.Words.{Word}
 use Rattle.retyping.proofs.Decimals.{Small}

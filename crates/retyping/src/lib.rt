@@ -1,6 +1,8 @@
 // A book as typed lines: for each accepted record the line that a person would type for it.
 use account::Account;
 use account::Refusal;
+use base::first_of;
+use base::rest_of;
 use book::Fed;
 use book::State;
 use codec::numbers::be8;
@@ -30,20 +32,6 @@ pub struct Retyped {
     pub taken: usize,
     pub written: usize,
     pub more: bool,
-}
-
-fn first_of(s: &[u8], n: usize) -> &[u8]
-    requires { ⌜ n ≤ length (now s) ⌝ }
-    ensures { λ r. ⌜ now r ≡ take n (now (s .entry)) ⌝ }
-{
-    &s[..n]
-}
-
-fn rest_of(s: &[u8], i: usize) -> &[u8]
-    requires { ⌜ i ≤ length (now s) ⌝ }
-    ensures { λ r. ⌜ now r ≡ drop i (now (s .entry)) ⌝ }
-{
-    &s[i..]
 }
 
 fn from_one(v: [u64; 1]) -> [u64; 12]

@@ -7,8 +7,9 @@ use mathlib.Core.Bool.{Bool, true, false, _&&_}
 use native.Mathlib.Omega.{arith}
 use lib.ListN.{length}
 use lib.Dec.{leb}
+use Rattle.base.specs.Choice.{pick}
 use Rattle.codec.specs.Table.{fields, lengthOf}
-use Rattle.codec.specs.Codec.{pick, valuesAt}
+use Rattle.codec.specs.Codec.{valuesAt}
 use Rattle.account.specs.declared.Account.{Account}
 use Rattle.account.specs.declared.Judged.{Judged}
 use Rattle.account.specs.Judge.{kindOf, weigh, judge}

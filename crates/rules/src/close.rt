@@ -12,7 +12,7 @@ use grams::farm::Warming;
 ghost use mathlib.Core.Path.{_≡_};
 ghost use Prim.Native.Nat.{_<_};
 ghost use lib.Dec.{eqb};
-ghost use Rattle.codec.specs.Codec.{pick};
+ghost use Rattle.base.specs.Choice.{pick};
 ghost use Rattle.codec.specs.Table.{totalSize, linesMost};
 ghost use Rattle.grams.specs.Farm.{warmingOf};
 ghost use Rattle.account.specs.Range.{AccountInRange, Bounded};

@@ -12,7 +12,7 @@ use account::line::Line;
 ghost use mathlib.Core.Path.{_≡_};
 ghost use Prim.Native.Nat.{_<_};
 ghost use lib.Dec.{eqb};
-ghost use Rattle.codec.specs.Codec.{pick};
+ghost use Rattle.base.specs.Choice.{pick};
 ghost use Rattle.codec.specs.Table.{lineSize};
 ghost use Rattle.account.specs.Figures.{grouped, groupFigures};
 ghost use Rattle.account.specs.Range.{Bounded, Grouped};

@@ -10,9 +10,9 @@ use borrow.Author.Tests.{ltb-true, ltb-false, lt-ltb, le-ltb, eq-eqb, ne-eqb}
 use lib.ListN.{length, length-append}
 use lib.Seq.{sets, sets-eq, length-sets}
 use lib.Dec.{ltb, eqb}
+use Rattle.base.proofs.Tests.{or-l, or-r}
 use Rattle.codec.specs.Codec.{be}
 use Rattle.account.specs.Judge.{kindOf}
-use Rattle.account.proofs.Tests.{or-l, or-r}
 use Rattle.salvaging.specs.declared.Reading.{Reading}
 use Rattle.salvaging.specs.declared.passes.Sizes.{Sizes}
 use Rattle.salvaging.specs.declared.Salvaged.{Salvaged}

@@ -9,13 +9,14 @@ use native.Mathlib.Omega.{arith}
 use borrow.Author.Tests.{eqb-true, eq-eqb, ne-eqb, leb-false, lt-leb}
 use lib.Dec.{leb, eqb}
 use lib.ListN.{getD}
+use Rattle.base.specs.Choice.{pick}
+use Rattle.base.proofs.Tests.{of-choice, no-bool, not-false, and-l, and-r, and-no, or-l, or-r}
 use Rattle.codec.specs.Table.{lengthOf}
-use Rattle.codec.specs.Codec.{pick, valAt}
+use Rattle.codec.specs.Codec.{valAt}
 use Rattle.account.specs.declared.Account.{Account}
 use Rattle.account.specs.Range.{AccountInRange}
 use Rattle.account.specs.Sorts.{opens, heads, ofGroup, ofFarm, closes, sortOf}
 use Rattle.account.specs.Judge.{versionOf, kindOf, valuesOf, closed, headingServes, inPlace, first, refusals, Step, accepted, judge}
-use Rattle.account.proofs.Tests.{by-test, no-bool, not-false, and-l, and-r, and-no, or-l, or-r}
 use Rattle.account.proofs.Sorts.{by-sort}
 use Rattle.account.proofs.First.{Clear, first-clear}
 use Rattle.account.proofs.Keeps.{in-range-judge}
@@ -64,7 +65,7 @@ grows a r e = rw (accepts a r e) (grown a (kindOf r) (valuesOf r))
 pub code-is : (a : Account) (r : List ℕ) → AccountInRange a → a .stage < 2 → judge a r .account .refusal .code ≡ wouldGet a r
 unfolding judge
 code-is a r f h =
-    by-test (λ (j : Step). j .account .refusal .code ≡ wouldGet a r) (eqb (wouldGet a r) 0)
+    of-choice (λ (j : Step). j .account .refusal .code ≡ wouldGet a r) (eqb (wouldGet a r) 0)
     (λ e. grown a (kindOf r) (valuesOf r) .refusal ∙ f .unrefused (λ z. omega arith) .code ∙ sym (eqb-true _ _ e)) (λ e. refl)
 
 -- where it is 0, no refusal's test holds
@@ -119,7 +120,7 @@ Each P (t ∷ ts) = (t .0 ≡ true → P (t .1)) × Each P ts
 first-is : (P : ℕ → Type 0) (ts : List (Bool × ℕ)) → P 0 → Each P ts → P (first ts)
 unfolding first
 first-is P [] z e = z
-first-is P (t ∷ ts) z e = by-test P (t .0) (e .0) (λ x. first-is P ts z (e .1))
+first-is P (t ∷ ts) z e = of-choice P (t .0) (e .0) (λ x. first-is P ts z (e .1))
 
 -- c is no number, or one that drops a record
 abbrev Dropping : ℕ → Type 0

@@ -9,11 +9,12 @@ use borrow.Author.Tests.{ne-eqb, leb-true}
 use lib.Dec.{leb, eqb}
 use lib.ListN.{length, take}
 use lib.Seq.{take-append-seam, drop-append-seam}
-use Rattle.codec.specs.Codec.{pick, recordBytes}
+use Rattle.base.specs.Choice.{pick}
+use Rattle.base.proofs.Tests.{and-l, no-bool}
+use Rattle.codec.specs.Codec.{recordBytes}
 use Rattle.account.specs.Sorts.{sortOf}
 use Rattle.account.specs.Judge.{WholeRecord, kindOf, first}
 use Rattle.account.specs.Line.{joined}
-use Rattle.account.proofs.Tests.{and-l, no-bool}
 use Rattle.book.specs.Front.{whole, need}
 use Rattle.book.proofs.FrontLaws.{front-none, length-append-two}
 use Rattle.book.specs.WholeRecords.{recordsBy, recordsOf}

@@ -7,8 +7,8 @@ use mathlib.Core.Logic.{⊎-elim}
 use native.Mathlib.Omega.{arith}
 use borrow.Author.Tests.{eqb-true, eqb-false, ne-eqb, lt-leb, leb-true, leb-false}
 use lib.Dec.{leb, eqb}
+use Rattle.base.proofs.Tests.{true-or-false}
 use Rattle.account.specs.Sorts.{sortOf}
-use Rattle.account.proofs.Tests.{true-or-false}
 use Rattle.salvaging.specs.Salvage.{ofGroupKind}
 
 -- 3 to 5 and no others

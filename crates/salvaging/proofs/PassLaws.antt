@@ -9,8 +9,9 @@ use native.Mathlib.Omega.{arith}
 use lib.ListN.{length, take, drop, length-append, length-drop}
 use lib.Seq.{sets, length-sets, drop-drop, length-take-le}
 use lib.Dec.{eqb}
+use Rattle.base.specs.Choice.{pick}
 use Rattle.codec.specs.Table.{table, size}
-use Rattle.codec.specs.Codec.{pick, recordBytes}
+use Rattle.codec.specs.Codec.{recordBytes}
 use Rattle.codec.proofs.Stores.{sets-append}
 use Rattle.codec.proofs.Round.{record-length}
 use Rattle.account.specs.Line.{joined}

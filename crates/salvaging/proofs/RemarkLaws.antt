@@ -9,8 +9,8 @@ use borrow.Author.Tests.{ltb-false, lt-ltb, le-ltb}
 use lib.ListN.{length, drop, length-drop}
 use lib.Seq.{drop-drop}
 use lib.Dec.{ltb}
+use Rattle.base.proofs.Tests.{of-choice}
 use Rattle.codec.specs.Codec.{valAt}
-use Rattle.account.proofs.Tests.{by-test}
 use Rattle.printing.specs.Said.{Said}
 use Rattle.printing.proofs.Sayings.{_⟫_, said-none}
 use Rattle.salvaging.specs.Remarks.{droppedText, listTextBy, listText}
@@ -25,7 +25,7 @@ unfolding listTextBy
 same-text zero m list p q = absurd (omega arith)
 same-text (suc n) zero list p q = absurd (omega arith)
 same-text (suc n) (suc m) list p q =
-    by-test (λ (t : List ℕ). t ≡ listTextBy (suc m) list) (ltb (length list) 9) (λ e. rw e)
+    of-choice (λ (t : List ℕ). t ≡ listTextBy (suc m) list) (ltb (length list) 9) (λ e. rw e)
     (λ e. rw e (ap (λ (t : List ℕ). frontText list ++ t) (same-text n m (drop 9 list) (shorter n p e) (shorter m q e))))
   where
     shorter : (k : ℕ) → length list < suc k → ltb (length list) 9 ≡ false → length (drop 9 list) < k

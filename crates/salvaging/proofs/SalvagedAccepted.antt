@@ -10,10 +10,11 @@ use borrow.Author.Tests.{eqb-false}
 use lib.Dec.{ltb}
 use lib.ListN.{length, drop}
 use lib.Seq.{take-append-seam, drop-append-seam}
-use Rattle.codec.specs.Codec.{pick, recordBytes}
+use Rattle.base.specs.Choice.{pick}
+use Rattle.base.proofs.Tests.{not-true}
+use Rattle.codec.specs.Codec.{recordBytes}
 use Rattle.account.specs.declared.Account.{Account}
 use Rattle.account.specs.Judge.{WholeRecord, closed, judge}
-use Rattle.account.proofs.Tests.{not-true}
 use Rattle.book.specs.Front.{Front, unfinished, badLength, whole, need, front}
 use Rattle.book.specs.State.{noRecordYet}
 use Rattle.book.specs.Run.{Run, then, book, run}

@@ -11,6 +11,8 @@ use lib.Dec.{T, ltb, leb, eqb, leb→le}
 use lib.ListN.{length, drop, length-append, length-drop}
 use lib.Ieee.Fits.{and-l as and-left, and-r as and-right}
 use lib.Seq.{drop-append-seam, getD-drop}
+use Rattle.base.specs.Choice.{pick}
+use Rattle.base.proofs.Tests.{of-choice, true-or-false}
 use Rattle.bytes.specs.Bytes.{indexOf, indexAfter}
 use Rattle.typed_words.specs.Words.{nthPart}
 use Rattle.printing.specs.Ascii.{ascii}
@@ -18,12 +20,11 @@ use Rattle.printing.specs.Decimal.{decimal}
 use Rattle.printing.proofs.Digits.{length-u64}
 use Rattle.names.specs.Names.{sentenceTable, sentence}
 use Rattle.codec.specs.Table.{table, size}
-use Rattle.codec.specs.Codec.{pick, bytesHold, valAt, be, bytesOf, recordBytes}
+use Rattle.codec.specs.Codec.{bytesHold, valAt, be, bytesOf, recordBytes}
 use Rattle.codec.proofs.BigEndian.{Bytes, valAt-lt, valAt-be, be-length}
 use Rattle.account.specs.declared.Account.{Account}
 use Rattle.account.specs.Judge.{kindOf, first, refusals}
 use Rattle.account.specs.Line.{joined}
-use Rattle.account.proofs.Tests.{by-test, true-or-false}
 use Rattle.account.proofs.First.{first-most}
 use Rattle.book.specs.Front.{Front, unfinished, badLength, whole, need, front}
 use Rattle.book.specs.WholeRecords.{beginsWith, recordsBy, recordsOf}
@@ -60,9 +61,9 @@ would-get-most a r =
 drops-most : (c k : ℕ) (lost : Bool) → c ≤ 12 → first (drops c k lost) < 256
 unfolding first
 drops-most c k lost h =
-    by-test (λ (n : ℕ). n < 256) (oneOf 2 4 c) (λ e. omega arith)
-    (λ e. by-test (λ (n : ℕ). n < 256) (lost && ofGroupKind k) (λ e. omega arith)
-    (λ e. by-test (λ (n : ℕ). n < 256) (oneOf 6 11 c) (λ e. omega arith) (λ e. omega arith)))
+    of-choice (λ (n : ℕ). n < 256) (oneOf 2 4 c) (λ e. omega arith)
+    (λ e. of-choice (λ (n : ℕ). n < 256) (lost && ofGroupKind k) (λ e. omega arith)
+    (λ e. of-choice (λ (n : ℕ). n < 256) (oneOf 6 11 c) (λ e. omega arith) (λ e. omega arith)))
 
 dropped-most : (s : Reading) (r : List ℕ) → droppedBy s r < 256
 unfolding droppedBy
@@ -208,7 +209,7 @@ lines-short : (n : ℕ) (list : List ℕ) → Bytes list → 9 * length (listTex
 unfolding listTextBy bytesHold
 lines-short zero list b = omega arith
 lines-short (suc n) list b =
-    by-test (λ (t : List ℕ). 9 * length t ≤ 220 * length list) (ltb (length list) 9) (λ e. omega arith)
+    of-choice (λ (t : List ℕ). 9 * length t ≤ 220 * length list) (ltb (length list) 9) (λ e. omega arith)
     (λ e.
     let h = ltb-false (length list) 9 e in
     let line = line-short (valAt list 0 8) (valAt list 8 1) (valAt-lt list b 0 8) (omega (arith, valAt-lt list b 8 1)) in

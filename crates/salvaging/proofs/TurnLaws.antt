@@ -9,13 +9,13 @@ use native.Mathlib.Omega.{arith}
 use borrow.Author.Tests.{eqb-true, eqb-false, ne-eqb}
 use lib.ListN.{take, drop}
 use lib.Dec.{leb, eqb}
+use Rattle.base.specs.Choice.{pick}
+use Rattle.base.proofs.Tests.{or-left, or-right, lt-or-ge}
 use Rattle.codec.specs.Table.{linesMost}
-use Rattle.codec.specs.Codec.{pick}
 use Rattle.account.specs.declared.Account.{Account}
 use Rattle.account.specs.declared.Judged.{Judged}
 use Rattle.account.specs.Judge.{Step, kindOf, first, judge}
 use Rattle.account.specs.Told.{TellsIn}
-use Rattle.account.proofs.Tests.{or-left, or-right, lt-or-ge}
 use Rattle.account.proofs.Told.{tells-fit, lines-short}
 use Rattle.book.specs.Front.{Front, unfinished, badLength, whole, front}
 use Rattle.book.proofs.FrontLaws.{meaning}

@@ -11,13 +11,14 @@ use borrow.Author.Tests.{eqb-true, eqb-false, ne-eqb, lt-leb, le-ltb}
 use lib.Dec.{leb, eqb}
 use lib.ListN.{length, getD, take, drop, length-drop, take-append-drop}
 use lib.Seq.{getD-drop}
+use Rattle.base.specs.Choice.{pick}
+use Rattle.base.proofs.Tests.{or-left, lt-or-ge}
 use Rattle.codec.specs.Table.{table, size, lengthOf}
-use Rattle.codec.specs.Codec.{pick, valuesAt, recordBytes}
+use Rattle.codec.specs.Codec.{valuesAt, recordBytes}
 use Rattle.codec.proofs.BigEndian.{Bytes, one-byte}
 use Rattle.codec.proofs.Round.{record-again}
 use Rattle.account.specs.declared.Account.{Account}
 use Rattle.account.specs.Judge.{WholeRecord, kindOf, noRecord, closed, judge}
-use Rattle.account.proofs.Tests.{or-left, lt-or-ge}
 use Rattle.book.specs.Front.{Front, unfinished, badLength, whole, need, front}
 use Rattle.book.specs.State.{noRecordYet}
 use Rattle.book.specs.Run.{Run, run}

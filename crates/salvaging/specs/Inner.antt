@@ -5,7 +5,8 @@ use mathlib.Core.Path.{_≡_}
 use mathlib.Core.List.{List, [], _∷_, _++_}
 use lib.ListN.{length, take, drop}
 use lib.Dec.{eqb}
-use Rattle.codec.specs.Codec.{pick, recordBytes}
+use Rattle.base.specs.Choice.{pick}
+use Rattle.codec.specs.Codec.{recordBytes}
 use Rattle.account.specs.Range.{AccountInRange}
 use Rattle.account.specs.Line.{joined}
 use Rattle.salvaging.specs.declared.Reading.{Reading}

@@ -6,7 +6,8 @@ use mathlib.Core.List.{List, [], _∷_, _++_}
 use mathlib.Core.Bool.{Bool, true, false, _&&_}
 use lib.ListN.{length, drop}
 use lib.Dec.{ltb}
-use Rattle.codec.specs.Codec.{pick, valAt}
+use Rattle.base.specs.Choice.{pick}
+use Rattle.codec.specs.Codec.{valAt}
 use Rattle.printing.specs.Ascii.{ascii}
 use Rattle.printing.specs.Decimal.{decimal}
 use Rattle.names.specs.Names.{sentence}

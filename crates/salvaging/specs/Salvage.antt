@@ -6,7 +6,8 @@ use mathlib.Core.List.{List, [], _∷_, _++_}
 use mathlib.Core.Bool.{Bool, true, false, _&&_, _||_, not}
 use lib.ListN.{length, drop}
 use lib.Dec.{ltb, leb, eqb}
-use Rattle.codec.specs.Codec.{pick, be, recordBytes}
+use Rattle.base.specs.Choice.{pick}
+use Rattle.codec.specs.Codec.{be, recordBytes}
 use Rattle.account.specs.declared.Account.{Account}
 use Rattle.account.specs.Sorts.{sortOf, bySort}
 use Rattle.account.specs.Judge.{kindOf, noRecord, first, refusals, judge}

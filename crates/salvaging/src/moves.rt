@@ -1,29 +1,13 @@
-// Bytes looked at and moved, with no regard to what they mean.
+// Bytes of the clean book and of the list, written.
 use codec::numbers::put1;
 use codec::numbers::put8;
 ghost use mathlib.Core.Path.{_≡_};
 ghost use Prim.Native.Nat.{_+_, _≤_};
-ghost use lib.ListN.{length, take, drop};
+ghost use lib.ListN.{length, take};
 ghost use lib.Seq.{sets};
 ghost use lib.Dec.{eqb};
-ghost use Rattle.codec.specs.Codec.{pick};
+ghost use Rattle.base.specs.Choice.{pick};
 ghost use Rattle.salvaging.specs.Inner.{noteOf};
-
-// The first n bytes of s.
-pub(crate) fn first_of(s: &[u8], n: usize) -> &[u8]
-    requires { ⌜ n ≤ length (now s) ⌝ }
-    ensures { λ r. ⌜ now r ≡ take n (now (s .entry)) ⌝ }
-{
-    &s[..n]
-}
-
-// The bytes of s from i on.
-pub(crate) fn rest_of(s: &[u8], i: usize) -> &[u8]
-    requires { ⌜ i ≤ length (now s) ⌝ }
-    ensures { λ r. ⌜ now r ≡ drop i (now (s .entry)) ⌝ }
-{
-    &s[i..]
-}
 
 // One number for a kept record, with code 0, another for a dropped one.
 pub(crate) fn by_code(code: u8, kept: usize, dropped: usize) -> usize

@@ -3,7 +3,7 @@ use crate::Reading;
 use crate::moves::by_code;
 use crate::moves::copy;
 use crate::moves::note;
-use crate::moves::rest_of;
+use base::rest_of;
 ghost use mathlib.Core.Path.{_≡_};
 ghost use mathlib.Core.List.{[], _∷_};
 ghost use Prim.Native.Nat.{_+_, _≤_};

@@ -1,6 +1,6 @@
 // What a person is told of a salvage: a line for each record of the list, the last word, and the status.
 use crate::Salvaged;
-use crate::moves::rest_of;
+use base::rest_of;
 use codec::numbers::be8;
 use codec::numbers::be16;
 use codec::numbers::be64;

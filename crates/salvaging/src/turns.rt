@@ -1,6 +1,6 @@
 // One record of a damaged book: it is kept, it is dropped, or the reading ends before it.
 use crate::Reading;
-use crate::moves::first_of;
+use base::first_of;
 use book::front::ready;
 use codec::LINES_MOST;
 use rules::judge;
@@ -8,7 +8,7 @@ ghost use mathlib.Core.Path.{_≡_};
 ghost use mathlib.Core.Bool.{not};
 ghost use Prim.Native.Nat.{_<_};
 ghost use lib.Dec.{eqb};
-ghost use Rattle.codec.specs.Codec.{pick};
+ghost use Rattle.base.specs.Choice.{pick};
 ghost use Rattle.account.specs.Judge.{first};
 ghost use Rattle.salvaging.specs.Salvage.{ofGroupKind, drops};
 ghost use Rattle.salvaging.specs.Inner.{Open, Turned};

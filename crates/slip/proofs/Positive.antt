@@ -11,7 +11,8 @@ use lib.Ieee.{Float, nan, inf, fin, Format, binary64, round, mul, div, le, ofInt
 use lib.Ieee.Fits.{and-l, and-r, up-pos}
 use lib.Ieee.Order.{round-mono}
 use lib.Ieee.Positive.{num, den, positive, den-pos, le→cross, between, mul-mono}
-use Rattle.slip.specs.Slip.{double, within, kgCh4, rationInRange, geInRange, ymInRange, headInRange, daysInRange, changeInRange, changedInRange, changedBy, pick, estimated, refusedWith, whatIf, Answers}
+use Rattle.base.specs.Choice.{pick}
+use Rattle.slip.specs.Slip.{double, within, kgCh4, rationInRange, geInRange, ymInRange, headInRange, daysInRange, changeInRange, changedInRange, changedBy, estimated, refusedWith, whatIf, Answers}
 use Rattle.slip.specs.declared.Slip.{Slip}
 use Rattle.slip.specs.declared.Change.{Change}
 use Rattle.slip.specs.declared.Change.the-variants.{Feed, Ym, Head}

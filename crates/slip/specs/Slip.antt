@@ -5,6 +5,7 @@ use mathlib.Core.Bool.{Bool, true, false, not, _&&_}
 use lib.IntN.{pos}
 use lib.Dec.{T, leb}
 use lib.Ieee.{Float, fin, binary64, round, mul, div, le, ofInt, isNan}
+use Rattle.base.specs.Choice.{pick}
 use Rattle.slip.specs.declared.Ration.{Ration}
 use Rattle.slip.specs.declared.Slip.{Slip}
 use Rattle.slip.specs.declared.Change.{Change}
@@ -84,11 +85,6 @@ refusedWith code r = record { code = code; ration = r; kg = +0 }
 -- otherwise: the changed ration with its kg
 abbrev pub estimated : Ration → Slip
 estimated n = record { code = 0; ration = n; kg = kgCh4 n }
-
--- a where the test passes, else b
-abbrev pub pick : Bool → Slip → Slip → Slip
-pick true a b = a
-pick false a b = b
 
 -- the slip: 14 is tried first, then 15
 unfoldable pub whatIf : Ration → Change → Slip

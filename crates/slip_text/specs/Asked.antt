@@ -4,6 +4,7 @@ use mathlib.Core.Bool.{Bool, true, false}
 use mathlib.Core.List.{List, [], _∷_}
 use lib.ListN.{length}
 use lib.Dec.{eqb, leb, ltb}
+use Rattle.base.specs.Choice.{pick}
 use Rattle.printing.specs.Ascii.{ascii}
 use lib.Ieee.{Float}
 use Rattle.typed_words.specs.Words.{nthWord, sameText}
@@ -15,11 +16,6 @@ use Rattle.slip.specs.declared.Ration.{Ration}
 use Rattle.slip_text.specs.declared.Named.{Named}
 use Rattle.slip_text.specs.declared.Asked.{Asked}
 use Rattle.slip_text.specs.declared.Asked.the-variants.{Nothing, Estimate, Wrong}
-
--- a where the test passes, else b
-abbrev pub pick : {X : Type 0} → Bool → X → X → X
-pick true a b = a
-pick false a b = b
 
 -- the word is feed, ym or head; with any other it is no change
 abbrev pub changeNamed : List ℕ → Float → Named

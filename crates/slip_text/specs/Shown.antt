@@ -5,12 +5,12 @@ use Prim.Native.Nat.{ℕ, _-_}
 use lib.Dec.{eqb, ltb}
 use lib.IntN.{pos, negsuc}
 use lib.Ieee.{Float, fin, binary64, round, add, mul, lt, toUnsigned}
+use Rattle.base.specs.Choice.{pick}
 use Rattle.printing.specs.Decimal.{decimal, thousandths}
 use Rattle.printing.specs.Ascii.{ascii}
 use Rattle.slip_text.specs.declared.Grams.{Grams}
 use Rattle.slip.specs.declared.Ration.{Ration}
 use Rattle.slip.specs.declared.Slip.{Slip}
-use Rattle.slip_text.specs.Asked.{pick}
 
 -- x × 1000 + 0.5, each rounded once: its whole part is x in thousandths, to the nearest
 abbrev pub scaled : Float → Float

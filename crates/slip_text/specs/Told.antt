@@ -3,6 +3,7 @@ use Prim.Native.Nat.{ℕ, _-_}
 use mathlib.Core.Bool.{Bool, true, false, _&&_}
 use mathlib.Core.List.{List, [], _∷_, _++_}
 use lib.Dec.{eqb, ltb}
+use Rattle.base.specs.Choice.{pick, oneMore}
 use Rattle.printing.specs.Ascii.{ascii}
 use Rattle.printing.specs.Decimal.{decimal}
 use Rattle.names.specs.Names.{shown}
@@ -14,9 +15,8 @@ use Rattle.slip.specs.declared.Ration.{Ration}
 use Rattle.slip_text.specs.declared.Asked.{Asked}
 use Rattle.slip_text.specs.declared.Asked.the-variants.{Nothing, Estimate, Wrong}
 use Rattle.slip_text.specs.declared.Counts.{Counts}
-use Rattle.slip_text.specs.Asked.{pick, unless, changeIn, askedOf}
+use Rattle.slip_text.specs.Asked.{unless, changeIn, askedOf}
 use Rattle.slip_text.specs.Shown.{slipLine}
-use Rattle.text_lines.specs.Lines.{oneMore}
 
 -- ---- the one table of names and ranges: places count from 0
 

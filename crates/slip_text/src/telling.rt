@@ -1,4 +1,5 @@
 // What people are told: the slip of a line, what is wrong with one that gives none, and the counts at the end.
+use base::first_of;
 ghost use mathlib.Core.Path.{_≡_};
 ghost use Prim.Native.Nat.{_-_, _≤_};
 ghost use lib.ListN.{length, take};
@@ -240,13 +241,6 @@ pub fn say_remark(out: &mut [u8], number: u64, line: &[u8]) -> usize
     }
 }
 
-fn first_of(s: &[u8], n: usize) -> &[u8]
-    requires { ⌜ n ≤ length (now s) ⌝ }
-    ensures { λ r. ⌜ now r ≡ take n (now (s .entry)) ⌝ }
-{
-    &s[..n]
-}
-
 // The kg before the change is that of feed times 1.
 fn say_slip(out: &mut [u8], ration: Ration, change: Change) -> usize
     ensures { λ r. ⌜ Said (now (out .entry)) (now (out .exit)) 0 (slipText ration change) r ⌝ }
@@ -288,7 +282,7 @@ pub fn counted(counts: Counts, line: &[u8]) -> Counts
         Asked::Wrong(_) => Counts {
             answered: counts.answered,
             refused: counts.refused,
-            unread: text_lines::one_more(counts.unread),
+            unread: base::one_more(counts.unread),
         },
     }
 }
@@ -298,14 +292,14 @@ fn with_slip(counts: Counts, answered: bool) -> Counts
 {
     if answered {
         return Counts {
-            answered: text_lines::one_more(counts.answered),
+            answered: base::one_more(counts.answered),
             refused: counts.refused,
             unread: counts.unread,
         };
     }
     Counts {
         answered: counts.answered,
-        refused: text_lines::one_more(counts.refused),
+        refused: base::one_more(counts.refused),
         unread: counts.unread,
     }
 }

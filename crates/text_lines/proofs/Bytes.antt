@@ -9,9 +9,9 @@ use lib.ListN.{length, getD, take, drop, length-append, length-take, length-drop
 use lib.Seq.{take-all, take-append-le, take-append-add}
 use lib.Dec.{eqb, ltb}
 use borrow.Author.Tests.{lt-ltb, le-ltb, ltb-true, ltb-false, eqb-true}
+use Rattle.base.proofs.Tests.{by-test}
 use Rattle.bytes.specs.Bytes.{indexOf, indexAfter}
 use Rattle.text_lines.specs.Lines.{before, has}
-use Rattle.text_lines.proofs.Steps.{by-test}
 
 -- ---- the index of a byte
 

@@ -7,9 +7,10 @@ use mathlib.Core.Bool.{Bool, true, false, _||_}
 use mathlib.Core.List.{List, [], _∷_, _++_, append-nil, append-assoc}
 use lib.ListN.{length, take, length-append, length-take}
 use lib.Seq.{take-nil}
+use Rattle.base.specs.Choice.{pick}
+use Rattle.base.proofs.Tests.{by-test}
 use Rattle.bytes.specs.Bytes.{indexOf}
-use Rattle.text_lines.specs.Lines.{pick, most, uncommented, has, kept, keepMore, commentAfter}
-use Rattle.text_lines.proofs.Steps.{by-test}
+use Rattle.text_lines.specs.Lines.{most, uncommented, has, kept, keepMore, commentAfter}
 use Rattle.text_lines.proofs.Bytes.{before-all, before-behind, before-within, has-behind, has-within}
 
 -- what is cut off of two texts together

@@ -6,9 +6,10 @@ use mathlib.Core.Bool.{Bool, true, false}
 use mathlib.Core.List.{List, [], _∷_, _++_, append-nil}
 use lib.ListN.{length}
 use lib.Dec.{eqb}
+use Rattle.base.specs.Choice.{pick}
+use Rattle.base.proofs.Tests.{by-test}
 use Rattle.bytes.specs.Bytes.{indexOf}
-use Rattle.text_lines.specs.Lines.{pick, has, onFirst, linesOf}
-use Rattle.text_lines.proofs.Steps.{by-test}
+use Rattle.text_lines.specs.Lines.{has, onFirst, linesOf}
 use Rattle.text_lines.proofs.Bytes.{absent, first-other, rest-others}
 
 -- every text has a first line

@@ -8,11 +8,12 @@ use mathlib.Core.List.{List, [], _∷_, _++_, map, append-nil, append-assoc}
 use lib.ListN.{length, take, drop, length-append, length-take, length-drop}
 use lib.Seq.{take-at, length-take-le}
 use borrow.Author.Tests.{ltb-true}
+use Rattle.base.specs.Choice.{pick, oneMore}
+use Rattle.base.proofs.Tests.{by-test}
 use Rattle.text_lines.specs.declared.Cut.{Cut}
-use Rattle.text_lines.specs.Lines.{pick, linesOf, has, uncommented, most, kept, keepMore, commentAfter, firstCut, oneMore}
+use Rattle.text_lines.specs.Lines.{linesOf, has, uncommented, most, kept, keepMore, commentAfter, firstCut}
 use Rattle.text_lines.specs.Lines.{room, lineIn, added, stored, cuttingOf, cutIn}
 use Rattle.text_lines.specs.Parts.{Numbered, numbered, Cutter, inHand, Found, finishing, cutOnce, nextLine, cutPart, cutAll, together, allFound}
-use Rattle.text_lines.proofs.Steps.{by-test}
 use Rattle.text_lines.proofs.Bytes.{before-all, none-before, cut-at}
 use Rattle.text_lines.proofs.Kept.{keeps-on, keeps-none}
 use Rattle.text_lines.proofs.Pieces.{by-lines, inFront, lines-on, lines-cut}

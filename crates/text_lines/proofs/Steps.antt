@@ -9,9 +9,11 @@ use lib.ListN.{length, getD, take, drop, length-take, length-drop, take-append-d
 use lib.Seq.{take-all, take-length}
 use lib.Dec.{eqb, ltb}
 use borrow.Author.Tests.{lt-ltb, le-ltb, ltb-true, ltb-false}
+use Rattle.base.specs.Choice.{pick}
+use Rattle.base.proofs.Tests.{and-false, by-test}
 use Rattle.bytes.specs.Bytes.{indexOf, slice}
 use Rattle.printing.specs.Decimal.{Put}
-use Rattle.text_lines.specs.Lines.{pick, before, room, stored, cuttingOf, cutIn, isMarked, unmarked}
+use Rattle.text_lines.specs.Lines.{before, room, stored, cuttingOf, cutIn, isMarked, unmarked}
 use Rattle.text_lines.specs.declared.Cut.{Cut}
 
 -- the byte is looked for in all of s
@@ -20,13 +22,6 @@ unfolding slice
 found b s p e = let t : indexOf b (take (length s) s) ≡ indexOf b s = rw take-length in omega arith
 
 -- a part of a slice up to its end
-pub to-end : (s : List ℕ) (a : ℕ) → take (length s - a) (drop a s) ≡ drop a s
-to-end s a = take-all (length s - a) (drop a s) (omega (arith, length-drop a s))
-
-and-false : (b : Bool) → (b && false) ≡ false
-and-false true = refl
-and-false false = refl
-
 pub too-short : (line : List ℕ) → length line < 3 → false ≡ isMarked line
 too-short line h =
     let z : getD line 2 0 ≡ 0 = List·getD-eq-default line 0 (omega arith) in
@@ -58,11 +53,6 @@ module _ (line more : List ℕ) (len : ℕ) {left : ℕ} (e : left ≡ room (len
     kept-behind p =
         let w : take (room (length line) len) more ≡ new = rw (← e) (sym n) in
         rw w (p .next, rw (p .next) at (p .text))
-
--- by cases on a test, with what it tells
-pub by-test : {P : Type 0} (b : Bool) → (b ≡ true → P) → (b ≡ false → P) → P
-by-test true f g = f refl
-by-test false f g = g refl
 
 past-within : (a b : ℕ) → a ≤ b → pick (ltb a b) (a + 1) a ≤ b
 past-within a b h = by-test (ltb a b) (λ t. rw t (omega (arith, ltb-true a b t))) (λ f. rw f h)

@@ -4,14 +4,10 @@ use mathlib.Core.Bool.{Bool, true, false, _&&_, _||_}
 use mathlib.Core.List.{List, [], _∷_, _++_}
 use lib.ListN.{length, getD, take, drop}
 use lib.Dec.{eqb, ltb}
+use Rattle.base.specs.Choice.{pick, oneMore}
 use Rattle.bytes.specs.Bytes.{indexOf}
 use Rattle.text_lines.specs.declared.Cut.{Cut}
 use Rattle.text_lines.specs.declared.Cutting.{Cutting}
-
--- a where the test passes, else b
-abbrev pub pick : {X : Type 0} → Bool → X → X → X
-pick true a b = a
-pick false a b = b
 
 -- ---- a text's lines
 
@@ -67,10 +63,6 @@ unmarked number line = pick (eqb number 1 && isMarked line) (drop 3 line) line
 
 abbrev pub firstCut : Cut
 firstCut = record { number = 1; len = 0; comment = false }
-
--- the numbers end where 64 bits do
-abbrev pub oneMore : ℕ → ℕ
-oneMore number = pick (ltb number 18446744073709551615) (number + 1) number
 
 abbrev pub nextOf : Cut → Cut
 nextOf from = record { number = oneMore (from .number); len = 0; comment = false }

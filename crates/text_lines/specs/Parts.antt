@@ -2,7 +2,8 @@
 use Prim.Native.Nat.{ℕ, zero, suc}
 use mathlib.Core.List.{List, [], _∷_, _++_}
 use lib.ListN.{length, take, drop}
-use Rattle.text_lines.specs.Lines.{pick, oneMore, nextOf, cuttingOf, cutIn}
+use Rattle.base.specs.Choice.{pick, oneMore}
+use Rattle.text_lines.specs.Lines.{nextOf, cuttingOf, cutIn}
 use Rattle.text_lines.specs.declared.Cut.{Cut}
 
 -- a line's number, and what is kept of it

@@ -1,10 +1,13 @@
 // A typed text cut into lines, in parts of any size: what is kept of a line, its number, and where it ends.
+use base::least;
+use base::one_more;
 ghost use mathlib.Core.Path.{_≡_};
 ghost use Prim.Native.Nat.{_+_, _≤_, min};
 ghost use lib.Dec.{ltb};
 ghost use mathlib.Core.List.{[]};
 ghost use lib.ListN.{length, take, drop};
-ghost use Rattle.text_lines.specs.Lines.{pick, before, room, stored, firstCut, oneMore, nextOf, cuttingOf, cutIn, isMarked, unmarked};
+ghost use Rattle.base.specs.Choice.{pick, oneMore};
+ghost use Rattle.text_lines.specs.Lines.{before, room, stored, firstCut, nextOf, cuttingOf, cutIn, isMarked, unmarked};
 
 // Of a line's bytes before its #, 1,024 and the three of a byte order mark are kept.
 pub const MOST: usize = 1027;
@@ -45,24 +48,8 @@ impl Cut {
     }
 }
 
-// The next number: a count stays at u64's last.
-pub fn one_more(number: u64) -> u64
-    ensures { λ r. ⌜ r ≡ oneMore number ⌝ }
-{
-    if number < u64::MAX {
-        return number + 1;
-    }
-    number
-}
-
-fn least(a: usize, b: usize) -> usize
-    ensures { λ r. ⌜ r ≡ min a b ⌝ }
-{
-    if a <= b { a } else { b }
-}
-
 // The first n bytes, or all where there are fewer.
-fn first_of(s: &[u8], n: usize) -> &[u8]
+fn at_most(s: &[u8], n: usize) -> &[u8]
     ensures { λ r. ⌜ now r ≡ take n (now (s .entry)) ⌝ }
 {
     if s.len() <= n {
@@ -72,11 +59,11 @@ fn first_of(s: &[u8], n: usize) -> &[u8]
 }
 
 // What stands behind the first n bytes, or nothing where there are fewer.
-fn rest_of(s: &[u8], n: usize) -> &[u8]
+fn behind(s: &[u8], n: usize) -> &[u8]
     ensures { λ r. ⌜ now r ≡ drop n (now (s .entry)) ⌝ }
 {
     if s.len() <= n {
-        return first_of(s, 0);
+        return at_most(s, 0);
     }
     &s[n..]
 }
@@ -85,7 +72,7 @@ fn rest_of(s: &[u8], n: usize) -> &[u8]
 fn before_byte(s: &[u8], b: u8) -> &[u8]
     ensures { λ r. ⌜ now r ≡ before b (now (s .entry)) ⌝ }
 {
-    first_of(s, bytes::scan::find(s, 0, s.len(), b))
+    at_most(s, bytes::scan::find(s, 0, s.len(), b))
 }
 
 // Nothing of s in a comment.
@@ -93,7 +80,7 @@ fn outside(comment: bool, s: &[u8]) -> &[u8]
     ensures { λ r. ⌜ now r ≡ pick comment [] (now (s .entry)) ⌝ }
 {
     if comment {
-        return first_of(s, 0);
+        return at_most(s, 0);
     }
     s
 }
@@ -118,7 +105,7 @@ fn keep(line: &mut [u8], len: usize, more: &[u8]) -> usize
     if left == 0 {
         return len;
     }
-    printing::put_text(line, len, first_of(more, left))
+    printing::put_text(line, len, at_most(more, left))
 }
 
 // The line feed behind len bytes is taken too.
@@ -166,9 +153,9 @@ pub fn cut_line(line: &mut [u8], from: Cut, part: &[u8]) -> Cutting
 pub fn whole(line: &[u8], cut: Cut) -> &[u8]
     ensures { λ r. ⌜ now r ≡ unmarked (cut .number) (take (cut .len) (now (line .entry))) ⌝ }
 {
-    let all = first_of(line, cut.len);
+    let all = at_most(line, cut.len);
     if (cut.number == 1) & is_marked(all) {
-        return rest_of(all, 3);
+        return behind(all, 3);
     }
     all
 }

@@ -1,4 +1,4 @@
-// Replays trials of the book reader, of the writer and of the slip: cases on standard input, answers on standard output (docs/notes-second.md).
+// Replays trials of the book reader, of the writer and of the slip: cases on standard input, answers on standard output (docs/TRIALS.md).
 mod books;
 mod shown;
 mod slips;

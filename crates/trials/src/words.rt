@@ -1,5 +1,6 @@
 // The words of a trial: hexadecimal numbers and bytes, read from a line. Nothing is promised of them but that reading is safe: what comes of
 // them is compared with the second program's answers.
+use base::least;
 ghost use mathlib.Core.Path.{_≡_};
 ghost use Prim.Native.Nat.{_≤_};
 ghost use lib.ListN.{length};
@@ -88,12 +89,6 @@ pub(crate) fn read_numbers(line: &[u8], at: usize, into: &mut [u64]) -> usize {
         k += 1;
     }
     next
-}
-
-fn least(a: usize, b: usize) -> usize
-    ensures { λ r. ⌜ (r ≤ a) × (r ≤ b) ⌝ }
-{
-    if a < b { a } else { b }
 }
 
 pub(crate) fn read_bytes(line: &[u8], at: usize, into: &mut [u8]) -> Bytes

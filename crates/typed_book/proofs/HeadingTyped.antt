@@ -9,12 +9,13 @@ use mathlib.Core.Logic.{_⊎_, inl, inr, ⊎-elim}
 use borrow.Author.Tests.{eq-eqb, ne-eqb, eqb-true, eqb-false, leb-true, not-true, not-false, ltb-false, le-ltb, lt-ltb}
 use lib.ListN.{length, getD}
 use lib.Dec.{eqb, leb, ltb}
-use Rattle.codec.specs.Codec.{pick, recordBytes}
+use Rattle.base.specs.Choice.{pick, oneMore}
+use Rattle.base.proofs.Tests.{and-l, and-r, of-choice, or-l, or-r}
+use Rattle.codec.specs.Codec.{recordBytes}
 use Rattle.account.specs.declared.Account.{Account}
 use Rattle.account.specs.Judge.{Step, headingServes, inPlace, accepted, weigh}
 use Rattle.account.specs.Sorts.{sortOf}
 use Rattle.account.proofs.Sorts.{by-sort, heads-two}
-use Rattle.account.proofs.Tests.{by-test, and-l, and-r, or-l, or-r}
 use Rattle.account.specs.declared.Refusal.{Refusal}
 use Rattle.account.specs.Judge.{noRecord}
 use Rattle.account.proofs.Keeps.{clear, in-range-none}
@@ -30,7 +31,6 @@ use Rattle.typed_line.specs.declared.Entry.{Entry}
 use Rattle.typed_line.specs.declared.Said.{Said}
 use Rattle.typed_line.specs.declared.Said.the-variants as said
 use Rattle.typed_line.specs.Line.{lineOf, entry, completedOf, valuesIn, writeEntry}
-use Rattle.text_lines.specs.Lines.{oneMore}
 use Rattle.text_lines.specs.Parts.{Numbered, numbered}
 use Rattle.typed_book.specs.declared.Typist.{Typist}
 use Rattle.typed_book.specs.declared.Fate.{Fate}
@@ -107,7 +107,7 @@ three s k v room r early c g =
 completed-kind : (e : Entry) (records : ℕ) → completedOf e records .kind ≡ e .kind
 unfolding completedOf
 completed-kind e records =
-    by-test (λ (d : Entry). d .kind ≡ e .kind) (eqb (e .kind) 8 && eqb (e .count) 0) (λ t. sym (eqb-true (e .kind) 8 (and-l (eqb (e .kind) 8) (eqb (e .count) 0) t))) (λ f. refl)
+    of-choice (λ (d : Entry). d .kind ≡ e .kind) (eqb (e .kind) 8 && eqb (e .count) 0) (λ t. sym (eqb-true (e .kind) 8 (and-l (eqb (e .kind) 8) (eqb (e .count) 0) t))) (λ f. refl)
 
 heading-complete : (e : Entry) (records : ℕ) → e .kind ≡ 2 → completedOf e records ≡ e
 unfolding completedOf
@@ -213,8 +213,8 @@ module _ (m : Mark) (h : List ℕ) (t : Typist) (k : Kept m h t) (e : Entry) whe
   record-keeps : (n : ℕ) → 1 ≤ n → Keeps m h e (recordTurn t n e 28)
   unfolding recordTurn
   record-keeps n l =
-      by-test (Keeps m h e) (withheld t e) (λ g. withheld-keeps g _ refl refl)
-      (λ _. by-test (Keeps m h e) (headless t e) (λ g. headless-keeps g _ refl refl) (λ _. judged-keeps n l))
+      of-choice (Keeps m h e) (withheld t e) (λ g. withheld-keeps g _ refl refl)
+      (λ _. of-choice (Keeps m h e) (headless t e) (λ g. headless-keeps g _ refl refl) (λ _. judged-keeps n l))
 
 -- ---- a line
 
@@ -237,7 +237,7 @@ line-keeps m h t k l p = said-keeps m h t k (l .number) p (lineOf (textOf l) .sa
 -- ---- all lines
 
 one-more : (n : ℕ) → 1 ≤ n → 1 ≤ oneMore n
-one-more n h = by-test (λ (x : ℕ). 1 ≤ x) (ltb n 18446744073709551615) (λ _. omega arith) (λ _. h)
+one-more n h = of-choice (λ (x : ℕ). 1 ≤ x) (ltb n 18446744073709551615) (λ _. omega arith) (λ _. h)
 
 pub lines-keep : (lines : List (List ℕ)) (n : ℕ) → 1 ≤ n → (m : Mark) (h : List ℕ) (t : Typist) → Kept m h t
     → Kept (lastMark m (numbered n lines)) (lastHeading h (typedBy t (numbered n lines) .turns)) (typedBy t (numbered n lines) .typist)
@@ -264,8 +264,8 @@ written-kind f k p j q = cc
 record-judged : (t : Typist) (n : ℕ) (e : Entry) (k : ℕ) → recordTurn t n e 28 .fate ≡ Wrote k → Judged t k
 unfolding recordTurn
 record-judged t n e k =
-    by-test (λ (x : Turn). x .fate ≡ Wrote k → Judged t k) (withheld t e) (λ _ q. absurd (let z : _≡_ {A = ℕ} 0 1 = cc in omega arith))
-    (λ _. by-test (λ (x : Turn). x .fate ≡ Wrote k → Judged t k) (headless t e) (λ _ q. absurd (let z : _≡_ {A = ℕ} 0 1 = cc in omega arith))
+    of-choice (λ (x : Turn). x .fate ≡ Wrote k → Judged t k) (withheld t e) (λ _ q. absurd (let z : _≡_ {A = ℕ} 0 1 = cc in omega arith))
+    (λ _. of-choice (λ (x : Turn). x .fate ≡ Wrote k → Judged t k) (headless t e) (λ _ q. absurd (let z : _≡_ {A = ℕ} 0 1 = cc in omega arith))
     (λ g. go g (writeEntry (t .state) e 28 .answer) refl))
   where
     go : headless t e ≡ false → (a : Answer) → writeEntry (t .state) e 28 .answer ≡ a

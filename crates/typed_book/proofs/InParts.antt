@@ -5,8 +5,8 @@ use mathlib.Core.Path.{_≡_, refl, sym, ap, _∙_}
 use mathlib.Core.List.{List, [], _∷_, _++_, append-assoc, append-nil, map}
 use mathlib.Core.Bool.{Bool, true, false}
 use lib.ListN.{length, drop}
-use Rattle.codec.specs.Codec.{pick}
-use Rattle.account.proofs.Tests.{by-test}
+use Rattle.base.specs.Choice.{pick}
+use Rattle.base.proofs.Tests.{of-choice}
 use Rattle.text_lines.specs.Lines.{most, kept, linesOf, firstCut, cuttingOf, cutIn, unmarked}
 use Rattle.text_lines.specs.Parts.{Numbered, Cutter, Found, inHand, finishing, cutOnce, nextLine, cutPart, cutAll, together, allFound, numbered}
 use Rattle.text_lines.proofs.SameLines.{same-lines}

@@ -4,7 +4,8 @@ use Prim.Native.Nat.{ℕ}
 use mathlib.Core.Path.{_≡_}
 use mathlib.Core.List.{List, [], _∷_}
 use lib.Dec.{eqb}
-use Rattle.codec.specs.Codec.{pick, recordBytes}
+use Rattle.base.specs.Choice.{pick}
+use Rattle.codec.specs.Codec.{recordBytes}
 use Rattle.text_lines.specs.Lines.{unmarked}
 use Rattle.text_lines.specs.Parts.{Numbered}
 use Rattle.typed_line.specs.declared.Entry.{Entry}

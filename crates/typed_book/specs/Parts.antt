@@ -2,7 +2,7 @@
 use Prim.Native.Nat.{ℕ, zero, suc}
 use mathlib.Core.List.{List, [], _∷_, _++_}
 use lib.ListN.{length, take, drop}
-use Rattle.codec.specs.Codec.{pick}
+use Rattle.base.specs.Choice.{pick}
 use Rattle.text_lines.specs.declared.Cut.{Cut}
 use Rattle.text_lines.specs.declared.Cutting.{Cutting}
 use Rattle.text_lines.specs.Lines.{nextOf, cuttingOf, cutIn, unmarked}

@@ -4,10 +4,10 @@ use mathlib.Core.Bool.{Bool, true, false, _&&_, _||_}
 use mathlib.Core.List.{List, [], _++_}
 use lib.ListN.{length}
 use lib.Dec.{eqb, leb, ltb}
+use Rattle.base.specs.Choice.{pick}
 use Rattle.printing.specs.Ascii.{ascii}
 use Rattle.printing.specs.Decimal.{decimal}
 use Rattle.typed_words.specs.Words.{nthWord}
-use Rattle.codec.specs.Codec.{pick}
 use Rattle.codec.specs.Table.{fields}
 use Rattle.names.specs.Names.{kindName, fieldName, fieldNames, expected, className, sentence, shown}
 use Rattle.account.specs.declared.Account.{Account}

@@ -7,7 +7,7 @@ use mathlib.Core.Bool.{Bool, _&&_, _||_, not}
 use mathlib.Core.List.{List, [], _∷_, _++_}
 use lib.ListN.{length, getD, drop}
 use lib.Dec.{eqb, leb, ltb}
-use Rattle.codec.specs.Codec.{pick}
+use Rattle.base.specs.Choice.{pick, oneMore}
 use Rattle.account.specs.declared.Refusal.{Refusal}
 use Rattle.book.specs.declared.State.{State}
 use Rattle.make_record.specs.declared.Answer.{Answer}
@@ -38,10 +38,6 @@ mayHead k = eqb k 2 || (ltb k 1 || ltb 8 k)
 -- before the first line, after the records of the state
 abbrev pub beginning : State → Typist
 beginning s = record { state = s; year = 0; lost = 0; failed = 0; written = 0; refused = 0; unread = 0; without = 0; told = 0 }
-
--- one more; a count that is full stays
-abbrev pub oneMore : ℕ → ℕ
-oneMore n = pick (ltb n 18446744073709551615) (suc n) n
 
 -- the first line that failed
 abbrev pub firstFailed : ℕ → ℕ → ℕ

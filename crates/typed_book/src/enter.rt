@@ -2,6 +2,7 @@
 use crate::Entered;
 use crate::Fate;
 use crate::Typist;
+use base::one_more;
 use book::State;
 use make_record::Answer;
 use make_record::Written;
@@ -10,15 +11,9 @@ use typed_line::Said;
 ghost use mathlib.Core.Path.{_≡_};
 ghost use Prim.Native.Nat.{_≤_};
 ghost use lib.ListN.{length};
-ghost use Rattle.codec.specs.Codec.{pick};
+ghost use Rattle.base.specs.Choice.{pick, oneMore};
 ghost use Rattle.typed_line.specs.Line.{writeEntry};
-ghost use Rattle.typed_book.specs.Typist.{inGroup, mayHead, oneMore, firstFailed, notRead, withholding, unheaded, refusedAt, daysOfYear, writtenAs, withheld, headless, recordTurn, turn, enteredOf, enteredBy, laid};
-
-fn one_more(n: u64) -> u64
-    ensures { λ r. ⌜ r ≡ oneMore n ⌝ }
-{
-    if n < u64::MAX { n + 1 } else { n }
-}
+ghost use Rattle.typed_book.specs.Typist.{inGroup, mayHead, firstFailed, notRead, withholding, unheaded, refusedAt, daysOfYear, writtenAs, withheld, headless, recordTurn, turn, enteredOf, enteredBy, laid};
 
 fn chosen(first: bool, a: u64, b: u64) -> u64
     ensures { λ r. ⌜ r ≡ pick first a b ⌝ }

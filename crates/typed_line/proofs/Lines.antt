@@ -11,8 +11,8 @@ use borrow.Author.Tests.{eq-eqb, ne-eqb, lt-ltb, le-ltb, lt-leb, le-leb}
 use lib.ListN.{length, take, set, replicate, length-append}
 use lib.Seq.{take-all, take-append-le, set-at, append-snoc}
 use lib.Dec.{eqb, ltb}
-use Rattle.account.proofs.Tests.{lt-or-ge}
-use Rattle.codec.specs.Codec.{pick}
+use Rattle.base.specs.Choice.{pick}
+use Rattle.base.proofs.Tests.{lt-or-ge}
 use Rattle.typed_words.specs.declared.Whole.{Whole}
 use Rattle.typed_words.specs.Words.{nthWord, sameText, lowered}
 use Rattle.typed_words.specs.Amounts.{amountOf}

@@ -5,7 +5,7 @@ use mathlib.Core.Bool.{true, _&&_}
 use mathlib.Core.List.{List, [], _∷_, _++_}
 use lib.ListN.{length, take, replicate}
 use lib.Dec.{eqb, leb}
-use Rattle.codec.specs.Codec.{pick}
+use Rattle.base.specs.Choice.{pick}
 use Rattle.printing.specs.Ascii.{ascii}
 use Rattle.typed_words.specs.declared.Whole.{Whole}
 use Rattle.typed_words.specs.Words.{nthWord, sameText, lowered}

@@ -30,9 +30,6 @@ unfolding leadingOf
 at-end blanks s i h = rw (drop-of-length-le s h)
 
 -- a part of a slice up to its end
-pub to-end : (s : List ℕ) (a : ℕ) → take (length s - a) (drop a s) ≡ drop a s
-to-end s a = take-all (length s - a) (drop a s) (omega (arith, length-drop a s))
-
 pub no-others : (n : ℕ) (s : List ℕ) → n ≡ 0 → nthWord n s ≡ firstWord s
 unfolding nthWord
 no-others n s e = rw e

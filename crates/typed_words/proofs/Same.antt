@@ -9,11 +9,8 @@ use lib.ListN.{length, getD, drop, drop-of-length-le}
 use lib.Seq.{drop-cons}
 use lib.Dec.{eqb}
 use borrow.Author.Tests.{eq-eqb, ne-eqb}
+use Rattle.base.proofs.Tests.{and-false}
 use Rattle.typed_words.specs.Words.{sameText}
-
-and-false : (b : Bool) → (b && false) ≡ false
-and-false true = refl
-and-false false = refl
 
 pub other-length : (a b : List ℕ) → (length a ≡ length b → ⊥) → sameText a b ≡ false
 unfolding sameText

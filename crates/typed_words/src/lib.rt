@@ -1,4 +1,6 @@
 // What a person types: the words of a line, names, whole numbers, decimals as their nearest doubles, and numbers with a field's decimals.
+use base::first_of;
+use base::rest_of;
 ghost use mathlib.Core.Path.{_≡_};
 ghost use Prim.Native.Nat.{_+_, _^_, _≤_, _<_};
 ghost use lib.ListN.{length, take, drop, replicate};
@@ -39,20 +41,6 @@ fn leading(s: &[u8], blanks: bool) -> usize
         i += 1;
     }
     i
-}
-
-fn first_of(s: &[u8], n: usize) -> &[u8]
-    requires { ⌜ n ≤ length (now s) ⌝ }
-    ensures { λ r. ⌜ now r ≡ take n (now (s .entry)) ⌝ }
-{
-    &s[..n]
-}
-
-fn rest_of(s: &[u8], n: usize) -> &[u8]
-    requires { ⌜ n ≤ length (now s) ⌝ }
-    ensures { λ r. ⌜ now r ≡ drop n (now (s .entry)) ⌝ }
-{
-    &s[n..]
 }
 
 fn past_blanks(s: &[u8]) -> &[u8]

@@ -12,4 +12,4 @@ before-byte-spec =
     (λ c κs. search needs)
     (λ c.
     let a = c .before .before .before .args in
-    rw (c .first-of .ensures, found (a .b) (a .s .now) _ (c .before .find .ensures .0))))
+    rw (c .at-most .ensures, found (a .b) (a .s .now) _ (c .before .find .ensures .0))))

@@ -17,10 +17,10 @@ keep-spec =
     (λ c κs.
     let r = c .before .before .before in
     let a = r .before .before .before .args in
-    room-fits (a .line .now) (a .more .now) (a .len) (r .room-for .ensures) (c .first-of .ensures) (c .before .before .if1 .left))
+    room-fits (a .line .now) (a .more .now) (a .len) (r .room-for .ensures) (c .at-most .ensures) (c .before .before .if1 .left))
     (λ c. search needs)
     (λ c.
     let r = c .before .before .before .before .before .before in
     let a = r .before .before .before .args in
-    kept-behind (a .line .now) (a .more .now) (a .len) (r .room-for .ensures) (c .before .before .before .first-of .ensures)
+    kept-behind (a .line .now) (a .more .now) (a .len) (r .room-for .ensures) (c .before .before .before .at-most .ensures)
     (c .before .before .put-text .ensures)))

@@ -14,8 +14,8 @@ whole-spec =
     (λ c.
     let all = c .before .before .before .before in
     mark-dropped (all .before .before .args .cut .number) (all .before .before .args .line .now) (all .before .before .args .cut .len)
-    (all .first-of .ensures) (c .before .before .is-marked .ensures) (c .before .if1 .taken) (c .rest-of .ensures))
+    (all .at-most .ensures) (c .before .before .is-marked .ensures) (c .before .if1 .taken) (c .behind .ensures))
     (λ c.
     let all = c .before .before .before in
     as-it-is (all .before .before .args .cut .number) (all .before .before .args .line .now) (all .before .before .args .cut .len)
-    (all .first-of .ensures) (c .before .is-marked .ensures) (c .if1 .left)))
+    (all .at-most .ensures) (c .before .is-marked .ensures) (c .if1 .left)))

@@ -7,7 +7,7 @@ use Rattle.typed_words.proofs.part.Reads as part
 use Rattle.typed_words.proofs.part.Kinds as part-kinds
 use Rattle.typed_words.proofs.+part.Lts-part as part-lts
 use Rattle.typed_words.proofs.behind_point.Reads as behind-point-reads
-use Rattle.typed_words.proofs.first_of.Reads as first-of-reads
+use Rattle.base.proofs.first_of.Reads as first-of-reads
 use Rattle.typed_words.proofs.index_of.Reads as index-of-reads
 use Rattle.typed_words.proofs.+part.{statement}
 use Rattle.typed_words.proofs.+part.Tie.{close}

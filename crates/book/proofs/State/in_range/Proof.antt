@@ -3,7 +3,7 @@ use native.Mathlib.Omega.{arith}
 use borrow.Author.Needs.{needs}
 use borrow.Author.Tests.{le-leb}
 use lib.ListN.{length}
-use Rattle.account.proofs.Tests.{not-true, not-false}
+use Rattle.base.proofs.Tests.{not-false, not-true}
 use Rattle.book.specs.Front.{front}
 use Rattle.book.specs.State.{heldOf, inRange}
 use Rattle.book.proofs.FrontLaws.{code-some, code-unfinished}

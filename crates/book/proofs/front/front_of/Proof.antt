@@ -2,7 +2,7 @@ use Prim.Native.Nat.{_≤_}
 use borrow.Author.Needs.{needs}
 use borrow.Author.Tests.{ltb-false, lt-ltb, le-ltb}
 use lib.Dec.{ltb}
-use Rattle.book.proofs.Choices.{neither}
+use Rattle.base.proofs.Tests.{neither}
 use Rattle.book.proofs.FrontLaws.{front-take}
 use Rattle.book.proofs.front.front_of.Statement.{statement}
 use Rattle.book.proofs.front.front_of.Tie as tie

@@ -6,8 +6,8 @@ use native.Mathlib.Omega.{arith}
 use borrow.Author.Tests.{eqb-false, eq-eqb, ne-eqb}
 use lib.ListN.{getD, take}
 use lib.Dec.{leb, eqb}
+use Rattle.base.proofs.Tests.{or-l, or-r}
 use Rattle.account.specs.Judge.{WholeRecord, kindOf}
-use Rattle.account.proofs.Tests.{or-l, or-r}
 use Rattle.book.proofs.RecordLaws.{record-in, record-whole}
 use Rattle.salvaging.specs.Salvage.{droppedBy, ends}
 use Rattle.salvaging.proofs.TurnLaws.{told-account, code-told, close-ends, other-goes, next-is, ends-at, ends-before, goes-on}
