@@ -27,14 +27,16 @@ use Rattle.account.proofs.Sorts.{by-sort, not-of-group, kind-most}
 use Rattle.account.proofs.Keeps.{in-range-judge}
 use Rattle.book.specs.declared.State.{State}
 use Rattle.book.specs.Front.{Front, unfinished, badLength, whole, need, front}
+use Rattle.book.specs.WholeRecords.{recordsOf}
 use Rattle.book.specs.State.{heldOf, noRecordYet, InRange}
 use Rattle.book.specs.Run.{Run, book, run}
 use Rattle.book.proofs.FrontLaws.{meaning}
+use Rattle.book.proofs.WholeRecordLaws.{records-whole}
 use Rattle.promises.proofs.StaysInRange.{new-in-range}
 use Rattle.book.proofs.RunLaws.{book-ended, book-unfinished, book-bad, book-whole}
-use Rattle.promises.specs.Headings.{Mark, markOf, recordsOf}
+use Rattle.promises.specs.Headings.{Mark, markOf}
 use Rattle.promises.specs.Subtotals.{detailOf, headingAfter, groupAfter, farmAfter, Group, groupUnder, ends, groupsOf, farmOf, addedUp, lineOfGroup, subtotalLines}
-use Rattle.promises.proofs.Headings.{line-mark, total-mark, group-most, records-whole, kind-in, acceptedRecords}
+use Rattle.promises.proofs.Headings.{line-mark, total-mark, group-most, kind-in, acceptedRecords}
 
 -- ---- lines of kind 16
 

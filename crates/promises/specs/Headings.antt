@@ -1,30 +1,13 @@
 -- Document 01, rule 3: "Every ration and manure line bears the last group heading before it." Said over the records that the bytes make:
 -- there is no state, no call and no line buffer in it.
 -- Assumes nothing.
-use Prim.Native.Nat.{ℕ, zero, suc}
+use Prim.Native.Nat.{ℕ}
 use mathlib.Core.List.{List, [], _∷_, _++_}
-use lib.ListN.{length, take, drop}
 use lib.Dec.{eqb}
 use Rattle.base.specs.Choice.{pick}
 use Rattle.codec.specs.Codec.{valAt}
 use Rattle.account.specs.Sorts.{sortOf, bySort}
 use Rattle.account.specs.Judge.{kindOf}
-use Rattle.book.specs.Front.{Front, unfinished, badLength, whole, need, front}
-
--- a whole record at the front of xs, and then others
-abbrev pub beginsWith : Front → List ℕ → List (List ℕ) → List (List ℕ)
-beginsWith unfinished xs others = []
-beginsWith badLength xs others = []
-beginsWith whole xs others = take (need xs) xs ∷ others
-
--- at most n records of xs
-unfoldable pub recordsBy : ℕ → List ℕ → List (List ℕ)
-recordsBy zero xs = []
-recordsBy (suc n) xs = beginsWith (front xs) xs (recordsBy n (drop (need xs) xs))
-
--- the whole records of xs, one after the other, up to an unfinished one or a length that no record has
-unfoldable pub recordsOf : List ℕ → List (List ℕ)
-recordsOf xs = recordsBy (suc (length xs)) xs
 
 -- the group after the record r, g being the one before it: a heading brings its own
 abbrev pub groupBy : ℕ → List ℕ → ℕ

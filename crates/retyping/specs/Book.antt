@@ -17,7 +17,7 @@ use Rattle.book.specs.declared.State.{State}
 use Rattle.book.specs.Front.{Front, unfinished, badLength, whole, need, front}
 use Rattle.book.specs.State.{inRange}
 use Rattle.book.specs.Call.{Call, call}
-use Rattle.promises.specs.Headings.{recordsOf}
+use Rattle.book.specs.WholeRecords.{recordsOf}
 use Rattle.retyping.specs.declared.Retyped.{Retyped}
 use Rattle.retyping.specs.Typed.{lineTyped}
 
