@@ -17,6 +17,7 @@ use Rattle.codec.specs.Codec.{valAt, valuesAt, firstBad}
 use Rattle.codec.proofs.Round.{line-length, total-length}
 use Rattle.codec.proofs.Within.{bad-position}
 use Rattle.grams.proofs.Small.{enteric-small, cattle-excreted-small, cattle-n2o-small, pig-ch4-small, pig-n2o-small, pig-excreted-small, pig-land-small, energy-small, soil-small}
+use Rattle.grams.proofs.Carbon.{within-none}
 use Rattle.account.specs.declared.Account.{Account}
 use Rattle.account.specs.declared.Days.{Days}
 use Rattle.account.specs.declared.Figures.{Figures}
@@ -270,7 +271,7 @@ module _ (a : Account) (f : AccountInRange a) (early : a .stage < 2) where
       detail-cattle c =
           let i = cattle-in v (a .heading .head) (head-most a f) (c .passes .ranges) in
           let h = headed-by (leb-true _ _ (and-l _ _ (and-l _ _ (c .passes .place)))) in
-          in-range-grouped _ _ (record { ch4 = omega arith; n2o = cattle-n2o-small i; co2 = omega arith; excreted = cattle-excreted-small i; land = omega arith })
+          in-range-grouped _ _ (record { ch4 = omega arith; n2o = cattle-n2o-small i; co2 = within-none 1; excreted = cattle-excreted-small i; land = omega arith })
           (headed-on h _ (h .enteric-most) (ltb-false _ _ (c .days)) (h .pig-most))
 
       detail-pig : Clear a 5 v → Kept (accepted a 5 v)
@@ -279,7 +280,7 @@ module _ (a : Account) (f : AccountInRange a) (early : a .stage < 2) where
           let i = pig-in v (a .heading .head) (head-most a f) (c .passes .ranges) (ltb-false _ _ (c .parts)) in
           let four : a .heading .class ≡ 4 = eqb-true _ _ (and-l _ _ (c .passes .place)) in
           let h = headed-by (omega arith) in
-          in-range-grouped _ _ (record { ch4 = pig-ch4-small i; n2o = pig-n2o-small i; co2 = omega arith; excreted = pig-excreted-small i; land = pig-land-small i })
+          in-range-grouped _ _ (record { ch4 = pig-ch4-small i; n2o = pig-n2o-small i; co2 = within-none 1; excreted = pig-excreted-small i; land = pig-land-small i })
           (headed-on h _ (h .enteric-most) (h .nitrogen-most) (ltb-false _ _ (c .days)))
 
       detail-energy : Clear a 6 v → Kept (accepted a 6 v)

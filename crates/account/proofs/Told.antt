@@ -16,12 +16,15 @@ use Rattle.codec.specs.Codec.{valAt, valuesAt, firstBad, lineBytes, totalBytes}
 use Rattle.codec.proofs.Round.{line-length, total-length}
 use Rattle.grams.specs.Cattle.{belowZero, manureOf, CattleSmall, Nitrogen}
 use Rattle.grams.specs.Pig.{Manure}
+use Rattle.grams.specs.Units.{noCo2, Co2Within}
+use Rattle.grams.specs.declared.units.Co2.{Co2}
 use Rattle.grams.specs.declared.cattle.CattleRation.{CattleRation}
 use Rattle.grams.specs.declared.cattle.CattleManure.{CattleManure}
 use Rattle.grams.specs.declared.cattle.CattleNitrogen.{CattleNitrogen}
 use Rattle.grams.specs.declared.cattle.CattleNitrogen.the-variants.{BelowZero, Given}
 use Rattle.grams.specs.declared.pig.PigRation.{PigRation}
 use Rattle.grams.specs.declared.pig.PigManure.{PigManure}
+use Rattle.grams.proofs.Carbon.{within-none}
 use Rattle.account.specs.declared.Account.{Account}
 use Rattle.account.specs.declared.Days.{Days}
 use Rattle.account.specs.declared.Figures.{Figures}
@@ -61,14 +64,14 @@ subtotal-most a f = grouped-more (f .counted .records-most) (f .grouped)
 -- ---- figures of one line
 
 pub small-ch4 : (f : Figures) (g : ℕ) → f ≡ ch4Alone g → g ≤ 10 ^ 11 → Small f
-small-ch4 f g e h = rw e (record { ch4 = h; n2o = omega arith; co2 = omega arith; excreted = omega arith; land = omega arith })
+small-ch4 f g e h = rw e (record { ch4 = h; n2o = omega arith; co2 = within-none 1; excreted = omega arith; land = omega arith })
 
-pub small-co2 : (f : Figures) (g : ℕ) → f ≡ co2Alone g → g ≤ 10 ^ 13 → Small f
+pub small-co2 : (f : Figures) (g : Co2) → f ≡ co2Alone g → Co2Within 1 g → Small f
 small-co2 f g e h = rw e (record { ch4 = omega arith; n2o = omega arith; co2 = h; excreted = omega arith; land = omega arith })
 
 pub small-pig : (f : Figures) (p : PigRation) (head : ℕ) (m : PigManure) → f ≡ pigFigures m → Manure p head m → Small f
 small-pig f p head m e s =
-    rw e (record { ch4 = s .ch4-small; n2o = s .n2o-small; co2 = omega arith; excreted = s .excreted-small; land = s .land-small })
+    rw e (record { ch4 = s .ch4-small; n2o = s .n2o-small; co2 = within-none 1; excreted = s .excreted-small; land = s .land-small })
 
 -- what the nitrogen of a cattle ration is, by its answer
 module _ (r : CattleRation) (head : ℕ) (n : CattleNitrogen) (w : Nitrogen r head n) where
@@ -93,7 +96,7 @@ module _ (r : CattleRation) (head : ℕ) (n : CattleNitrogen) (w : Nitrogen r he
     pub small-cattle : (f : Figures) → f ≡ cattleFigures m → Small f
     small-cattle f q =
         let s : CattleSmall (Given m) = rw e at (w .small) in
-        rw q (record { ch4 = omega arith; n2o = s .1; co2 = omega arith; excreted = s .0; land = omega arith })
+        rw q (record { ch4 = omega arith; n2o = s .1; co2 = within-none 1; excreted = s .0; land = omega arith })
 
 -- ---- answers without a line, with a detail's, with the close's
 
@@ -124,7 +127,7 @@ tells-heading a group class head = go (eqb (a .heading .group) 0)
         → Tells (step (underHeading a group class head) (pick b [] (lineWith 16 (a .heading .group) (groupFigures (a .subtotal)) ∷ [])))
         (record {
           account = underHeading a group class head;
-          line = pick b noLine (record { given = 46; kind = 16; group = a .heading .group; figures = groupFigures (a .subtotal); co2e = 0 });
+          line = pick b noLine (record { given = 46; kind = 16; group = a .heading .group; figures = groupFigures (a .subtotal); co2e = noCo2 });
         })
     go true = record { account = refl; bytes = refl; long = refl; short = omega arith }
     go false = record { account = refl; bytes = sym (append-nil _); long = line-length _ _ _ _ _ _ _; short = omega arith }
