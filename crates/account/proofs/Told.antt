@@ -33,7 +33,7 @@ use Rattle.account.specs.declared.Judged.{Judged}
 use Rattle.account.specs.Figures.{groupFigures, cattleRation, ch4Alone, co2Alone, cattleFigures, pigFigures}
 use Rattle.account.specs.Line.{joined, bytesOf, lineWith, co2eIn, subtotals, totalOf}
 use Rattle.account.specs.Range.{Headed, Unheaded, Bounded, Grouped, AccountInRange}
-use Rattle.account.specs.Judge.{versionOf, kindOf, judge, first, inPlace, daysOver, partsWrong, valueRefusals, refused, underHeading, withDetail, closed, Step, accepted, decided, weigh}
+use Rattle.account.specs.Judge.{versionOf, kindOf, judge, first, inPlace, notRising, daysOver, partsWrong, feedBelow, wrongCount, valueRefusals, refused, underHeading, withDetail, closed, Step, accepted, decided, weigh}
 use Rattle.account.specs.Told.{Tells, TellsIn, inRoom, Kind, Small, noLine, quiet, refusing, detailing, heading, closing}
 use Rattle.account.proofs.Sums.{bounded-more, grouped-more}
 use Rattle.account.proofs.First.{three-clear, three-first}
@@ -197,12 +197,7 @@ module _ {room : ℕ} {a : Account} {s : Step} {r : Judged} (t : TellsIn room a 
 -- the refusals from 8 on
 abbrev pub laterRefusals : Account → ℕ → List ℕ → List (Bool × ℕ)
 laterRefusals a k v =
-    (eqb k 2 && leb (getD v 0 0) (a .heading .group), 8)
-    ∷ (daysOver (a .days) k v, 9)
-    ∷ (partsWrong k v, 10)
-    ∷ (eqb k 4 && belowZero (cattleRation v), 11)
-    ∷ (eqb k 8 && not (eqb (getD v 0 0) (a .records)), 12)
-    ∷ []
+    (notRising a k v, 8) ∷ (daysOver (a .days) k v, 9) ∷ (partsWrong k v, 10) ∷ (feedBelow k v, 11) ∷ (wrongCount a k v, 12) ∷ []
 
 -- what values that 5, 6 and 7 let through have
 pub record Passes (a : Account) (k : ℕ) (v : List ℕ) : Type 0 where
