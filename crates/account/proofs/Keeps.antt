@@ -16,8 +16,8 @@ use Rattle.codec.specs.Table.{table, fields}
 use Rattle.codec.specs.Codec.{valAt, valuesAt, firstBad}
 use Rattle.codec.proofs.Round.{line-length, total-length}
 use Rattle.codec.proofs.Within.{bad-position}
-use Rattle.grams.proofs.Small.{enteric-small, cattle-excreted-small, cattle-n2o-small, pig-ch4-small, pig-n2o-small, pig-excreted-small, pig-land-small, energy-small, soil-small}
-use Rattle.grams.proofs.Carbon.{within-none}
+use Rattle.grams.proofs.Small.{enteric-small, cattle-excreted-small, cattle-n2o-small, pig-ch4-small, pig-n2o-small, pig-excreted-small}
+use Rattle.grams.proofs.Small.{pig-land-small, energy-small, soil-small}
 use Rattle.account.specs.declared.Account.{Account}
 use Rattle.account.specs.declared.Days.{Days}
 use Rattle.account.specs.declared.Figures.{Figures}
@@ -26,13 +26,15 @@ use Rattle.account.specs.Sorts.{sortOf}
 use Rattle.account.specs.Figures.{figuresOf, grouped, groupFigures}
 use Rattle.account.specs.Line.{joined, lineWith, lineOf, subtotals, totalOf}
 use Rattle.account.specs.Range.{Headed, Unheaded, Grouped, Ungrouped, Unrefused, AccountInRange}
-use Rattle.account.specs.Judge.{kindOf, valuesOf, noRecord, refused, opened, underHeading, withDetail, closed, headingServes, inPlace, refusals, first, ValuesPass, Step, accepted, decided, weigh, judge}
+use Rattle.account.specs.Judge.{kindOf, valuesOf, noRecord, refused, opened, underHeading, withDetail, closed, headingServes, inPlace, refusals}
+use Rattle.account.specs.Judge.{first, ValuesPass, Step, accepted, decided, weigh, judge}
 use Rattle.account.specs.Told.{Small}
 use Rattle.account.proofs.Sorts.{by-sort, each-kind}
-use Rattle.account.proofs.Sums.{bounded-none, bounded-next, bounded-added, grouped-none, ungrouped-none, grouped-next, grouped-added}
+use Rattle.account.proofs.Sums.{ch4-small, co2-small, cattle-small, pig-small, bounded-none, bounded-next, bounded-added, grouped-none}
+use Rattle.account.proofs.Sums.{ungrouped-none, grouped-next, grouped-added}
 use Rattle.account.proofs.Refusals.{passed, not-refused, refused-by, number-most}
 use Rattle.account.proofs.Ranges.{FarmIn, farm-in, HeadingIn, heading-in, enteric-in, cattle-in, pig-in, energy-in, soil-in}
-use Rattle.account.proofs.Told.{head-most, small-ch4, small-co2, both-long}
+use Rattle.account.proofs.Told.{head-most, both-long}
 
 -- ---- an account in range
 
@@ -214,7 +216,7 @@ module _ (a : Account) (f : AccountInRange a) (early : a .stage < 2) where
       detail-enteric c =
           let i = enteric-in v (a .heading .head) (head-most a f) (passed a 3 v c .ranges) in
           let h = headed-by (leb-true _ _ (and-l _ _ (and-l _ _ (passed a 3 v c .place)))) in
-          in-range-grouped _ _ (small-ch4 _ _ refl (enteric-small i))
+          in-range-grouped _ _ (ch4-small _ (enteric-small i))
           (headed-on h _ (ltb-false _ _ (c .days)) (h .nitrogen-most) (h .pig-most))
 
       detail-cattle : ValuesPass a 4 v → Kept (accepted a 4 v)
@@ -222,7 +224,7 @@ module _ (a : Account) (f : AccountInRange a) (early : a .stage < 2) where
       detail-cattle c =
           let i = cattle-in v (a .heading .head) (head-most a f) (passed a 4 v c .ranges) in
           let h = headed-by (leb-true _ _ (and-l _ _ (and-l _ _ (passed a 4 v c .place)))) in
-          in-range-grouped _ _ (record { ch4 = omega arith; n2o = cattle-n2o-small i; co2 = within-none 1; excreted = cattle-excreted-small i; land = omega arith })
+          in-range-grouped _ _ (cattle-small _ (cattle-n2o-small i) (cattle-excreted-small i))
           (headed-on h _ (h .enteric-most) (ltb-false _ _ (c .days)) (h .pig-most))
 
       detail-pig : ValuesPass a 5 v → Kept (accepted a 5 v)
@@ -231,18 +233,18 @@ module _ (a : Account) (f : AccountInRange a) (early : a .stage < 2) where
           let i = pig-in v (a .heading .head) (head-most a f) (passed a 5 v c .ranges) (ltb-false _ _ (c .together)) in
           let four : a .heading .class ≡ 4 = eqb-true _ _ (and-l _ _ (passed a 5 v c .place)) in
           let h = headed-by (omega arith) in
-          in-range-grouped _ _ (record { ch4 = pig-ch4-small i; n2o = pig-n2o-small i; co2 = within-none 1; excreted = pig-excreted-small i; land = pig-land-small i })
+          in-range-grouped _ _ (pig-small _ (pig-ch4-small i) (pig-n2o-small i) (pig-excreted-small i) (pig-land-small i))
           (headed-on h _ (h .enteric-most) (h .nitrogen-most) (ltb-false _ _ (c .days)))
 
       detail-energy : ValuesPass a 6 v → Kept (accepted a 6 v)
       unfolding figuresOf accepted sortOf
       detail-energy c =
-          in-range-farm _ (small-co2 _ _ refl (energy-small (energy-in v (passed a 6 v c .ranges))))
+          in-range-farm _ (co2-small _ (energy-small (energy-in v (passed a 6 v c .ranges))))
 
       detail-soil : ValuesPass a 7 v → Kept (accepted a 7 v)
       unfolding figuresOf accepted sortOf
       detail-soil c =
-          in-range-farm _ (small-co2 _ _ refl (soil-small (soil-in v (passed a 7 v c .ranges))))
+          in-range-farm _ (co2-small _ (soil-small (soil-in v (passed a 7 v c .ranges))))
 
       kept-heading : ValuesPass a 2 v → Kept (accepted a 2 v)
       unfolding accepted sortOf

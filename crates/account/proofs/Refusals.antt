@@ -10,8 +10,9 @@ use lib.Dec.{eqb}
 use Rattle.base.specs.Choice.{pick}
 use Rattle.base.proofs.Tests.{not-false}
 use Rattle.account.specs.declared.Account.{Account}
-use Rattle.account.specs.Judge.{kindOf, valuesOf, valueRefusals, refusals, first, ValueTests, Tests, LetsThrough, ValuesPass, NotRefused, DecidedBy, RefusedBy, Step, accepted, weigh, judge}
-use Rattle.account.proofs.First.{Each, Rising, first-most, first-none, none-first, first-by}
+use Rattle.account.specs.Judge.{kindOf, valuesOf, valueRefusals, refusals, first, ValueTests, Tests, LetsThrough, ValuesPass, NotRefused}
+use Rattle.account.specs.Judge.{DecidedBy, RefusedBy, Step, accepted, weigh, judge}
+use Rattle.account.proofs.First.{Within, Each, Rising, first-most, first-none, none-first, first-by}
 use Rattle.account.proofs.Told.{Passes}
 
 -- ---- from the list to the names, and back
@@ -58,6 +59,9 @@ module _ (a : Account) (k : ℕ) (v : List ℕ) where
 -- ---- a whole record
 
 module _ (a : Account) (r : List ℕ) where
+  values-most : Within 12 (valueRefusals a (kindOf r) (valuesOf r))
+  values-most = (omega arith, (omega arith, (omega arith, (omega arith, (omega arith, (omega arith, (omega arith, (omega arith, tt))))))))
+
   -- the number of the first refusal is 0 where no test refuses, and there alone
   pub not-refused : first (refusals a r) ≡ 0 → NotRefused a r
   not-refused e = names LetsThrough a r (first-none 1 (refusals a r) (rise a r) e)
@@ -70,11 +74,7 @@ module _ (a : Account) (r : List ℕ) where
   refused-by c h e = names (DecidedBy c) a r (first-by c 1 (refusals a r) (rise a r) h e)
 
   pub number-most : first (refusals a r) ≤ 12
-  number-most =
-      first-most 12 (refusals a r) (
-        omega arith,
-        (omega arith, (omega arith, (omega arith, (omega arith, (omega arith, (omega arith, (omega arith, (omega arith, (omega arith, (omega arith, tt)))))))))),
-      )
+  number-most = first-most 12 (refusals a r) (omega arith, (omega arith, (omega arith, values-most)))
 
 -- ---- by the stage after it: what was not refused leaves another than 3
 

@@ -24,7 +24,6 @@ use Rattle.grams.specs.declared.cattle.CattleNitrogen.{CattleNitrogen}
 use Rattle.grams.specs.declared.cattle.CattleNitrogen.the-variants.{BelowZero, Given}
 use Rattle.grams.specs.declared.pig.PigRation.{PigRation}
 use Rattle.grams.specs.declared.pig.PigManure.{PigManure}
-use Rattle.grams.proofs.Carbon.{within-none}
 use Rattle.account.specs.declared.Account.{Account}
 use Rattle.account.specs.declared.Days.{Days}
 use Rattle.account.specs.declared.Figures.{Figures}
@@ -33,9 +32,10 @@ use Rattle.account.specs.declared.Judged.{Judged}
 use Rattle.account.specs.Figures.{groupFigures, cattleRation, ch4Alone, co2Alone, cattleFigures, pigFigures}
 use Rattle.account.specs.Line.{joined, bytesOf, lineWith, co2eIn, subtotals, totalOf}
 use Rattle.account.specs.Range.{Headed, Unheaded, Bounded, Grouped, AccountInRange}
-use Rattle.account.specs.Judge.{versionOf, kindOf, judge, first, inPlace, notRising, daysOver, partsWrong, feedBelow, wrongCount, valueRefusals, refused, underHeading, withDetail, closed, Step, accepted, decided, weigh}
+use Rattle.account.specs.Judge.{versionOf, kindOf, judge, first, inPlace, notRising, daysOver, partsWrong, feedBelow, wrongCount, valueRefusals}
+use Rattle.account.specs.Judge.{refused, underHeading, withDetail, closed, Step, accepted, decided, weigh}
 use Rattle.account.specs.Told.{Tells, TellsIn, inRoom, Kind, Small, noLine, quiet, refusing, detailing, heading, closing}
-use Rattle.account.proofs.Sums.{bounded-more, grouped-more}
+use Rattle.account.proofs.Sums.{ch4-small, co2-small, cattle-small, pig-small, bounded-more, grouped-more}
 use Rattle.account.proofs.First.{three-clear, three-first}
 
 -- ---- an account in range, in what the arithmetic asks
@@ -64,14 +64,13 @@ subtotal-most a f = grouped-more (f .counted .records-most) (f .grouped)
 -- ---- figures of one line
 
 pub small-ch4 : (f : Figures) (g : ℕ) → f ≡ ch4Alone g → g ≤ 10 ^ 11 → Small f
-small-ch4 f g e h = rw e (record { ch4 = h; n2o = omega arith; co2 = within-none 1; excreted = omega arith; land = omega arith })
+small-ch4 f g e h = rw e (ch4-small g h)
 
 pub small-co2 : (f : Figures) (g : Co2) → f ≡ co2Alone g → Co2Within 1 g → Small f
-small-co2 f g e h = rw e (record { ch4 = omega arith; n2o = omega arith; co2 = h; excreted = omega arith; land = omega arith })
+small-co2 f g e h = rw e (co2-small g h)
 
 pub small-pig : (f : Figures) (p : PigRation) (head : ℕ) (m : PigManure) → f ≡ pigFigures m → Manure p head m → Small f
-small-pig f p head m e s =
-    rw e (record { ch4 = s .ch4-small; n2o = s .n2o-small; co2 = within-none 1; excreted = s .excreted-small; land = s .land-small })
+small-pig f p head m e s = rw e (pig-small m (s .ch4-small) (s .n2o-small) (s .excreted-small) (s .land-small))
 
 -- what the nitrogen of a cattle ration is, by its answer
 module _ (r : CattleRation) (head : ℕ) (n : CattleNitrogen) (w : Nitrogen r head n) where
@@ -96,7 +95,7 @@ module _ (r : CattleRation) (head : ℕ) (n : CattleNitrogen) (w : Nitrogen r he
     pub small-cattle : (f : Figures) → f ≡ cattleFigures m → Small f
     small-cattle f q =
         let s : CattleSmall (Given m) = rw e at (w .small) in
-        rw q (record { ch4 = omega arith; n2o = s .1; co2 = within-none 1; excreted = s .0; land = omega arith })
+        rw q (cattle-small m (s .1) (s .0))
 
 -- ---- answers without a line, with a detail's, with the close's
 

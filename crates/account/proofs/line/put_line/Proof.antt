@@ -1,4 +1,4 @@
--- Assumes nothing.
+-- The line's numbers are its figures'. Assumes nothing.
 use borrow.Author.Needs.{needs}
 use Rattle.account.proofs.line.put_line.Statement.{statement}
 use Rattle.account.proofs.line.put_line.Tie as tie
@@ -11,4 +11,4 @@ put-line-spec =
     (λ c κs. tt)
     (λ c κs. c .before .before .before .before .pre)
     (λ c. search needs)
-    (λ c. rw (← c .before .before .before .before .before .grams .ensures, ← c .before .before .before .before .word .ensures) (c .before .before .put-line .ensures)))
+    (λ c. let read = c .before .before .before .before in rw (← read .before .grams .ensures, ← read .word .ensures) (c .before .before .put-line .ensures)))

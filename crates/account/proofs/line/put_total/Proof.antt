@@ -1,4 +1,4 @@
--- Assumes nothing.
+-- The total's numbers are the sums' and CO2e's. Assumes nothing.
 use borrow.Author.Needs.{needs}
 use Rattle.account.proofs.line.put_total.Statement.{statement}
 use Rattle.account.proofs.line.put_total.Tie as tie
@@ -12,4 +12,6 @@ put-total-spec =
     (λ c κs. tt)
     (λ c κs. c .before .before .before .before .before .pre)
     (λ c. search needs)
-    (λ c. rw (← c .before .before .before .before .before .before .grams .ensures, ← c .before .before .before .before .before .word .ensures, ← c .before .before .before .word2 .ensures) (c .before .before .put-total .ensures)))
+    (λ c.
+    let read = c .before .before .before in
+    rw (← read .before .before .before .grams .ensures, ← read .before .before .word .ensures, ← read .word2 .ensures) (c .before .before .put-total .ensures)))

@@ -15,4 +15,4 @@ summed-spec =
     (λ c. search needs)
     (λ c. search needs)
     (λ c. search needs)
-    (λ c. rw (c .before .before .before .before .before .before .before .before .before .plus .ensures, c .before .before .before .before .before .before .plus2 .ensures) refl))
+    (λ c. let co2 = c .before .before .before .before .before .before in rw (co2 .before .before .before .plus .ensures, co2 .plus2 .ensures) refl))
