@@ -1,19 +1,19 @@
 -- What a record keeps: the ranges of an account, whatever the record does, and the length of its lines.
 -- Assumes nothing.
-use Prim.Native.Nat.{ℕ, zero, suc, _+_, _*_, _^_, _≤_, _<_}
-use mathlib.Core.Path.{_≡_, refl, sym, ap, _∙_}
+use Prim.Native.Nat.{ℕ, zero, suc, _+_, _≤_, _<_}
+use mathlib.Core.Path.{_≡_, refl}
 use mathlib.Core.List.{List, [], _∷_, _++_, append-nil}
-use mathlib.Core.Bool.{Bool, true, false, _&&_, _||_, not}
+use mathlib.Core.Bool.{Bool, true, false, _&&_, not}
 use mathlib.Core.Logic.{_⊎_, inl, inr, ⊎-elim}
 use native.Mathlib.Omega.{arith}
-use borrow.Author.Tests.{leb-true, leb-false, ltb-false, eqb-true, eqb-false, eq-eqb, ne-eqb}
+use borrow.Author.Tests.{leb-true, ltb-false, eqb-true, eqb-false, eq-eqb, ne-eqb}
 use lib.ListN.{length, getD}
-use lib.Dec.{leb, ltb, eqb}
+use lib.Dec.{leb, eqb}
 use Rattle.base.specs.Choice.{pick}
 use Rattle.base.proofs.Tests.{and-l, and-r, not-false, not-true, of-choice}
 use Rattle.codec.specs.declared.Field.{Field}
 use Rattle.codec.specs.Table.{table, fields}
-use Rattle.codec.specs.Codec.{valAt, valuesAt, firstBad}
+use Rattle.codec.specs.Codec.{firstBad}
 use Rattle.codec.proofs.Round.{line-length, total-length}
 use Rattle.codec.proofs.Within.{bad-position}
 use Rattle.grams.proofs.Small.{enteric-small, cattle-excreted-small, cattle-n2o-small, pig-ch4-small, pig-n2o-small, pig-excreted-small}
@@ -27,13 +27,13 @@ use Rattle.account.specs.Figures.{figuresOf, grouped, groupFigures}
 use Rattle.account.specs.Line.{joined, lineWith, lineOf, subtotals, totalOf}
 use Rattle.account.specs.Range.{Headed, Unheaded, Grouped, Ungrouped, Unrefused, AccountInRange}
 use Rattle.account.specs.Judge.{kindOf, valuesOf, noRecord, refused, opened, underHeading, withDetail, closed, headingServes, inPlace, refusals}
-use Rattle.account.specs.Judge.{first, ValuesPass, Step, accepted, decided, weigh, judge}
+use Rattle.account.specs.Judge.{first, ValuesPass, Step, accepted, judge}
 use Rattle.account.specs.Told.{Small}
 use Rattle.account.proofs.Sorts.{by-sort, each-kind}
 use Rattle.account.proofs.Sums.{ch4-small, co2-small, cattle-small, pig-small, bounded-none, bounded-next, bounded-added, grouped-none}
 use Rattle.account.proofs.Sums.{ungrouped-none, grouped-next, grouped-added}
 use Rattle.account.proofs.Refusals.{passed, not-refused, refused-by, number-most}
-use Rattle.account.proofs.Ranges.{FarmIn, farm-in, HeadingIn, heading-in, enteric-in, cattle-in, pig-in, energy-in, soil-in}
+use Rattle.account.proofs.Ranges.{farm-in, heading-in, enteric-in, cattle-in, pig-in, energy-in, soil-in}
 use Rattle.account.proofs.Told.{head-most, both-long}
 
 -- ---- an account in range

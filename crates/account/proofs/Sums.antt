@@ -1,7 +1,7 @@
 -- Laws of figures as one thing: what one line adds at most, no grams at all, the bound of more records, and one record added.
 -- Assumes nothing.
-use Prim.Native.Nat.{ℕ, _+_, _*_, _^_, _≤_}
-use mathlib.Core.Path.{_≡_, refl}
+use Prim.Native.Nat.{ℕ, _+_, _^_, _≤_}
+use mathlib.Core.Path.{refl}
 use native.Mathlib.Omega.{arith}
 use Rattle.grams.specs.Units.{Co2Within}
 use Rattle.grams.specs.declared.units.Co2.{Co2}

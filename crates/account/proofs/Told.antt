@@ -1,16 +1,16 @@
 -- How the answer of a function tells what the rules say.
 -- Assumes nothing.
-use Prim.Native.Nat.{ℕ, _+_, _*_, _^_, _≤_, _<_}
+use Prim.Native.Nat.{ℕ, _+_, _^_, _≤_, _<_}
 use mathlib.Core.Path.{_≡_, refl, sym, ap, _∙_}
 use mathlib.Core.List.{List, [], _∷_, _++_, append-nil}
 use mathlib.Core.Bool.{Bool, true, false, not, _&&_}
 use mathlib.Core.Logic.{⊎-elim}
 use native.Mathlib.Omega.{arith}
-use borrow.Author.Tests.{leb-true, leb-false, le-leb, lt-leb, eqb-true, eq-eqb, ne-eqb}
-use lib.ListN.{length, getD, length-append}
-use lib.Dec.{ltb, leb, eqb}
+use borrow.Author.Tests.{leb-false, le-leb, lt-leb, eqb-true, eq-eqb, ne-eqb}
+use lib.ListN.{length, length-append}
+use lib.Dec.{leb, eqb}
 use Rattle.base.specs.Choice.{pick}
-use Rattle.base.proofs.Tests.{no-bool, not-false}
+use Rattle.base.proofs.Tests.{not-false}
 use Rattle.codec.specs.Table.{fields, lengthOf}
 use Rattle.codec.specs.Codec.{valAt, valuesAt, firstBad, lineBytes, totalBytes}
 use Rattle.codec.proofs.Round.{line-length, total-length}
@@ -29,11 +29,11 @@ use Rattle.account.specs.declared.Days.{Days}
 use Rattle.account.specs.declared.Figures.{Figures}
 use Rattle.account.specs.declared.Subtotal.{Subtotal}
 use Rattle.account.specs.declared.Judged.{Judged}
-use Rattle.account.specs.Figures.{groupFigures, cattleRation, ch4Alone, co2Alone, cattleFigures, pigFigures}
+use Rattle.account.specs.Figures.{groupFigures, ch4Alone, co2Alone, cattleFigures, pigFigures}
 use Rattle.account.specs.Line.{joined, bytesOf, lineWith, co2eIn, subtotals, totalOf}
 use Rattle.account.specs.Range.{Headed, Unheaded, Bounded, Grouped, AccountInRange}
 use Rattle.account.specs.Judge.{versionOf, kindOf, judge, first, inPlace, notRising, daysOver, partsWrong, feedBelow, wrongCount, valueRefusals}
-use Rattle.account.specs.Judge.{refused, underHeading, withDetail, closed, Step, accepted, decided, weigh}
+use Rattle.account.specs.Judge.{refused, underHeading, withDetail, closed, Step, accepted, weigh}
 use Rattle.account.specs.Told.{Tells, TellsIn, inRoom, Kind, Small, noLine, quiet, refusing, detailing, heading, closing}
 use Rattle.account.proofs.Sums.{ch4-small, co2-small, cattle-small, pig-small, bounded-more, grouped-more}
 use Rattle.account.proofs.First.{three-clear, three-first}
