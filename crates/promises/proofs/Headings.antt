@@ -22,7 +22,7 @@ use Rattle.account.specs.Figures.{groupFigures}
 use Rattle.account.specs.Range.{Headed, Unheaded, AccountInRange}
 use Rattle.account.specs.Judge.{kindOf, valuesOf, underHeading, first, refusals, Step, accepted, judge}
 use Rattle.account.proofs.Sorts.{by-sort, heads-two}
-use Rattle.account.proofs.First.{first-clear}
+use Rattle.account.proofs.Refusals.{not-refused}
 use Rattle.account.proofs.Keeps.{in-range-judge}
 use Rattle.book.specs.declared.State.{State}
 use Rattle.book.specs.Front.{Front, unfinished, badLength, whole, need, front}
@@ -107,9 +107,7 @@ module _ (a : Account) (r : List ℕ) (f : AccountInRange a) (kinds : leb 1 (kin
       (λ e. record { counted = refl; marks = close-marks ∙ rw e refl; group = rw e refl })
 
 pub kind-in : (a : Account) (r : List ℕ) → first (refusals a r) ≡ 0 → leb 1 (kindOf r) && leb (kindOf r) 8 ≡ true
-kind-in a r e =
-    let t = first-clear (refusals a r) (omega arith, (omega arith, (omega arith, (omega arith, (omega arith, (omega arith, (omega arith, (omega arith, (omega arith, (omega arith, (omega arith, tt))))))))))) e in
-    not-false _ (t .1 .0 (omega arith))
+kind-in a r e = not-false _ (not-refused a r e .kind)
 
 judged : (a : Account) (r : List ℕ) → AccountInRange a → Stopped a (judge a r) ⊎ Grown a r (judge a r)
 unfolding judge

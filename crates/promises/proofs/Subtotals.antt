@@ -16,6 +16,7 @@ use Rattle.codec.specs.Table.{fields}
 use Rattle.codec.specs.Codec.{valAt, valuesAt, lineBytes}
 use Rattle.account.specs.declared.Account.{Account}
 use Rattle.account.specs.declared.Heading.{Heading}
+use Rattle.grams.specs.declared.units.Co2.{Co2}
 use Rattle.account.specs.declared.Figures.{Figures}
 use Rattle.account.specs.declared.Subtotal.{Subtotal}
 use Rattle.account.specs.Sorts.{Sort, opens, heads, ofGroup, ofFarm, closes, sortOf, bySort}
@@ -71,7 +72,7 @@ record Gas : Type 0 where
   adds : (f g : Figures) → farm (added f g) ≡ farm f + farm g
   groups : (s : Subtotal) (f : Figures) → group (grouped s f) ≡ group s + farm f
   none : group noSubtotal ≡ 0
-  air : (g : ℕ) → farm (co2Alone g) ≡ 0
+  air : (g : Co2) → farm (co2Alone g) ≡ 0
   ungrouped : (s : Subtotal) → Ungrouped s → group s ≡ 0
 
 -- whether a record closes the book

@@ -19,14 +19,15 @@ use Rattle.account.specs.Sorts.{sortOf}
 use Rattle.account.proofs.Sorts.{by-sort, heads-two}
 use Rattle.account.specs.declared.Refusal.{Refusal}
 use Rattle.account.specs.Judge.{noRecord}
-use Rattle.account.proofs.Keeps.{clear, in-range-none}
+use Rattle.account.proofs.Keeps.{in-range-none}
+use Rattle.account.proofs.Refusals.{passed, weighed-none, weighed-passes}
 use Rattle.book.proofs.RangeLaws.{range-test, range-idle}
 use Rattle.book.specs.declared.State.{State}
 use Rattle.book.specs.State.{InRange, inRange, noRecordYet}
 use Rattle.make_record.specs.declared.Answer.{Answer}
 use Rattle.make_record.specs.declared.Answer.the-variants as answers
 use Rattle.make_record.specs.Write as writer
-use Rattle.make_record.proofs.Answers.{Written-so, not-refused, written-so}
+use Rattle.make_record.proofs.Answers.{Written-so, written-so}
 use Rattle.make_record.proofs.AsReader.{stays-in-range}
 use Rattle.typed_line.specs.declared.Entry.{Entry}
 use Rattle.typed_line.specs.declared.Said.{Said}
@@ -56,14 +57,14 @@ group-no-head k g =
 heading-after : (a : Account) (k : ℕ) (v : List ℕ) → (weigh a k v .account .stage ≡ 3 → ⊥) → (k ≡ 2 → ⊥) → weigh a k v .account .heading ≡ a .heading
 unfolding weigh accepted
 heading-after a k v h n =
-    rw (not-refused a k v h)
+    rw (weighed-none a k v h)
     (by-sort (λ (s : Step). s .account .heading ≡ a .heading) (sortOf k) (λ _. refl) (λ e. absurd (n (heads-two k e))) (λ _. refl) (λ _. refl) (λ _. refl))
 
 -- a detail of the group is written under a heading only
 needs-class : (a : Account) (k : ℕ) (v : List ℕ) → (weigh a k v .account .stage ≡ 3 → ⊥) → inGroup k ≡ true → a .heading .class ≡ 0 → ⊥
 unfolding inPlace
 needs-class a k v h g z =
-    let place = clear a k v (not-refused a k v h) .passes .place in
+    let place = passed a k v (weighed-passes a k v h) .place in
     let low = leb-true 3 k (and-l (leb 3 k) (leb k 5) g) in
     let high = leb-true k 5 (and-r (leb 3 k) (leb k 5) g) in
     let one : eqb k 1 ≡ false = ne-eqb k 1 (λ (e : k ≡ 1). omega arith) in
