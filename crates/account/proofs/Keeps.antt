@@ -11,6 +11,7 @@ use lib.ListN.{length, getD}
 use lib.Dec.{leb, eqb}
 use Rattle.base.specs.Choice.{pick}
 use Rattle.base.proofs.Tests.{and-l, and-r, not-false, not-true, of-choice}
+use Rattle.codec.proofs.EachKind.{each-kind}
 use Rattle.codec.specs.declared.Field.{Field}
 use Rattle.codec.specs.Table.{table, fields, isKind}
 use Rattle.codec.specs.Codec.{firstBad}
@@ -29,7 +30,7 @@ use Rattle.account.specs.Range.{Headed, Unheaded, Grouped, Ungrouped, Un
 use Rattle.account.specs.Judge.{kindOf, valuesOf, noRecord, refused, opened, underHeading, withDetail, closed, headingServes, inPlace, refusals}
 use Rattle.account.specs.Judge.{first, ValuesPass, Step, accepted, judge}
 use Rattle.account.specs.Told.{Small}
-use Rattle.account.proofs.Sorts.{by-sort, each-kind}
+use Rattle.account.proofs.Sorts.{by-sort}
 use Rattle.account.proofs.Sums.{ch4-small, co2-small, cattle-small, pig-small, bounded-none, bounded-next, bounded-added, grouped-none}
 use Rattle.account.proofs.Sums.{ungrouped-none, grouped-next, grouped-added}
 use Rattle.account.proofs.Refusals.{passed, not-refused, refused-by, number-most}

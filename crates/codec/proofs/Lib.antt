@@ -3,5 +3,6 @@ pub mod Stores
 pub mod Values
 pub mod Within
 pub mod Rows
+pub mod EachKind
 pub mod Round
 pub mod Sample

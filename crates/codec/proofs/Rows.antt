@@ -51,16 +51,6 @@ pub lengths : map lengthOf (1 ∷ 2 ∷ 3 ∷ 4 ∷ 5 ∷ 6 ∷ 7 ∷ 8 ∷ []) 
 unfolding table size
 lengths = refl
 
-past : (n k : ℕ) → n ≤ k → (k ≡ n → ⊥) → suc n ≤ k
-past n k l h = omega arith
-
--- the kind that is none of the first seven is the eighth
-pub eighth : (k : ℕ) → 1 ≤ k → k ≤ lastKind → (k ≡ 1 → ⊥) → (k ≡ 2 → ⊥) → (k ≡ 3 → ⊥) → (k ≡ 4 → ⊥) → (k ≡ 5 → ⊥) → (k ≡ 6 → ⊥) → (k ≡ 7 → ⊥)
-    → k ≡ 8
-eighth k l m h1 h2 h3 h4 h5 h6 h7 =
-    let n = past 7 k (past 6 k (past 5 k (past 4 k (past 3 k (past 2 k (past 1 k l h1) h2) h3) h4) h5) h6) h7 in
-    omega arith
-
 -- ---- what follows from it at each row
 
 both-left : (a b : Bool) → T (pick a b false) → T a

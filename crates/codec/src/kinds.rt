@@ -4,9 +4,8 @@ ghost use Prim.Native.Nat.{_+_, _≤_};
 ghost use lib.ListN.{length};
 ghost use Rattle.codec.specs.Table.{fields, lastKind, lengthOf};
 
-// How many values a record of the kind has.
+// How many values a record of the kind has; 0 where there is no such kind.
 pub fn values_of(kind: u64) -> usize
-    requires { ⌜ (1 ≤ kind) × (kind ≤ lastKind) ⌝ }
     ensures { λ r. ⌜ r ≡ length (fields kind) ⌝ }
 {
     match kind {
@@ -17,7 +16,8 @@ pub fn values_of(kind: u64) -> usize
         5 => 12,
         6 => 3,
         7 => 1,
-        _ => 1,
+        8 => 1,
+        _ => 0,
     }
 }
 

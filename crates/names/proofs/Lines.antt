@@ -57,21 +57,3 @@ small-lines = tt
 
 pub few-decimals : (k i : ℕ) → decimalsAt k i ≤ 5
 few-decimals k i = small (decimalsOf k) (at-below 10 smallLine small-lines (min k 9) (omega arith)) i
-
--- ---- the kinds
-
-pub no-fields : (k : ℕ) → 8 < k → fields k ≡ []
-unfolding table
-no-fields k h = List·getD-eq-default table [] h
-
-next : {k : ℕ} (j : ℕ) → j ≤ k → (k ≡ j → ⊥) → suc j ≤ k
-next j l h = omega arith
-
-pub other-kind : (k : ℕ) → (k ≡ 1 → ⊥) → (k ≡ 2 → ⊥) → (k ≡ 3 → ⊥) → (k ≡ 4 → ⊥) → (k ≡ 5 → ⊥) → (k ≡ 6 → ⊥) → (k ≡ 7 → ⊥) → (k ≡ 8 → ⊥)
-    → 0 ≡ length (fields k)
-unfolding table
-other-kind k h1 h2 h3 h4 h5 h6 h7 h8 =
-    by-test (eqb k 0)
-    (λ e. rw (eqb-true k 0 e))
-    (λ e. let past4 = next 4 (next 3 (next 2 (next 1 (next 0 zero-le (eqb-false k 0 e)) h1) h2) h3) h4 in
-    rw (no-fields k (next 8 (next 7 (next 6 (next 5 past4 h5) h6) h7) h8)))

@@ -11,6 +11,7 @@ use lib.Ieee.Fits.{and-l, and-r}
 use borrow.Author.Tests.{ltb-true, ltb-false, eqb-true}
 use Rattle.base.specs.Choice.{pick}
 use Rattle.base.proofs.Tests.{by-test}
+use Rattle.codec.proofs.EachKind.{no-fields}
 use Rattle.bytes.specs.Bytes.{indexOf, indexAfter}
 use Rattle.typed_words.specs.declared.Whole.{Whole}
 use Rattle.typed_words.specs.Words.{nthPart, nthWord, leadingOf}
@@ -18,7 +19,7 @@ use Rattle.typed_words.specs.Amounts.{aWhole, numberFrom, amountOf}
 use Rattle.codec.specs.declared.Field.{Field}
 use Rattle.codec.specs.Table.{field, table, fields}
 use Rattle.names.specs.Names.{fieldTable, fieldNames, expectedTable, expectedTexts, expected, decimalsTable, decimalsOf, decimalsAt}
-use Rattle.names.proofs.Lines.{allBelow, at-below, no-fields}
+use Rattle.names.proofs.Lines.{allBelow, at-below}
 
 -- word n of what is expected of a field, as a number with the field's decimals
 abbrev pub told : ℕ → ℕ → ℕ → Whole

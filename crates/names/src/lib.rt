@@ -138,22 +138,6 @@ pub fn decimals(kind: u64, i: usize) -> usize
     digit_at(digits, i)
 }
 
-pub fn field_count(kind: u64) -> usize
-    ensures { λ r. ⌜ r ≡ length (fields kind) ⌝ }
-{
-    match kind {
-        1 => 3,
-        2 => 3,
-        3 => 3,
-        4 => 9,
-        5 => 12,
-        6 => 3,
-        7 => 1,
-        8 => 1,
-        _ => 0,
-    }
-}
-
 pub fn say_class(out: &mut [u8], at: usize, class: u64) -> usize
     requires { ⌜ at ≤ length (now out) ⌝ }
     ensures { λ r. ⌜ Said (now (out .entry)) (now (out .exit)) at (className class) r ⌝ }

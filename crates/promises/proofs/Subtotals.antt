@@ -12,6 +12,7 @@ use lib.ListN.{length, getD, take, drop, length-drop}
 use lib.Dec.{leb, eqb}
 use Rattle.base.specs.Choice.{pick}
 use Rattle.base.proofs.Tests.{lt-or-ge, no-bool, of-choice, true-or-false}
+use Rattle.codec.proofs.EachKind.{kind-most}
 use Rattle.codec.specs.Table.{fields}
 use Rattle.codec.specs.Codec.{valAt, valuesAt, lineBytes}
 use Rattle.account.specs.declared.Account.{Account}
@@ -24,7 +25,7 @@ use Rattle.account.specs.Figures.{noFigures, noSubtotal, added, grouped, groupF
 use Rattle.account.specs.Line.{lineWith, subtotals, totalOf}
 use Rattle.account.specs.Range.{Ungrouped, AccountInRange}
 use Rattle.account.specs.Judge.{kindOf, valuesOf, noRecord, first, refusals, Step, accepted, judge}
-use Rattle.account.proofs.Sorts.{by-sort, not-of-group, kind-most}
+use Rattle.account.proofs.Sorts.{by-sort, not-of-group}
 use Rattle.account.proofs.Keeps.{in-range-judge}
 use Rattle.book.specs.declared.State.{State}
 use Rattle.book.specs.Front.{Front, unfinished, badLength, whole, need, front}

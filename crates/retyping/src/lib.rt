@@ -7,7 +7,6 @@ use book::Fed;
 use book::State;
 use codec::numbers::be8;
 use codec::numbers::be16;
-use names::field_count;
 use names::say_kind;
 use names::say_sentence;
 use printing::put_byte;
@@ -91,7 +90,7 @@ fn put_record(out: &mut [u8], at: usize, bytes: &[u8]) -> usize
 {
     let kind = be8(bytes, 3);
     let values = values_of(bytes, kind);
-    let n = field_count(kind);
+    let n = codec::kinds::values_of(kind);
     let name = say_kind(out, at, kind);
     let blank = put_byte(out, name, b' ');
     put_numbers(out, blank, &values[..n])

@@ -55,7 +55,7 @@ fn say_no_kind(out: &mut [u8], at: usize, text: &[u8]) -> usize
 fn has_field(kind: u64, i: usize) -> bool
     ensures { λ r. ⌜ r ≡ hasField kind i ⌝ }
 {
-    i < names::field_count(kind)
+    i < codec::kinds::values_of(kind)
 }
 
 fn say_field(out: &mut [u8], at: usize, kind: u64, i: usize) -> usize

@@ -35,7 +35,7 @@ answered-spec =
     (λ c. c .refused-by .ensures ∙ ap writtenOf (sym (by-22 _ _ _ _ (inside (c .before .before .before .before .before .before .before)) (c .before .before .before .before .if2 .left) (c .before .if3 .taken))))
     (λ c κs. search needs)
     (λ c. c .refused-by2 .ensures ∙ ap writtenOf (sym (by-3 _ _ _ _ (open-state (c .before .before)) (c .before .if4 .taken))))
-    (λ c κs. kind-in _ (c .if4 .left))
+    (λ c κs. tt)
     (λ c κs. search needs)
     (λ c.
     c .refused-by3 .ensures ∙ ap writtenOf (sym (by-4 _ _ _ _ (open-state (c .before .before .before .before)) (c .before .before .before .if4 .left) (λ e. c .before .if5 .taken (e ∙ sym (c .before .before .values-of .ensures))))))

@@ -35,13 +35,13 @@ put-record-spec =
     let c11 = c9 .before .before in
     let c14 = c11 .before .before .before in
     let s = c14 in
-    let m = count-most (s .args .bytes .now) (s .pre .0) (c11 .be8 .ensures) (c9 .field-count .ensures) in search needs)
+    let m = count-most (s .args .bytes .now) (s .pre .0) (c11 .be8 .ensures) (c9 .values-of2 .ensures) in search needs)
     (λ c.
     let c10 = c .before .before .before .before .before .before .before .before .before .before in
     let c12 = c10 .before .before in
     let c15 = c12 .before .before .before in
     let s = c15 in
-    let m = count-most (s .args .bytes .now) (s .pre .0) (c12 .be8 .ensures) (c10 .field-count .ensures) in sym (length-take-le _ _ (search needs)))
+    let m = count-most (s .args .bytes .now) (s .pre .0) (c12 .be8 .ensures) (c10 .values-of2 .ensures) in sym (length-take-le _ _ (search needs)))
     (λ c κs.
     let c4 = c .before .before .before .before in
     let c8 = c4 .before .before .before .before in
@@ -54,10 +54,10 @@ put-record-spec =
     let e = c8 .say-kind .ensures in
     let p = name-put (s .args .bytes .now) t (c12 .be8 .ensures) (s .pre .1) e in
     let q = c4 .put-byte .ensures in
-    let m = count-most (s .args .bytes .now) t (c12 .be8 .ensures) (c10 .field-count .ensures) in
+    let m = count-most (s .args .bytes .now) t (c12 .be8 .ensures) (c10 .values-of2 .ensures) in
     omega (
       arith,
-      length-take (c10 .field-count .result) (c11 .values-of .result),
+      length-take (c10 .values-of2 .result) (c11 .values-of .result),
       m,
       q .next,
       put-length q,
@@ -78,7 +78,7 @@ put-record-spec =
     let s = c18 in
     let t = s .pre .0 in
     let k = c15 .be8 .ensures in
-    let n = c13 .field-count .ensures in
+    let n = c13 .values-of2 .ensures in
     let p = name-put (s .args .bytes .now) t k (s .pre .1) (c11 .say-kind .ensures) in
     let q = c7 .put-byte .ensures in
     let w = c2 .put-numbers .ensures in (
@@ -86,7 +86,7 @@ put-record-spec =
       omega (
         arith,
         w .1,
-        length-take (c13 .field-count .result) (c14 .values-of .result),
+        length-take (c13 .values-of2 .result) (c14 .values-of .result),
         count-most (s .args .bytes .now) t k n,
         q .next,
         p .next,

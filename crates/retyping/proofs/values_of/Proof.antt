@@ -3,8 +3,8 @@ use mathlib.Core.Path.{_≡_, refl}
 use Prim.Native.Nat.{_≤_}
 use native.Mathlib.Omega.{arith}
 use borrow.Author.Needs.{needs}
+use Rattle.codec.proofs.EachKind.{last-kind}
 use Rattle.codec.specs.Table.{table, size, lastKind}
-use Rattle.codec.proofs.Rows.{eighth}
 use Rattle.retyping.proofs.Steps.{long-by, values-by, twelve-by}
 use Rattle.retyping.proofs.values_of.Statement.{statement}
 use Rattle.retyping.proofs.values_of.Tie as tie
@@ -15,7 +15,7 @@ eight c =
     let p = c .before .before .pre in
     let least : 1 ≤ c .before .before .args .kind = omega (arith, p .1, p .0 .least) in
     let most : c .before .before .args .kind ≤ lastKind = omega (arith, p .1, p .0 .most) in
-    eighth _ least most (r .0 .0 .0 .0 .0 .0 .1) (r .0 .0 .0 .0 .0 .1) (r .0 .0 .0 .0 .1) (r .0 .0 .0 .1) (r .0 .0 .1) (r .0 .1) (r .1)
+    last-kind _ least most (r .0 .0 .0 .0 .0 .0 .1) (r .0 .0 .0 .0 .0 .1) (r .0 .0 .0 .0 .1) (r .0 .0 .0 .1) (r .0 .0 .1) (r .0 .1) (r .1)
 
 pub values-of-spec : {M : Type 1} → statement M
 unfolding table size

@@ -1,7 +1,7 @@
 -- What the kind's own function tells. Assumes nothing.
 use mathlib.Core.Path.{_≡_, refl, sym, _∙_}
+use Rattle.codec.proofs.EachKind.{kind-least, kind-most, last-kind}
 use Rattle.codec.specs.Table.{table, size}
-use Rattle.account.proofs.Sorts.{kind-least, kind-most, eighth}
 use Rattle.rules.proofs.ByKind.{there, by-kind}
 use Rattle.rules.proofs.by_kind.Statement.{statement}
 use Rattle.rules.proofs.by_kind.Tie as tie
@@ -11,7 +11,7 @@ eight c =
     let r = c .match .rest in
     let p = c .before .before .pre in
     let k = p .2 .kinds in
-    eighth _ (rw (p .3) (kind-least _ k)) (rw (p .3) (kind-most _ k))
+    last-kind _ (rw (p .3) (kind-least _ k)) (rw (p .3) (kind-most _ k))
     (r .0 .0 .0 .0 .0 .0 .1) (r .0 .0 .0 .0 .0 .1) (r .0 .0 .0 .0 .1) (r .0 .0 .0 .1) (r .0 .0 .1) (r .0 .1) (r .1)
 
 pub by-kind-spec : {M : Type 1} → statement M

@@ -1,6 +1,6 @@
 -- Read off the table, kind by kind. Assumes nothing.
 use Rattle.codec.specs.Table.{table, size}
-use Rattle.account.proofs.Sorts.{no-kind}
+use Rattle.codec.proofs.EachKind.{no-kind}
 use Rattle.rules.proofs.size_of.Statement.{statement}
 use Rattle.rules.proofs.size_of.Tie as tie
 

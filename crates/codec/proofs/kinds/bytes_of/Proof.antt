@@ -1,7 +1,7 @@
 -- `codec::kinds::bytes_of` meets its contract: read off the table, kind by kind.
 -- Assumes nothing.
 use Rattle.codec.specs.Table.{table, size}
-use Rattle.codec.proofs.Rows.{eighth}
+use Rattle.codec.proofs.EachKind.{last-kind}
 use Rattle.codec.proofs.kinds.bytes_of.Statement.{statement}
 use Rattle.codec.proofs.kinds.bytes_of.Tie as tie
 
@@ -20,4 +20,4 @@ bytes-of-spec =
     (λ c.
     let r = c .match .rest in
     let p = c .before .pre in
-    rw (eighth _ (p .0) (p .1) (r .0 .0 .0 .0 .0 .0 .1) (r .0 .0 .0 .0 .0 .1) (r .0 .0 .0 .0 .1) (r .0 .0 .0 .1) (r .0 .0 .1) (r .0 .1) (r .1))))
+    rw (last-kind _ (p .0) (p .1) (r .0 .0 .0 .0 .0 .0 .1) (r .0 .0 .0 .0 .0 .1) (r .0 .0 .0 .0 .1) (r .0 .0 .0 .1) (r .0 .0 .1) (r .0 .1) (r .1))))

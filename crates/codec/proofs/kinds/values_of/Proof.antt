@@ -1,7 +1,6 @@
--- `codec::kinds::values_of` meets its contract: read off the table, kind by kind.
--- Assumes nothing.
+-- Read off the table, kind by kind. Assumes nothing.
+use Rattle.codec.proofs.EachKind.{other-kind}
 use Rattle.codec.specs.Table.{table}
-use Rattle.codec.proofs.Rows.{eighth}
 use Rattle.codec.proofs.kinds.values_of.Statement.{statement}
 use Rattle.codec.proofs.kinds.values_of.Tie as tie
 
@@ -17,7 +16,8 @@ values-of-spec =
     (λ c. rw (c .match .keys5))
     (λ c. rw (c .match .keys6))
     (λ c. rw (c .match .keys7))
+    (λ c. rw (c .match .keys8))
     (λ c.
     let r = c .match .rest in
-    let p = c .before .pre in
-    rw (eighth _ (p .0) (p .1) (r .0 .0 .0 .0 .0 .0 .1) (r .0 .0 .0 .0 .0 .1) (r .0 .0 .0 .0 .1) (r .0 .0 .0 .1) (r .0 .0 .1) (r .0 .1) (r .1))))
+    let s = r .0 .0 .0 .0 in
+    other-kind _ (s .0 .0 .0 .1) (s .0 .0 .1) (s .0 .1) (s .1) (r .0 .0 .0 .1) (r .0 .0 .1) (r .0 .1) (r .1)))

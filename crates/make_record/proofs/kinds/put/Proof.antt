@@ -1,8 +1,8 @@
 -- What the kind's own function stores. Assumes nothing.
 use mathlib.Core.Path.{_≡_, refl}
 use native.Mathlib.Omega.{arith}
+use Rattle.codec.proofs.EachKind.{last-kind}
 use Rattle.codec.specs.Table.{table, size}
-use Rattle.codec.proofs.Rows.{eighth}
 use Rattle.make_record.proofs.ByKind.{counted, fitting, stored}
 use Rattle.make_record.proofs.kinds.put.Statement.{statement}
 use Rattle.make_record.proofs.kinds.put.Tie as tie
@@ -11,7 +11,7 @@ eight : (c : tie.At-match-rest) → c .before .before .before .args .kind ≡ 8
 eight c =
     let r = c .match .rest in
     let o = c .before .before .before .pre .2 in
-    eighth _ (o .least) (o .most) (r .0 .0 .0 .0 .0 .0 .1) (r .0 .0 .0 .0 .0 .1) (r .0 .0 .0 .0 .1) (r .0 .0 .0 .1) (r .0 .0 .1) (r .0 .1) (r .1)
+    last-kind _ (o .least) (o .most) (r .0 .0 .0 .0 .0 .0 .1) (r .0 .0 .0 .0 .0 .1) (r .0 .0 .0 .0 .1) (r .0 .0 .0 .1) (r .0 .0 .1) (r .0 .1) (r .1)
 
 pub put-spec : {M : Type 1} → statement M
 unfolding table size

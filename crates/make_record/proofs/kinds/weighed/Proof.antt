@@ -1,7 +1,7 @@
 -- What the kind's own function tells. Assumes nothing.
 use mathlib.Core.Path.{_≡_, refl}
+use Rattle.codec.proofs.EachKind.{last-kind}
 use Rattle.codec.specs.Table.{table}
-use Rattle.codec.proofs.Rows.{eighth}
 use Rattle.make_record.proofs.ByKind.{counted, told}
 use Rattle.make_record.proofs.kinds.weighed.Statement.{statement}
 use Rattle.make_record.proofs.kinds.weighed.Tie as tie
@@ -10,7 +10,7 @@ eight : (c : tie.At-match-rest) → c .before .before .args .kind ≡ 8
 eight c =
     let r = c .match .rest in
     let o = c .before .before .pre .2 in
-    eighth _ (o .least) (o .most) (r .0 .0 .0 .0 .0 .0 .1) (r .0 .0 .0 .0 .0 .1) (r .0 .0 .0 .0 .1) (r .0 .0 .0 .1) (r .0 .0 .1) (r .0 .1) (r .1)
+    last-kind _ (o .least) (o .most) (r .0 .0 .0 .0 .0 .0 .1) (r .0 .0 .0 .0 .0 .1) (r .0 .0 .0 .0 .1) (r .0 .0 .0 .1) (r .0 .0 .1) (r .0 .1) (r .1)
 
 pub weighed-spec : {M : Type 1} → statement M
 unfolding table

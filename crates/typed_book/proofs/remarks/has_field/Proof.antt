@@ -8,4 +8,4 @@ has-field-spec =
     tie.close
     (tie.spec
     (λ c κs. search needs)
-    (λ c. rw (c .field-count .ensures)))
+    (λ c. rw (c .values-of .ensures)))
