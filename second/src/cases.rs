@@ -2,6 +2,7 @@
 
 use crate::books::{after, closed_run, damaged_run, right_close, right_run, wrong_record};
 use crate::calls::{some_calls, MOST_ROOM, ROOMS};
+use crate::damages;
 use crate::dice::Dice;
 use crate::figures::Subtotal;
 use crate::kind;
@@ -21,7 +22,10 @@ use crate::writes;
 
 /// The case of this seed and index.
 pub fn case(seed: u64, index: u64) -> Case {
-    if let Some(case) = writes::in_a_row(seed, index).or_else(|| parts::of_each_size(seed, index)) {
+    if let Some(case) = writes::in_a_row(seed, index)
+        .or_else(|| parts::of_each_size(seed, index))
+        .or_else(|| damages::now_and_then(seed, index))
+    {
         return case;
     }
     let mut dice = Dice::of_case(seed, index);
@@ -179,6 +183,7 @@ pub fn stored() -> Vec<Case> {
     cases.extend(parts::every_part_size());
     cases.extend(slips::at_the_ends());
     cases.extend(writes::stored());
+    cases.extend(damages::stored());
     let mut dice = Dice::of_case(1, 0);
     cases.push(longest_book(&mut dice));
     cases.extend((0..60).map(|_| slips::some_slip(&mut dice)));

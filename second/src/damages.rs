@@ -5,8 +5,9 @@ use crate::desk::{long_book, many_groups};
 use crate::dice::Dice;
 use crate::plain::plain_values;
 use crate::record::{length_of, record_of};
-use crate::salvage::LONGEST;
+use crate::salvage::{salvage, LONGEST};
 use crate::state::State;
+use crate::trial::Case;
 
 /// The damaged book of this seed and index.
 pub fn damaged(seed: u64, index: u64) -> Vec<u8> {
@@ -167,4 +168,65 @@ fn group(dice: &mut Dice, state: &State) -> Vec<u8> {
         book.extend(right);
     }
     book
+}
+
+/// The longest damaged book of a trial, and the most room for its list.
+const MOST_BYTES: usize = 16_000;
+const MOST_LIST: usize = 4_096;
+
+/// A damaged book of a trial with rooms around what it needs, now and then with none or plenty.
+fn with_rooms(dice: &mut Dice, mut book: Vec<u8>) -> Case {
+    book.truncate(MOST_BYTES);
+    let (enough, all) = match salvage(&book, usize::MAX, usize::MAX) {
+        Ok((clean, list)) => (clean.len(), list.len()),
+        Err(_) => (6, 9),
+    };
+    let near = |dice: &mut Dice, needed: usize, most: usize| {
+        let room = match dice.below(8) {
+            0 => needed.saturating_sub(1),
+            1 => dice.below(needed as u64 + 1) as usize,
+            2 => 0,
+            3 => needed + dice.below(30) as usize,
+            _ => needed,
+        };
+        room.min(most)
+    };
+    let book_room = near(dice, enough, 16_384);
+    let list_room = near(dice, all, MOST_LIST);
+    Case::Damaged { book, book_room, list_room }
+}
+
+/// One of every 16 fresh cases is a damaged book.
+pub fn now_and_then(seed: u64, index: u64) -> Option<Case> {
+    (index % 16 == 5).then(|| {
+        let mut dice = Dice::of_case(seed, index);
+        let book = damaged(seed, 100 * (index / 16 % 3) + 10 + dice.below(90));
+        with_rooms(&mut dice, book)
+    })
+}
+
+/// Stored: damaged books with each room that matters, for the book and for the list.
+pub fn stored() -> Vec<Case> {
+    let mut cases = Vec::new();
+    for index in (0..20).chain(200..210) {
+        let book = damaged(2, index);
+        if book.len() > 1_200 {
+            continue;
+        }
+        let (enough, all) =
+            salvage(&book, usize::MAX, usize::MAX).map_or((6, 9), |(b, l)| (b.len(), l.len()));
+        let less = |n: usize| n.saturating_sub(1);
+        for (book_room, list_room) in [
+            (enough, all),
+            (enough + 1, all + 8),
+            (less(enough), all),
+            (enough, less(all)),
+            (less(enough), less(all)),
+            (0, 0),
+            (16_384, MOST_LIST),
+        ] {
+            cases.push(Case::Damaged { book: book.clone(), book_room, list_room });
+        }
+    }
+    cases
 }

@@ -89,9 +89,32 @@ impl Found {
         [self.kept.clone(), close].concat()
     }
 
+    /// The bytes of the list: eight of a record's number, one of its code.
+    fn list(&self) -> Vec<u8> {
+        let entry = |&(number, code): &Dropped| [&number.to_be_bytes()[..], &[code]].concat();
+        self.dropped.iter().flat_map(entry).collect()
+    }
+
     /// 19: nothing is kept before a farm record is.
     pub fn has_no_farm(&self) -> bool {
         self.state.records == 0
+    }
+}
+
+/// The clean book and the list for buffers of so much room, or the number that refuses them: 19, then 16.
+pub fn salvage(
+    damaged: &[u8],
+    book_room: usize,
+    list_room: usize,
+) -> Result<(Vec<u8>, Vec<u8>), u8> {
+    let found = find(damaged);
+    let (book, list) = (found.book(), found.list());
+    if found.has_no_farm() {
+        Err(19)
+    } else if book.len() > book_room || list.len() > list_room {
+        Err(16)
+    } else {
+        Ok((book, list))
     }
 }
 

@@ -2,6 +2,7 @@
 
 use crate::feed::{feed, Answer, Reply};
 use crate::figures::{Figures, Subtotal};
+use crate::salvage::salvage;
 use crate::slip::{slip, Change, Ration};
 use crate::state::{Heading, Refusal, State};
 use crate::writer::write;
@@ -24,6 +25,7 @@ pub enum Case {
     Book { state: State, input: Vec<u8>, calls: Vec<Call> },
     Slip { ration: Ration, change: Change },
     Write { state: State, kind: u64, values: Vec<u64>, room: usize },
+    Damaged { book: Vec<u8>, book_room: usize, list_room: usize },
 }
 
 /// What is wrong with a line that is no case.
@@ -89,15 +91,21 @@ impl Case {
             }
             Case::Slip { ration, change } => slip_text(ration, *change),
             Case::Write { state, kind, values, room } => write_text(state, *kind, values, *room),
+            Case::Damaged { book, book_room, list_room } => {
+                format!("D {} {book_room:x} {list_room:x}\n", hex(book))
+            }
         }
     }
 
-    /// What the calls, the slip or the writer should give.
+    /// What the calls, the slip, the writer or the salvage should give.
     pub fn answer(&self) -> String {
         match self {
             Case::Book { state, input, calls } => book_answer(state, input, calls),
             Case::Slip { ration, change } => slip_answer(*ration, *change),
             Case::Write { state, kind, values, room } => write_answer(state, *kind, values, *room),
+            Case::Damaged { book, book_room, list_room } => {
+                damaged_answer(book, *book_room, *list_room)
+            }
         }
     }
 
@@ -107,7 +115,8 @@ impl Case {
             "B" => tokens.book()?,
             "S" => tokens.slip()?,
             "W" => tokens.write()?,
-            other => return Err(format!("{other:?} is none of B, S and W")),
+            "D" => tokens.damaged()?,
+            other => return Err(format!("{other:?} is none of B, S, W and D")),
         };
         match tokens.next() {
             Err(_) => Ok(case),
@@ -200,6 +209,11 @@ impl<'a> Tokens<'a> {
         let values = (0..count).map(|_| self.number()).collect::<Result<_, _>>()?;
         Ok(Case::Write { state, kind, values, room })
     }
+
+    fn damaged(&mut self) -> Result<Case, Fault> {
+        let book = bytes_of(self.next()?)?;
+        Ok(Case::Damaged { book, book_room: self.number()?, list_room: self.number()? })
+    }
 }
 
 /// A checksum whose numbers stay small, over the whole buffer: the bytes written, and what stood past them.
@@ -285,4 +299,16 @@ fn write_answer(given: &State, kind: u64, values: &[u64], room: usize) -> String
     let (a, b) = checksum(&bytes, room);
     let (written, shown, state) = (bytes.len(), hex(&bytes), state_text(&state));
     format!("{code:x} {record:x} {field:x} {written:x} {a:x} {b:x} {shown}\n{state}\n")
+}
+
+/// Code 0 where a book is saved; a refusal writes nothing into either buffer.
+fn damaged_answer(damaged: &[u8], book_room: usize, list_room: usize) -> String {
+    let (code, book, list) = match salvage(damaged, book_room, list_room) {
+        Ok((book, list)) => (0, book, list),
+        Err(code) => (code, Vec::new(), Vec::new()),
+    };
+    let ((a, b), (c, d)) = (checksum(&book, book_room), checksum(&list, list_room));
+    let (kept, dropped) = (book.len(), list.len());
+    let shown = if dropped <= MOST_SHOWN { hex(&list) } else { "-".to_string() };
+    format!("{code:x} {kept:x} {dropped:x} {a:x} {b:x} {c:x} {d:x} {shown}\n")
 }

@@ -1,5 +1,6 @@
-// Replays trials of the book reader, of the writer and of the slip: cases on standard input, answers on standard output (docs/TRIALS.md).
+// Replays trials of the book reader, of the writer, of the salvage and of the slip: cases on standard input, answers on standard output (docs/TRIALS.md).
 mod books;
+mod saved;
 mod shown;
 mod slips;
 mod words;
@@ -39,6 +40,9 @@ fn replay(line: &[u8], input: &mut [u8], room: &mut [u8], out: &mut [u8], w: usi
     }
     if line[0] == b'W' {
         return written::replay(line, 2, room, out, w);
+    }
+    if line[0] == b'D' {
+        return saved::replay(line, 2, input, room, out, w);
     }
     books::replay(line, 2, input, room, out, w)
 }
