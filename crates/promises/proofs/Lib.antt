@@ -9,3 +9,4 @@ pub mod Headings
 pub mod Paper
 pub mod Taken
 pub mod Subtotals
+pub mod Limits

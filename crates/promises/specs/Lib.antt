@@ -2,3 +2,4 @@ pub mod Headings
 pub mod Taken
 pub mod Subtotals
 pub mod Paper
+pub mod Limits
