@@ -10,3 +10,4 @@ pub mod Paper
 pub mod Taken
 pub mod Subtotals
 pub mod Limits
+pub mod Totals

@@ -63,14 +63,14 @@ line-kind k g a b c d e p q = ap (λ (m : Mark). m .kind) (line-mark k g a b c d
 -- ---- what one record does
 
 -- one of the four figures that a group has too
-record Gas : Type 0 where
-  farm : Figures → ℕ
-  group : Subtotal → ℕ
-  adds : (f g : Figures) → farm (added f g) ≡ farm f + farm g
-  groups : (s : Subtotal) (f : Figures) → group (grouped s f) ≡ group s + farm f
-  none : group noSubtotal ≡ 0
-  air : (g : ℕ) → farm (co2Alone g) ≡ 0
-  ungrouped : (s : Subtotal) → Ungrouped s → group s ≡ 0
+pub record Gas : Type 0 where
+  pub farm : Figures → ℕ
+  pub group : Subtotal → ℕ
+  pub adds : (f g : Figures) → farm (added f g) ≡ farm f + farm g
+  pub groups : (s : Subtotal) (f : Figures) → group (grouped s f) ≡ group s + farm f
+  pub none : group noSubtotal ≡ 0
+  pub air : (g : ℕ) → farm (co2Alone g) ≡ 0
+  pub ungrouped : (s : Subtotal) → Ungrouped s → group s ≡ 0
 
 -- whether a record closes the book
 abbrev closing : List ℕ → Bool
@@ -160,10 +160,10 @@ module _ (a : Account) (r : List ℕ) (f : AccountInRange a) (kinds : leb 1 (kin
 -- ---- a run of records
 
 -- what the records accepted make, beginning with the account a
-record Summed (a : Account) (rs : List (List ℕ)) (r : Run) : Type 0 where
-  sums : r .state .account .sums ≡ farmOf (a .heading) (a .sums) rs
-  lines : subtotalLines (r .lines) ≡ map lineOfGroup (groupsOf (a .heading) (a .subtotal) rs)
-  closed : (x : Gas) → a .stage < 2 → r .state .account .stage ≡ 2
+pub record Summed (a : Account) (rs : List (List ℕ)) (r : Run) : Type 0 where
+  pub sums : r .state .account .sums ≡ farmOf (a .heading) (a .sums) rs
+  pub lines : subtotalLines (r .lines) ≡ map lineOfGroup (groupsOf (a .heading) (a .subtotal) rs)
+  pub closed : (x : Gas) → a .stage < 2 → r .state .account .stage ≡ 2
       → x .farm (r .state .account .sums) + x .group (a .subtotal) ≡ x .farm (a .sums) + addedUp (x .group) (groupsOf (a .heading) (a .subtotal) rs)
 
 record Grows (a : Account) (xs : List ℕ) (r : Run) : Type 0 where
@@ -323,7 +323,7 @@ summed (suc n) a xs h v =
     (λ (k : 2 ≤ a .stage). rw (book-ended a xs k) (none-summed a xs _ refl refl refl (λ h q. omega arith)))
     (lt-or-ge (a .stage) 2)
 
-from-state : (s : State) (xs : List ℕ) → InRange s → Summed (s .account) (acceptedRecords s xs) (run s xs)
+pub from-state : (s : State) (xs : List ℕ) → InRange s → Summed (s .account) (acceptedRecords s xs) (run s xs)
 unfolding run
 from-state s xs v = summed (suc (length (heldOf s ++ xs))) (s .account) (heldOf s ++ xs) (omega arith) (v .account) .summed
 
@@ -338,7 +338,7 @@ pub sums-of-farm : (s : State) (xs : List ℕ) → InRange s → run s xs .state
 sums-of-farm s xs v = from-state s xs v .sums
 
 -- the four figures that groups have
-abbrev ch4 : Gas
+abbrev pub ch4 : Gas
 ch4 =
     record {
       farm = λ (f : Figures). f .ch4;
@@ -350,7 +350,7 @@ ch4 =
       ungrouped = λ s u. u .ch4;
     }
 
-abbrev n2o : Gas
+abbrev pub n2o : Gas
 n2o =
     record {
       farm = λ (f : Figures). f .n2o .0;
@@ -362,7 +362,7 @@ n2o =
       ungrouped = λ s u. u .n2o;
     }
 
-abbrev excreted : Gas
+abbrev pub excreted : Gas
 excreted =
     record {
       farm = λ (f : Figures). f .excreted;
@@ -374,7 +374,7 @@ excreted =
       ungrouped = λ s u. u .excreted;
     }
 
-abbrev land : Gas
+abbrev pub land : Gas
 land =
     record {
       farm = λ (f : Figures). f .land;

@@ -3,3 +3,4 @@ pub mod Taken
 pub mod Subtotals
 pub mod Paper
 pub mod Limits
+pub mod Totals
