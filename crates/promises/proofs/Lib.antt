@@ -11,3 +11,4 @@ pub mod Taken
 pub mod Subtotals
 pub mod Limits
 pub mod Totals
+pub mod SoFar

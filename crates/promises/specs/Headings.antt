@@ -2,12 +2,14 @@
 -- there is no state, no call and no line buffer in it.
 -- Assumes nothing.
 use Prim.Native.Nat.{ℕ, zero, suc}
-use mathlib.Core.List.{List, [], _∷_, _++_}
+use mathlib.Core.Path.{_≡_}
+use mathlib.Core.List.{List, [], _∷_, _++_, map}
 use lib.ListN.{length, take, drop}
 use lib.Dec.{eqb}
 use Rattle.base.specs.Choice.{pick}
 use Rattle.codec.specs.Codec.{valAt}
 use Rattle.account.specs.Sorts.{sortOf, bySort}
+use Rattle.account.specs.Line.{joined}
 use Rattle.account.specs.Judge.{kindOf}
 use Rattle.book.specs.Front.{Front, unfinished, badLength, whole, need, front}
 
@@ -61,3 +63,9 @@ ownMark g k =
 unfoldable pub marksOf : ℕ → List (List ℕ) → List Mark
 marksOf g [] = []
 marksOf g (r ∷ rs) = ownMark g (kindOf r) ++ marksOf (lastGroup g (r ∷ [])) rs
+
+-- some bytes are lines one after the other, which bear these marks
+pub record Bears (marks : List Mark) (bytes : List ℕ) : Type 0 where
+  pub lines : List (List ℕ)
+  pub are : bytes ≡ joined lines
+  pub bear : map markOf lines ≡ marks
