@@ -71,7 +71,7 @@ pub total-mark : (ch4 n2o co2 excreted land co2e : ℕ) → markOf (totalBytes c
 unfolding totalBytes totalFields bytesOf be valAt
 total-mark ch4 n2o co2 excreted land co2e = refl
 
-map-append : (xs ys : List (List ℕ)) → map markOf (xs ++ ys) ≡ map markOf xs ++ map markOf ys
+pub map-append : (xs ys : List (List ℕ)) → map markOf (xs ++ ys) ≡ map markOf xs ++ map markOf ys
 map-append [] ys = refl
 map-append (x ∷ xs) ys = ap (λ (l : List Mark). markOf x ∷ l) (map-append xs ys)
 
@@ -81,16 +81,16 @@ group-most a f = ⊎-elim (λ (h : Headed (a .heading) (a .days) (a .records)). 
 -- ---- what one record does
 
 -- it is accepted: one record more, its line bears what it should, and the group is that of the last heading
-record Grown (a : Account) (r : List ℕ) (j : Step) : Type 0 where
-  counted : j .account .records ≡ a .records + 1
-  marks : map markOf (j .lines) ≡ ownMark (a .heading .group) (kindOf r)
-  group : j .account .heading .group ≡ lastGroup (a .heading .group) (r ∷ [])
+pub record Grown (a : Account) (r : List ℕ) (j : Step) : Type 0 where
+  pub counted : j .account .records ≡ a .records + 1
+  pub marks : map markOf (j .lines) ≡ ownMark (a .heading .group) (kindOf r)
+  pub group : j .account .heading .group ≡ lastGroup (a .heading .group) (r ∷ [])
 
 -- or refused: no record more, and no line
-record Stopped (a : Account) (j : Step) : Type 0 where
-  stage : j .account .stage ≡ 3
-  counted : j .account .records ≡ a .records
-  none : j .lines ≡ []
+pub record Stopped (a : Account) (j : Step) : Type 0 where
+  pub stage : j .account .stage ≡ 3
+  pub counted : j .account .records ≡ a .records
+  pub none : j .lines ≡ []
 
 module _ (a : Account) (r : List ℕ) (f : AccountInRange a) (kinds : leb 1 (kindOf r) && leb (kindOf r) 8 ≡ true) where
   small-kind : kindOf r < 256
@@ -134,7 +134,7 @@ kind-in a r e =
     let t = first-clear (refusals a r) (omega arith, (omega arith, (omega arith, (omega arith, (omega arith, (omega arith, (omega arith, (omega arith, (omega arith, (omega arith, (omega arith, tt))))))))))) e in
     not-false _ (t .1 .0 (omega arith))
 
-judged : (a : Account) (r : List ℕ) → AccountInRange a → Stopped a (judge a r) ⊎ Grown a r (judge a r)
+pub judged : (a : Account) (r : List ℕ) → AccountInRange a → Stopped a (judge a r) ⊎ Grown a r (judge a r)
 unfolding judge
 judged a r f =
     of-choice (λ (j : Step). Stopped a j ⊎ Grown a r j) (eqb (first (refusals a r)) 0)
@@ -144,9 +144,9 @@ judged a r f =
 -- ---- a run of records
 
 -- the lines of a run bear what those of the records accepted should
-record Marked (a : Account) (xs : List ℕ) (r : Run) : Type 0 where
-  grows : a .records ≤ r .state .account .records
-  marks : map markOf (r .lines) ≡ marksOf (a .heading .group) (take (r .state .account .records - a .records) (recordsOf xs))
+pub record Marked (a : Account) (xs : List ℕ) (r : Run) : Type 0 where
+  pub grows : a .records ≤ r .state .account .records
+  pub marks : map markOf (r .lines) ≡ marksOf (a .heading .group) (take (r .state .account .records - a .records) (recordsOf xs))
 
 -- nothing accepted, no line
 none-marked : (a : Account) (xs : List ℕ) (r : Run) → r .state .account .records ≡ a .records → r .lines ≡ [] → Marked a xs r
@@ -183,7 +183,7 @@ marked-at a xs v k ih whole e =
     (λ (g : Grown a (take (need xs) xs) j). one-marked a xs j (book (j .account) rest) e g (ih (j .account) rest short (in-range-judge a (take (need xs) xs) v k)))
     (judged a (take (need xs) xs) v))
 
-marked : (n : ℕ) (a : Account) (xs : List ℕ) → length xs < n → AccountInRange a → Marked a xs (book a xs)
+pub marked : (n : ℕ) (a : Account) (xs : List ℕ) → length xs < n → AccountInRange a → Marked a xs (book a xs)
 marked zero a xs h v = absurd (omega arith)
 marked (suc n) a xs h v =
     ⊎-elim

@@ -12,3 +12,4 @@ pub mod Subtotals
 pub mod Limits
 pub mod Totals
 pub mod SoFar
+pub mod WholeLines

@@ -1,7 +1,7 @@
 -- A way, at its end or not: what it has given and where it stands is what rule 2 gives for the bytes that it has taken; so the heading law holds of
 -- each call and of each way. And some way ends, for every state in range and every run.
 -- Assumes nothing.
-use Prim.Native.Nat.{ℕ, zero, suc, _+_, _-_, _≤_, _<_}
+use Prim.Native.Nat.{ℕ, _+_, _-_, _≤_, _<_}
 use mathlib.Core.Path.{_≡_, refl, sym, ap, _∙_}
 use mathlib.Core.List.{List, [], _∷_, _++_, append-nil}
 use mathlib.Core.Logic.{inl, inr, ⊎-elim}

@@ -4,3 +4,4 @@ pub mod Subtotals
 pub mod Paper
 pub mod Limits
 pub mod Totals
+pub mod WholeLines
