@@ -5,3 +5,4 @@ pub mod Paper
 pub mod Limits
 pub mod Totals
 pub mod WholeLines
+pub mod Answers
