@@ -2,20 +2,19 @@
 -- complete none before it.
 -- Assumes nothing.
 use Prim.Native.Nat.{ℕ, zero, suc, _+_, _-_, _*_, _/_, _%_, _≤_, _<_}
-use mathlib.Core.Path.{_≡_, refl, sym, ap, _∙_}
-use mathlib.Core.List.{List, [], _∷_, _++_, map, append-assoc, append-nil}
-use mathlib.Core.Bool.{Bool, true, false, _&&_, _||_, not}
+use mathlib.Core.Path.{_≡_, refl, ap, _∙_}
+use mathlib.Core.List.{List, [], _∷_, _++_, map, append-assoc}
+use mathlib.Core.Bool.{Bool, true, false, _&&_}
 use mathlib.Core.Logic.{_⊎_, inl, inr, ⊎-elim}
 use native.Mathlib.Omega.{arith}
 use borrow.Author.Tests.{leb-true, eqb-true}
-use lib.ListN.{length, getD, take, drop, length-append, length-drop}
+use lib.ListN.{length, getD, take, drop, length-drop}
 use lib.Dec.{leb, eqb}
 use Rattle.base.specs.Choice.{pick}
 use Rattle.base.proofs.Tests.{and-r, lt-or-ge, not-false, of-choice}
-use Rattle.codec.specs.Table.{table, fields, lineFields, totalFields}
+use Rattle.codec.specs.Table.{table, lineFields, totalFields}
 use Rattle.codec.specs.Codec.{valAt, be, valuesAt, bytesOf, lineBytes, totalBytes}
 use Rattle.account.specs.declared.Account.{Account}
-use Rattle.account.specs.declared.Heading.{Heading}
 use Rattle.account.specs.Sorts.{heads, ofGroup, sortOf}
 use Rattle.account.specs.Line.{lineWith, subtotals, totalOf}
 use Rattle.account.specs.Figures.{groupFigures}
@@ -26,11 +25,11 @@ use Rattle.account.proofs.First.{first-clear}
 use Rattle.account.proofs.Keeps.{in-range-judge}
 use Rattle.book.specs.declared.State.{State}
 use Rattle.book.specs.Front.{Front, unfinished, badLength, whole, need, front}
-use Rattle.book.specs.State.{heldOf, holding, InRange}
+use Rattle.book.specs.State.{heldOf, InRange}
 use Rattle.book.specs.Run.{Run, book, run}
 use Rattle.book.proofs.FrontLaws.{meaning}
 use Rattle.book.proofs.RunLaws.{book-ended, book-unfinished, book-bad, book-whole}
-use Rattle.promises.specs.Headings.{beginsWith, recordsBy, recordsOf, groupBy, lastGroup, Mark, markOf, subtotalMark, ownMark, marksOf}
+use Rattle.promises.specs.Headings.{beginsWith, recordsBy, recordsOf, acceptedRecords, groupBy, lastGroup, Mark, markOf, subtotalMark, ownMark, marksOf}
 
 -- ---- the records of some bytes
 
@@ -190,10 +189,6 @@ marked (suc n) a xs h v =
     (λ (k : a .stage < 2). marked-at a xs v k (λ t zs p w. marked n t zs (omega arith) w) (front xs) refl)
     (λ (k : 2 ≤ a .stage). rw (book-ended a xs k) (none-marked a xs _ refl refl))
     (lt-or-ge (a .stage) 2)
-
--- the records that a run from s over xs accepts, of those that held bytes and run make together
-abbrev pub acceptedRecords : State → List ℕ → List (List ℕ)
-acceptedRecords s xs = take (run s xs .state .account .records - s .account .records) (recordsOf (heldOf s ++ xs))
 
 -- Line by line: the lines of a run bear the kinds of the records accepted, and the groups of the last headings before them, beginning
 -- with the group of the state.

@@ -23,10 +23,9 @@ use Rattle.book.specs.Front.{front}
 use Rattle.book.specs.State.{noRecordYet, holding, inRange, InRange}
 use Rattle.book.specs.Run.{bookBy, book, run}
 use Rattle.book.specs.Call.{longest, answerOf, call}
-use Rattle.book.specs.Way.{Part, way, Ended}
-use Rattle.promises.specs.Headings.{recordsBy, recordsOf, lastGroup}
-use Rattle.promises.specs.Paper.{verdictOf, paper, sample, sampleLines, everyKind, everyKindLines}
-use Rattle.promises.proofs.Headings.{acceptedRecords}
+use Rattle.book.specs.Way.{way, Ended}
+use Rattle.promises.specs.Headings.{recordsBy, recordsOf, lastGroup, acceptedRecords}
+use Rattle.promises.specs.Paper.{verdictOf, paper, sample, sampleLines, fiveParts, everyKind, everyKindLines}
 use Rattle.book.proofs.RunLeaves.{run-leaves}
 use Rattle.promises.proofs.StaysInRange.{new-in-range}
 
@@ -77,15 +76,6 @@ unfolding inRange accountInRange
 outside-state = refl
 
 -- A way that is at its end: the sample book in five parts, with buffers that are too small at first.
-abbrev pub fiveParts : List Part
-fiveParts =
-    record { offered = 25; room = 0 }
-    ∷ record { offered = 7; room = 45 }
-    ∷ record { offered = 30; room = 50 }
-    ∷ record { offered = 100; room = 92 }
-    ∷ record { offered = 100; room = 100 }
-    ∷ []
-
 pub ended-way : Ended (way noRecordYet sample fiveParts)
 unfolding table size valAt be valuesAt firstBad bytesOf lineBytes totalBytes lineFields totalFields roundDiv cattle.entericOf energyOf co2eOf figuresOf accountInRange first inPlace accepted sortOf judge front bookBy book run inRange longest answerOf call way
 ended-way = inl refl

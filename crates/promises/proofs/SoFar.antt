@@ -22,12 +22,12 @@ use Rattle.book.proofs.RunLeaves.{run-leaves}
 use Rattle.book.proofs.Outcomes.{join, outcome-append}
 use Rattle.book.proofs.CallLaws.{call-at}
 use Rattle.promises.specs.Taken.{takenBy}
-use Rattle.promises.specs.Headings.{marksOf, Bears}
+use Rattle.promises.specs.Headings.{marksOf, Bears, acceptedRecords}
 use Rattle.promises.proofs.Fitting.{longest-most, longest-least}
 use Rattle.promises.proofs.SureStep.{takes-one}
 use Rattle.promises.proofs.StaysInRange.{stays-in-range}
 use Rattle.promises.proofs.Taken.{taken-most, way-leaves}
-use Rattle.promises.proofs.Headings.{acceptedRecords, headings}
+use Rattle.promises.proofs.Headings.{headings}
 
 -- ---- the bytes that a run takes
 

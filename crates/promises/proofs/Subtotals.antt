@@ -3,26 +3,24 @@
 -- Assumes nothing.
 use Prim.Native.Nat.{ℕ, zero, suc, _+_, _-_, _≤_, _<_}
 use mathlib.Core.Path.{_≡_, refl, sym, ap, _∙_}
-use mathlib.Core.List.{List, [], _∷_, _++_, map, append-assoc, append-nil}
-use mathlib.Core.Bool.{Bool, true, false, _&&_, _||_, not}
+use mathlib.Core.List.{List, [], _∷_, _++_, map, append-nil}
+use mathlib.Core.Bool.{Bool, true, false, _&&_}
 use mathlib.Core.Logic.{_⊎_, inl, inr, ⊎-elim}
 use native.Mathlib.Omega.{arith}
 use borrow.Author.Tests.{eqb-true, ne-eqb}
-use lib.ListN.{length, getD, take, drop, length-drop}
+use lib.ListN.{length, take, drop, length-drop}
 use lib.Dec.{leb, eqb}
 use Rattle.base.specs.Choice.{pick}
 use Rattle.base.proofs.Tests.{lt-or-ge, no-bool, of-choice, true-or-false}
-use Rattle.codec.specs.Table.{fields}
-use Rattle.codec.specs.Codec.{valAt, valuesAt, lineBytes}
+use Rattle.codec.specs.Codec.{valAt, lineBytes}
 use Rattle.account.specs.declared.Account.{Account}
-use Rattle.account.specs.declared.Heading.{Heading}
 use Rattle.account.specs.declared.Figures.{Figures}
 use Rattle.account.specs.declared.Subtotal.{Subtotal}
 use Rattle.account.specs.Sorts.{Sort, opens, heads, ofGroup, ofFarm, closes, sortOf, bySort}
 use Rattle.account.specs.Figures.{noFigures, noSubtotal, added, grouped, groupFigures, co2Alone, figuresOf}
 use Rattle.account.specs.Line.{lineWith, subtotals, totalOf}
 use Rattle.account.specs.Range.{Ungrouped, AccountInRange}
-use Rattle.account.specs.Judge.{kindOf, valuesOf, noRecord, first, refusals, Step, accepted, judge}
+use Rattle.account.specs.Judge.{kindOf, valuesOf, first, refusals, Step, accepted, judge}
 use Rattle.account.proofs.Sorts.{by-sort, not-of-group, kind-most}
 use Rattle.account.proofs.Keeps.{in-range-judge}
 use Rattle.book.specs.declared.State.{State}
@@ -32,9 +30,9 @@ use Rattle.book.specs.Run.{Run, book, run}
 use Rattle.book.proofs.FrontLaws.{meaning}
 use Rattle.promises.proofs.StaysInRange.{new-in-range}
 use Rattle.book.proofs.RunLaws.{book-ended, book-unfinished, book-bad, book-whole}
-use Rattle.promises.specs.Headings.{Mark, markOf, recordsOf}
-use Rattle.promises.specs.Subtotals.{detailOf, headingAfter, groupAfter, farmAfter, Group, groupUnder, ends, groupsOf, farmOf, addedUp, lineOfGroup, subtotalLines}
-use Rattle.promises.proofs.Headings.{line-mark, total-mark, group-most, records-whole, kind-in, acceptedRecords}
+use Rattle.promises.specs.Headings.{Mark, recordsOf, acceptedRecords}
+use Rattle.promises.specs.Subtotals.{detailOf, headingAfter, groupAfter, farmAfter, Group, groupUnder, ends, groupsOf, farmOf, farm, groups, addedUp, lineOfGroup, subtotalLines}
+use Rattle.promises.proofs.Headings.{line-mark, total-mark, group-most, records-whole, kind-in}
 
 -- ---- lines of kind 16
 
@@ -385,13 +383,6 @@ land =
       air = λ g. refl;
       ungrouped = λ s u. u .land;
     }
-
--- the figures of a whole book, and the groups of its records
-abbrev farm : List ℕ → Figures
-farm xs = farmOf (noRecord .heading) (noRecord .sums) (acceptedRecords noRecordYet xs)
-
-abbrev groups : List ℕ → List Group
-groups xs = groupsOf (noRecord .heading) (noRecord .subtotal) (acceptedRecords noRecordYet xs)
 
 whole-book : (x : Gas) (xs : List ℕ) → run noRecordYet xs .state .account .stage ≡ 2 → x .farm (farm xs) + x .group noSubtotal ≡ x .farm noFigures + addedUp (x .group) (groups xs)
 whole-book x xs e = rw (sums-of-farm noRecordYet xs new-in-range) at (from-state noRecordYet xs new-in-range .closed x (omega arith) e)

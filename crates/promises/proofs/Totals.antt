@@ -29,9 +29,9 @@ use Rattle.book.specs.Run.{Run, book, run}
 use Rattle.book.proofs.FrontLaws.{meaning}
 use Rattle.book.proofs.RunLaws.{book-ended, book-unfinished, book-bad, book-whole}
 use Rattle.book.proofs.RunLeaves.{run-leaves}
+use Rattle.promises.specs.Headings.{acceptedRecords}
 use Rattle.promises.specs.Subtotals.{Group, groupsOf, addedUp, lineOfGroup, subtotalLines}
 use Rattle.promises.specs.Totals.{lastOf, addedLines, EachOfGroup, Gains}
-use Rattle.promises.proofs.Headings.{acceptedRecords}
 use Rattle.promises.proofs.StaysInRange.{new-in-range}
 use Rattle.promises.proofs.Subtotals.{Gas, ch4, n2o, excreted, land, from-state, subtotal-lines}
 

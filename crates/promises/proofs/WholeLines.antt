@@ -22,10 +22,10 @@ use Rattle.book.specs.Front.{Front, unfinished, badLength, whole, need, front}
 use Rattle.book.specs.State.{heldOf, InRange}
 use Rattle.book.specs.Run.{book, run}
 use Rattle.book.proofs.RunLaws.{book-ended, book-unfinished, book-bad, book-whole}
-use Rattle.promises.specs.Headings.{recordsOf, lastGroup, marksOf}
+use Rattle.promises.specs.Headings.{recordsOf, lastGroup, marksOf, acceptedRecords}
 use Rattle.promises.specs.Subtotals.{headingAfter}
 use Rattle.promises.specs.WholeLines.{isDetail, lastHeading, Among}
-use Rattle.promises.proofs.Headings.{Grown, Stopped, judged, marked, map-append, records-whole, acceptedRecords}
+use Rattle.promises.proofs.Headings.{Grown, Stopped, judged, marked, map-append, records-whole}
 
 -- ---- what one record does
 

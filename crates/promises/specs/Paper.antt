@@ -13,6 +13,7 @@ use Rattle.account.specs.Figures.{cattleRation, pigRation}
 use Rattle.account.specs.declared.Account.{Account}
 use Rattle.book.specs.State.{noRecordYet}
 use Rattle.book.specs.Run.{run}
+use Rattle.book.specs.Way.{Part}
 
 -- what a book has come to: stage, records accepted, and the refusal's code, record number and field
 abbrev pub verdictOf : Account → List ℕ
@@ -83,6 +84,16 @@ sampleLines =
     ∷ lineBytes 3 12 392453 0 0 0 0
     ∷ lineBytes 16 12 826954 0 0 0 0
     ∷ totalBytes 826954 0 875000 0 0 18241034
+    ∷ []
+
+-- the sample book in five parts, with buffers that are too small at first
+abbrev pub fiveParts : List Part
+fiveParts =
+    record { offered = 25; room = 0 }
+    ∷ record { offered = 7; room = 45 }
+    ∷ record { offered = 30; room = 50 }
+    ∷ record { offered = 100; room = 92 }
+    ∷ record { offered = 100; room = 100 }
     ∷ []
 
 -- a book with every kind, in set 2, with two groups: no figure is zero where the rules give one. Its bytes, record by record
