@@ -1,17 +1,17 @@
 -- The whole line of any one detail record: its kind, the group and the figures, from the last heading record before it and its own values.
 -- Assumes nothing.
 use Prim.Native.Nat.{ℕ, suc, _+_, _-_, _≤_, _<_}
-use mathlib.Core.Path.{_≡_, refl, ap, _∙_}
+use mathlib.Core.Path.{_≡_, refl, sym, ap, _∙_}
 use mathlib.Core.List.{List, [], _∷_, _++_, append-assoc}
-use mathlib.Core.Bool.{true}
+use mathlib.Core.Bool.{true, false, _&&_, not}
 use mathlib.Core.Logic.{⊎-elim}
 use native.Mathlib.Omega.{arith}
 use lib.ListN.{length, getD, take, drop}
 use lib.Dec.{eqb}
-use Rattle.base.proofs.Tests.{lt-or-ge, no-bool, of-choice}
+use Rattle.base.proofs.Tests.{and-l, and-r, lt-or-ge, no-bool, not-true, of-choice}
 use Rattle.account.specs.declared.Account.{Account}
 use Rattle.account.specs.declared.Heading.{Heading}
-use Rattle.account.specs.Sorts.{sortOf}
+use Rattle.account.specs.Sorts.{Sort, opens, heads, ofGroup, ofFarm, closes, sortOf, bySort}
 use Rattle.account.specs.Line.{lineOf}
 use Rattle.account.specs.Range.{AccountInRange}
 use Rattle.account.specs.Judge.{kindOf, valuesOf, first, refusals, Step, accepted, judge}
@@ -24,7 +24,7 @@ use Rattle.book.specs.Run.{book, run}
 use Rattle.book.proofs.RunLaws.{book-ended, book-unfinished, book-bad, book-whole}
 use Rattle.promises.specs.Headings.{recordsOf, lastGroup, marksOf, acceptedRecords}
 use Rattle.promises.specs.Subtotals.{headingAfter}
-use Rattle.promises.specs.WholeLines.{isDetail, lastHeading, Among}
+use Rattle.promises.specs.WholeLines.{isDetail, lastHeading, isHeading, headingFrom, noHeading, Among}
 use Rattle.promises.proofs.Headings.{Grown, Stopped, judged, marked, map-append, records-whole}
 
 -- ---- what one record does
@@ -126,3 +126,42 @@ pub line-of-record : (s : State) (xs : List ℕ) → InRange s → (before after
     → Among (marksOf (s .account .heading .group) before) (lineOf (lastHeading (s .account .heading) before) (kindOf r) (valuesOf r)) (run s xs .lines)
 unfolding run
 line-of-record s xs v before after r e d = among before after r d (s .account) (heldOf s ++ xs) (v .account) e
+
+-- ---- under the last heading record before it
+
+-- records among which is no heading leave the heading
+stays : (h : Heading) (rs : List (List ℕ)) → noHeading rs ≡ true → lastHeading h rs ≡ h
+unfolding lastHeading noHeading
+stays h [] n = refl
+stays h (r ∷ rs) n =
+    let a : isHeading r ≡ false = not-true (isHeading r) (and-l (not (isHeading r)) (noHeading rs) n) in
+    let e : headingAfter h r ≡ h = other-stays (sortOf (kindOf r)) h (headingFrom r) a in
+    ap (λ (g : Heading). lastHeading g rs) e ∙ stays h rs (and-r (not (isHeading r)) (noHeading rs) n)
+  where
+    other-stays : (s : Sort) (g new : Heading) → bySort s false true false false false ≡ false → bySort s g new g g g ≡ g
+    other-stays opens g new e = refl
+    other-stays heads g new e = no-bool (sym e)
+    other-stays ofGroup g new e = refl
+    other-stays ofFarm g new e = refl
+    other-stays closes g new e = refl
+
+-- a heading record brings its own
+brings : (s : Sort) (g new : Heading) → bySort s false true false false false ≡ true → bySort s g new g g g ≡ new
+brings opens g new e = no-bool e
+brings heads g new e = refl
+brings ofGroup g new e = no-bool e
+brings ofFarm g new e = no-bool e
+brings closes g new e = no-bool e
+
+last-is : (before between : List (List ℕ)) (l : List ℕ) (h : Heading) → isHeading l ≡ true → noHeading between ≡ true → lastHeading h (before ++ (l ∷ between)) ≡ headingFrom l
+unfolding lastHeading
+last-is [] between l h e n = ap (λ (g : Heading). lastHeading g between) (brings (sortOf (kindOf l)) h (headingFrom l) e) ∙ stays (headingFrom l) between n
+last-is (b ∷ before) between l h e n = last-is before between l (headingAfter h b) e n
+
+-- Where they are some, then a heading record l, then some without a heading, then a detail r, then others, r's line is made of l's group, class and
+-- head and of r's values alone.
+pub line-under-heading : (s : State) (xs : List ℕ) → InRange s → (before between after : List (List ℕ)) (l r : List ℕ)
+    → acceptedRecords s xs ≡ (before ++ (l ∷ between)) ++ (r ∷ after) → isHeading l ≡ true → noHeading between ≡ true → isDetail r ≡ true
+    → Among (marksOf (s .account .heading .group) (before ++ (l ∷ between))) (lineOf (headingFrom l) (kindOf r) (valuesOf r)) (run s xs .lines)
+line-under-heading s xs v before between after l r e q n d =
+    rw (last-is before between l (s .account .heading) q n) at (line-of-record s xs v (before ++ (l ∷ between)) after r e d)
