@@ -3,6 +3,7 @@
 mod books;
 mod calls;
 mod cases;
+mod damages;
 mod desk;
 mod dice;
 mod feed;
@@ -13,6 +14,7 @@ mod lister;
 mod parts;
 mod plain;
 mod record;
+mod salvage;
 mod slip;
 mod slips;
 mod state;
@@ -37,6 +39,8 @@ const USAGE: &str = "usage:
   second desk SEED COUNT             books for the C host, with what they should give
   second typed                       reads a typed text, writes its book and says what the writer says
   second text SEED INDEX             a typed text by chance
+  second salvage                     reads a damaged book, writes the clean one and says what was dropped
+  second damaged SEED INDEX          a damaged book by chance
 ";
 
 fn main() {
@@ -51,6 +55,8 @@ fn main() {
         ["desk", seed, count] => desk_books(seed, count),
         ["typed"] => enter_typed(),
         ["text", seed, index] => some_text(seed, index),
+        ["salvage"] => save_damaged(),
+        ["damaged", seed, index] => some_damaged(seed, index),
         _ => Err(USAGE.to_string()),
     };
     if let Err(fault) = done {
@@ -134,4 +140,22 @@ fn enter_typed() -> Result<(), String> {
 fn some_text(seed: &str, index: &str) -> Result<(), String> {
     let (seed, index) = (whole_number(seed)?, whole_number(index)?);
     write_bytes(&texts::text(seed, index))
+}
+
+/// The clean book is on standard output, what was dropped on standard error; the status is 1 where no book was saved.
+fn save_damaged() -> Result<(), String> {
+    let mut damaged = Vec::new();
+    io::stdin().read_to_end(&mut damaged).map_err(|e| e.to_string())?;
+    let told = salvage::tell(&damaged);
+    write_bytes(&told.book)?;
+    eprint!("{}", told.said);
+    if !told.saved {
+        std::process::exit(1);
+    }
+    Ok(())
+}
+
+fn some_damaged(seed: &str, index: &str) -> Result<(), String> {
+    let (seed, index) = (whole_number(seed)?, whole_number(index)?);
+    write_bytes(&damages::damaged(seed, index))
 }

@@ -1,14 +1,15 @@
 -- The ranges of an account, in parts and as a test: each says the other.
 -- Assumes nothing.
-use Prim.Native.Nat.{ℕ, _*_, _^_, _≤_}
+use Prim.Native.Nat.{ℕ, _*_, _^_}
 use mathlib.Core.Path.{_≡_, refl}
 use mathlib.Core.List.{List, [], _∷_}
 use mathlib.Core.Bool.{Bool, true, false, _&&_, _||_, not}
 use mathlib.Core.Logic.{_⊎_, inl, inr, ⊎-elim}
-use native.Mathlib.Omega.{arith}
 use borrow.Author.Tests.{leb-true, le-leb, eqb-true, eqb-false, eq-eqb, ne-eqb}
 use lib.Dec.{leb, eqb}
 use Rattle.base.proofs.Tests.{Each, all-each, and-l, and-r, each-all, implied, implies, or-cases, or-left, or-right}
+use Rattle.grams.specs.Units.{co2Within}
+use Rattle.grams.proofs.Carbon.{within-true, within-test}
 use Rattle.account.specs.declared.Account.{Account}
 use Rattle.account.specs.declared.Heading.{Heading}
 use Rattle.account.specs.declared.Days.{Days}
@@ -149,7 +150,7 @@ module _ (f : Figures) (records : ℕ) where
   abbrev boundedRest : List Bool
   boundedRest =
       leb (f .n2o .0) (records * 10 ^ 10)
-      ∷ leb (f .co2) (records * 10 ^ 13)
+      ∷ co2Within records (f .co2)
       ∷ leb (f .excreted) (records * 10 ^ 11)
       ∷ leb (f .land) (records * 10 ^ 11)
       ∷ []
@@ -160,7 +161,7 @@ module _ (f : Figures) (records : ℕ) where
       record {
         ch4 = leb-true _ _ (t .0);
         n2o = leb-true _ _ (t .1 .0);
-        co2 = leb-true _ _ (t .1 .1 .0);
+        co2 = within-true _ _ (t .1 .1 .0);
         excreted = leb-true _ _ (t .1 .1 .1 .0);
         land = leb-true _ _ (t .1 .1 .1 .1 .0);
       }
@@ -168,7 +169,7 @@ module _ (f : Figures) (records : ℕ) where
   bounded-test : Bounded f records → boundedTest f records ≡ true
   bounded-test b =
       each-all (leb (f .ch4) (records * 10 ^ 11)) boundedRest (le-leb _ _ (b .ch4))
-      (le-leb _ _ (b .n2o), (le-leb _ _ (b .co2), (le-leb _ _ (b .excreted), (le-leb _ _ (b .land), tt))))
+      (le-leb _ _ (b .n2o), (within-test _ _ (b .co2), (le-leb _ _ (b .excreted), (le-leb _ _ (b .land), tt))))
 
 module _ (s : Subtotal) where
   abbrev groupedRest : ℕ → List Bool

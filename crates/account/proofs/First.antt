@@ -1,13 +1,13 @@
 -- Laws of the first refusal of a list.
 -- Assumes nothing.
 use Prim.Native.Nat.{ℕ, _≤_, _<_}
-use mathlib.Core.Path.{_≡_, refl, sym, _∙_}
+use mathlib.Core.Path.{_≡_, refl}
 use mathlib.Core.List.{List, [], _∷_}
 use mathlib.Core.Bool.{Bool, true, false}
 use native.Mathlib.Omega.{arith}
 use Rattle.base.specs.Choice.{pick}
-use Rattle.base.proofs.Tests.{no-bool, of-choice}
-use Rattle.account.specs.Judge.{first}
+use Rattle.base.proofs.Tests.{of-choice}
+use Rattle.account.specs.Judge.{first, LetsThrough, DecidedBy}
 
 -- ---- over any list
 
@@ -21,34 +21,54 @@ unfolding first
 first-most n [] w = omega arith
 first-most n (t ∷ ts) w = of-choice (λ (c : ℕ). c ≤ n) (t .0) (λ e. w .0) (λ e. first-most n ts (w .1))
 
--- where no test of the number c holds, the first refusal is not c
-abbrev pub Without : ℕ → List (Bool × ℕ) → Type 0
-Without c [] = Unit {0}
-Without c (t ∷ ts) = (t .1 ≡ c → t .0 ≡ false) × Without c ts
+-- what P says of each test, by its number
+abbrev pub Each : (ℕ → Bool → Type 0) → List (Bool × ℕ) → Type 0
+Each P [] = Unit {0}
+Each P (t ∷ ts) = P (t .1) (t .0) × Each P ts
 
-pub first-other : (c : ℕ) (ts : List (Bool × ℕ)) → 0 < c → Without c ts → first ts ≡ c → ⊥
+-- the numbers are above n and rise
+abbrev pub Rising : ℕ → List (Bool × ℕ) → Type 0
+Rising n [] = Unit {0}
+Rising n (t ∷ ts) = (n < t .1) × Rising (t .1) ts
+
+-- the first refusal is one of the numbers
+first-above : (n : ℕ) (ts : List (Bool × ℕ)) → Rising n ts → 0 < first ts → n < first ts
 unfolding first
-first-other c [] h w = λ e. omega arith
-first-other c (t ∷ ts) h w = of-choice (λ (f : ℕ). f ≡ c → ⊥) (t .0) (λ b e. no-bool (sym (w .0 e) ∙ b)) (λ b. first-other c ts h (w .1))
+first-above n [] w = λ h. absurd (omega arith)
+first-above n (t ∷ ts) w =
+    of-choice (λ (c : ℕ). 0 < c → n < c) (t .0) (λ e h. w .0) (λ e h. let l = first-above (t .1) ts (w .1) h in omega (arith, w .0, l))
 
--- no refusal means that no test holds
-abbrev pub Clear : List (Bool × ℕ) → Type 0
-Clear [] = Unit {0}
-Clear (t ∷ ts) = (0 < t .1 → t .0 ≡ false) × Clear ts
-
-head-clear : (b : Bool) (k c : ℕ) → pick b k c ≡ 0 → (0 < k → b ≡ false) × ((0 < k) → c ≡ 0)
-head-clear true k c e = (λ h. absurd (omega arith), λ h. absurd (omega arith))
-head-clear false k c e = (λ h. refl, λ h. e)
-
--- every number of the list is above 0
-abbrev pub Numbers : List (Bool × ℕ) → Type 0
-Numbers [] = Unit {0}
-Numbers (t ∷ ts) = (0 < t .1) × Numbers ts
-
-pub first-clear : (ts : List (Bool × ℕ)) → Numbers ts → first ts ≡ 0 → Clear ts
+-- no refusal means that no test refuses, and back
+pub first-none : (n : ℕ) (ts : List (Bool × ℕ)) → Rising n ts → first ts ≡ 0 → Each LetsThrough ts
 unfolding first
-first-clear [] n e = tt
-first-clear (t ∷ ts) n e = let h = head-clear (t .0) (t .1) (first ts) e in (h .0, first-clear ts (n .1) (h .1 (n .0)))
+first-none n [] w = λ e. tt
+first-none n (t ∷ ts) w = go (t .0) (first-none (t .1) ts (w .1))
+  where
+    go : (b : Bool) → (first ts ≡ 0 → Each LetsThrough ts) → pick b (t .1) (first ts) ≡ 0 → (b ≡ false) × Each LetsThrough ts
+    go true k e = absurd (omega (arith, w .0))
+    go false k e = (refl, k e)
+
+pub none-first : (ts : List (Bool × ℕ)) → Each LetsThrough ts → first ts ≡ 0
+unfolding first
+none-first [] w = refl
+none-first (t ∷ ts) w = rw (w .0) (none-first ts (w .1))
+
+-- tests behind the number c say nothing of it
+behind : (c n : ℕ) (ts : List (Bool × ℕ)) → c ≤ n → Rising n ts → Each (DecidedBy c) ts
+behind c n [] h w = tt
+behind c n (t ∷ ts) h w =
+    ((λ l. absurd (omega (arith, w .0)), λ e. absurd (omega (arith, w .0))), behind c (t .1) ts (omega (arith, w .0)) (w .1))
+
+-- the first refusal is c: no test before it refuses, and its own does
+pub first-by : (c n : ℕ) (ts : List (Bool × ℕ)) → Rising n ts → 0 < c → first ts ≡ c → Each (DecidedBy c) ts
+unfolding first
+first-by c n [] w h = λ e. tt
+first-by c n (t ∷ ts) w h = go (t .0) (first-by c (t .1) ts (w .1) h) (first-above (t .1) ts (w .1))
+  where
+    go : (b : Bool) → (first ts ≡ c → Each (DecidedBy c) ts) → (0 < first ts → t .1 < first ts) → pick b (t .1) (first ts) ≡ c
+        → DecidedBy c (t .1) b × Each (DecidedBy c) ts
+    go true k l e = ((λ m. absurd (omega arith), λ q. refl), behind c (t .1) ts (omega arith) (w .1))
+    go false k l e = ((λ m. refl, λ q. let z = l (omega arith) in absurd (omega arith)), k e)
 
 -- ---- the three that every kind has: 5, 6 and 7
 

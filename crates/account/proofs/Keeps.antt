@@ -1,22 +1,23 @@
 -- What a record keeps: the ranges of an account, whatever the record does, and the length of its lines.
 -- Assumes nothing.
-use Prim.Native.Nat.{ℕ, zero, suc, _+_, _*_, _^_, _≤_, _<_}
-use mathlib.Core.Path.{_≡_, refl, sym, ap, _∙_}
+use Prim.Native.Nat.{ℕ, zero, suc, _+_, _≤_, _<_}
+use mathlib.Core.Path.{_≡_, refl}
 use mathlib.Core.List.{List, [], _∷_, _++_, append-nil}
-use mathlib.Core.Bool.{Bool, true, false, _&&_, _||_, not}
+use mathlib.Core.Bool.{Bool, true, false, _&&_, not}
 use mathlib.Core.Logic.{_⊎_, inl, inr, ⊎-elim}
 use native.Mathlib.Omega.{arith}
-use borrow.Author.Tests.{leb-true, leb-false, ltb-false, eqb-true, eqb-false, eq-eqb, ne-eqb}
+use borrow.Author.Tests.{leb-true, ltb-false, eqb-true, eqb-false, eq-eqb, ne-eqb}
 use lib.ListN.{length, getD}
-use lib.Dec.{leb, ltb, eqb}
+use lib.Dec.{leb, eqb}
 use Rattle.base.specs.Choice.{pick}
 use Rattle.base.proofs.Tests.{and-l, and-r, not-false, not-true, of-choice}
 use Rattle.codec.specs.declared.Field.{Field}
-use Rattle.codec.specs.Table.{table, fields}
-use Rattle.codec.specs.Codec.{valAt, valuesAt, firstBad}
+use Rattle.codec.specs.Table.{table, fields, isKind}
+use Rattle.codec.specs.Codec.{firstBad}
 use Rattle.codec.proofs.Round.{line-length, total-length}
 use Rattle.codec.proofs.Within.{bad-position}
-use Rattle.grams.proofs.Small.{enteric-small, cattle-excreted-small, cattle-n2o-small, pig-ch4-small, pig-n2o-small, pig-excreted-small, pig-land-small, energy-small, soil-small}
+use Rattle.grams.proofs.Small.{enteric-small, cattle-excreted-small, cattle-n2o-small, pig-ch4-small, pig-n2o-small, pig-excreted-small}
+use Rattle.grams.proofs.Small.{pig-land-small, energy-small, soil-small}
 use Rattle.account.specs.declared.Account.{Account}
 use Rattle.account.specs.declared.Days.{Days}
 use Rattle.account.specs.declared.Figures.{Figures}
@@ -25,13 +26,15 @@ use Rattle.account.specs.Sorts.{sortOf}
 use Rattle.account.specs.Figures.{figuresOf, grouped, groupFigures}
 use Rattle.account.specs.Line.{joined, lineWith, lineOf, subtotals, totalOf}
 use Rattle.account.specs.Range.{Headed, Unheaded, Grouped, Ungrouped, Unrefused, AccountInRange}
-use Rattle.account.specs.Judge.{kindOf, valuesOf, noRecord, refused, opened, underHeading, withDetail, closed, headingServes, inPlace, daysOver, partsWrong, valueRefusals, refusals, first, Step, accepted, decided, weigh, judge}
+use Rattle.account.specs.Judge.{kindOf, valuesOf, noRecord, refused, opened, underHeading, withDetail, closed, headingServes, inPlace, refusals}
+use Rattle.account.specs.Judge.{first, ValuesPass, Step, accepted, judge}
 use Rattle.account.specs.Told.{Small}
 use Rattle.account.proofs.Sorts.{by-sort, each-kind}
-use Rattle.account.proofs.Sums.{bounded-none, bounded-next, bounded-added, grouped-none, ungrouped-none, grouped-next, grouped-added}
-use Rattle.account.proofs.First.{first-most, first-other, first-clear}
-use Rattle.account.proofs.Ranges.{FarmIn, farm-in, HeadingIn, heading-in, enteric-in, cattle-in, pig-in, energy-in, soil-in}
-use Rattle.account.proofs.Told.{head-most, small-ch4, small-co2, both-long, Passes}
+use Rattle.account.proofs.Sums.{ch4-small, co2-small, cattle-small, pig-small, bounded-none, bounded-next, bounded-added, grouped-none}
+use Rattle.account.proofs.Sums.{ungrouped-none, grouped-next, grouped-added}
+use Rattle.account.proofs.Refusals.{passed, not-refused, refused-by, number-most}
+use Rattle.account.proofs.Ranges.{farm-in, heading-in, enteric-in, cattle-in, pig-in, energy-in, soil-in}
+use Rattle.account.proofs.Told.{head-most, both-long}
 
 -- ---- an account in range
 
@@ -86,58 +89,9 @@ unfolding table Short
 row-short k =
     short-at table k (omega arith, (omega arith, (omega arith, (omega arith, (omega arith, (omega arith, (omega arith, (omega arith, (omega arith, tt)))))))))
 
--- the number is 12 at most, and 7 only where a field is out of range
-module _ (a : Account) (r : List ℕ) where
-  number-most : first (refusals a r) ≤ 12
-  number-most =
-      first-most 12 (refusals a r) (
-        omega arith,
-        (omega arith, (omega arith, (omega arith, (omega arith, (omega arith, (omega arith, (omega arith, (omega arith, (omega arith, (omega arith, tt)))))))))),
-      )
-
-  seven-field : first (refusals a r) ≡ 7 → firstBad (fields (kindOf r)) (valuesOf r) 0 ≡ 0 → ⊥
-  seven-field e z =
-      first-other 7 (refusals a r) (omega arith) (
-        λ q. absurd (omega arith),
-        (
-          λ q. absurd (omega arith),
-          (
-            λ q. absurd (omega arith),
-            (
-              λ q. absurd (omega arith),
-              (
-                λ q. absurd (omega arith),
-                (
-                  λ q. rw z,
-                  (
-                    λ q. absurd (omega arith),
-                    (λ q. absurd (omega arith), (λ q. absurd (omega arith), (λ q. absurd (omega arith), (λ q. absurd (omega arith), tt)))),
-                  ),
-                ),
-              ),
-            ),
-          ),
-        ),
-      ) e
-
--- what a record that is not refused has
-pub record Clear (a : Account) (k : ℕ) (v : List ℕ) : Type 0 where
-  pub passes : Passes a k v
-  pub days : daysOver (a .days) k v ≡ false
-  pub parts : partsWrong k v ≡ false
-
-pub clear : (a : Account) (k : ℕ) (v : List ℕ) → first (valueRefusals a k v) ≡ 0 → Clear a k v
-clear a k v e =
-    let t = first-clear (valueRefusals a k v) (omega arith, (omega arith, (omega arith, (omega arith, (omega arith, (omega arith, (omega arith, (omega arith, tt)))))))) e in
-    record {
-      passes = record {
-        room = leb-false _ _ (t .0 (omega arith));
-        place = not-false _ (t .1 .0 (omega arith));
-        ranges = eqb-true _ _ (not-false _ (t .1 .1 .0 (omega arith)));
-      };
-      days = t .1 .1 .1 .1 .0 (omega arith);
-      parts = t .1 .1 .1 .1 .1 .0 (omega arith);
-    }
+-- 7 is the number only where a field is out of range
+seven-field : (a : Account) (r : List ℕ) → first (refusals a r) ≡ 7 → firstBad (fields (kindOf r)) (valuesOf r) 0 ≡ 0 → ⊥
+seven-field a r e = eqb-false _ _ (not-true _ (refused-by a r 7 (omega arith) e .values .inRange .1 refl))
 
 -- ---- an account after a record that is not refused
 
@@ -257,82 +211,76 @@ module _ (a : Account) (f : AccountInRange a) (early : a .stage < 2) where
     -- ---- the details, kind by kind
 
     module _ (v : List ℕ) where
-      detail-enteric : Clear a 3 v → Kept (accepted a 3 v)
+      detail-enteric : ValuesPass a 3 v → Kept (accepted a 3 v)
       unfolding inPlace figuresOf accepted sortOf
       detail-enteric c =
-          let i = enteric-in v (a .heading .head) (head-most a f) (c .passes .ranges) in
-          let h = headed-by (leb-true _ _ (and-l _ _ (and-l _ _ (c .passes .place)))) in
-          in-range-grouped _ _ (small-ch4 _ _ refl (enteric-small i))
+          let i = enteric-in v (a .heading .head) (head-most a f) (passed a 3 v c .ranges) in
+          let h = headed-by (leb-true _ _ (and-l _ _ (and-l _ _ (passed a 3 v c .place)))) in
+          in-range-grouped _ _ (ch4-small _ (enteric-small i))
           (headed-on h _ (ltb-false _ _ (c .days)) (h .nitrogen-most) (h .pig-most))
 
-      detail-cattle : Clear a 4 v → Kept (accepted a 4 v)
+      detail-cattle : ValuesPass a 4 v → Kept (accepted a 4 v)
       unfolding inPlace figuresOf accepted sortOf
       detail-cattle c =
-          let i = cattle-in v (a .heading .head) (head-most a f) (c .passes .ranges) in
-          let h = headed-by (leb-true _ _ (and-l _ _ (and-l _ _ (c .passes .place)))) in
-          in-range-grouped _ _ (record { ch4 = omega arith; n2o = cattle-n2o-small i; co2 = omega arith; excreted = cattle-excreted-small i; land = omega arith })
+          let i = cattle-in v (a .heading .head) (head-most a f) (passed a 4 v c .ranges) in
+          let h = headed-by (leb-true _ _ (and-l _ _ (and-l _ _ (passed a 4 v c .place)))) in
+          in-range-grouped _ _ (cattle-small _ (cattle-n2o-small i) (cattle-excreted-small i))
           (headed-on h _ (h .enteric-most) (ltb-false _ _ (c .days)) (h .pig-most))
 
-      detail-pig : Clear a 5 v → Kept (accepted a 5 v)
+      detail-pig : ValuesPass a 5 v → Kept (accepted a 5 v)
       unfolding inPlace figuresOf accepted sortOf
       detail-pig c =
-          let i = pig-in v (a .heading .head) (head-most a f) (c .passes .ranges) (ltb-false _ _ (c .parts)) in
-          let four : a .heading .class ≡ 4 = eqb-true _ _ (and-l _ _ (c .passes .place)) in
+          let i = pig-in v (a .heading .head) (head-most a f) (passed a 5 v c .ranges) (ltb-false _ _ (c .together)) in
+          let four : a .heading .class ≡ 4 = eqb-true _ _ (and-l _ _ (passed a 5 v c .place)) in
           let h = headed-by (omega arith) in
-          in-range-grouped _ _ (record { ch4 = pig-ch4-small i; n2o = pig-n2o-small i; co2 = omega arith; excreted = pig-excreted-small i; land = pig-land-small i })
+          in-range-grouped _ _ (pig-small _ (pig-ch4-small i) (pig-n2o-small i) (pig-excreted-small i) (pig-land-small i))
           (headed-on h _ (h .enteric-most) (h .nitrogen-most) (ltb-false _ _ (c .days)))
 
-      detail-energy : Clear a 6 v → Kept (accepted a 6 v)
+      detail-energy : ValuesPass a 6 v → Kept (accepted a 6 v)
       unfolding figuresOf accepted sortOf
       detail-energy c =
-          in-range-farm _ (small-co2 _ _ refl (energy-small (energy-in v (c .passes .ranges))))
+          in-range-farm _ (co2-small _ (energy-small (energy-in v (passed a 6 v c .ranges))))
 
-      detail-soil : Clear a 7 v → Kept (accepted a 7 v)
+      detail-soil : ValuesPass a 7 v → Kept (accepted a 7 v)
       unfolding figuresOf accepted sortOf
       detail-soil c =
-          in-range-farm _ (small-co2 _ _ refl (soil-small (soil-in v (c .passes .ranges))))
+          in-range-farm _ (co2-small _ (soil-small (soil-in v (passed a 7 v c .ranges))))
 
-      kept-heading : Clear a 2 v → Kept (accepted a 2 v)
+      kept-heading : ValuesPass a 2 v → Kept (accepted a 2 v)
       unfolding accepted sortOf
       kept-heading c =
-          let i = heading-in v (c .passes .ranges) in
+          let i = heading-in v (passed a 2 v c .ranges) in
           in-range-heading _ _ _ (i .group-least) (i .group-most) (i .class-least) (i .class-most) (i .head-most)
 
-      kept-close : Clear a 8 v → Kept (accepted a 8 v)
+      kept-close : ValuesPass a 8 v → Kept (accepted a 8 v)
       unfolding accepted sortOf
       kept-close c = in-range-closed
 
   -- ---- by its kind
 
-  kept-farm : (v : List ℕ) → Clear a 1 v → Kept (accepted a 1 v)
+  kept-farm : (v : List ℕ) → ValuesPass a 1 v → Kept (accepted a 1 v)
   unfolding inPlace accepted sortOf
-  kept-farm v c = let i = farm-in v (c .passes .ranges) in in-range-opened _ (i .set-least) (i .set-most) (eqb-true _ _ (c .passes .place))
+  kept-farm v c = let i = farm-in v (passed a 1 v c .ranges) in in-range-opened _ (i .set-least) (i .set-most) (eqb-true _ _ (passed a 1 v c .place))
 
-  after-first : (k : ℕ) (v : List ℕ) → Clear a k v → eqb k 1 ≡ false → 1 ≤ a .records
+  after-first : (k : ℕ) (v : List ℕ) → ValuesPass a k v → eqb k 1 ≡ false → 1 ≤ a .records
   unfolding inPlace
   after-first k v c e =
-      let p : headingServes (a .heading .class) k && not (eqb (a .records) 0) ≡ true = rw e at (c .passes .place) in
+      let p : headingServes (a .heading .class) k && not (eqb (a .records) 0) ≡ true = rw e at (passed a k v c .place) in
       let n : a .records ≡ 0 → ⊥ = eqb-false _ _ (not-true _ (and-r (headingServes (a .heading .class) k) _ p)) in
       omega arith
 
   -- from the second record on
-  later : (k : ℕ) (v : List ℕ) → eqb k 1 ≡ false → ((begun : 1 ≤ a .records) (room : a .records < 4096) (v : List ℕ) → Clear a k v → Kept (accepted a k v))
-      → Clear a k v → Kept (accepted a k v)
-  later k v e kept c = kept (after-first k v c e) (c .passes .room) v c
+  later : (k : ℕ) (v : List ℕ) → eqb k 1 ≡ false → ((begun : 1 ≤ a .records) (room : a .records < 4096) (v : List ℕ) → ValuesPass a k v → Kept (accepted a k v))
+      → ValuesPass a k v → Kept (accepted a k v)
+  later k v e kept c = kept (after-first k v c e) (passed a k v c .room) v c
 
-  pub in-range-accepted : (k : ℕ) (v : List ℕ) → Clear a k v → leb 1 k && leb k 8 ≡ true → Kept (accepted a k v)
+  pub in-range-accepted : (k : ℕ) (v : List ℕ) → ValuesPass a k v → isKind k ≡ true → Kept (accepted a k v)
   in-range-accepted k v c both =
-      each-kind (λ (n : ℕ). Clear a n v → Kept (accepted a n v)) (kept-farm v) (later 2 v refl kept-heading) (later 3 v refl detail-enteric)
+      each-kind (λ (n : ℕ). ValuesPass a n v → Kept (accepted a n v)) (kept-farm v) (later 2 v refl kept-heading) (later 3 v refl detail-enteric)
       (later 4 v refl detail-cattle) (later 5 v refl detail-pig) (later 6 v refl detail-energy) (later 7 v refl detail-soil)
       (later 8 v refl kept-close) k both c
 
 -- ---- a whole record
-
-no-refusal : (a : Account) (r : List ℕ) → first (refusals a r) ≡ 0 → (leb 1 (kindOf r) && leb (kindOf r) 8 ≡ true) × (first (valueRefusals a (kindOf r) (valuesOf r)) ≡ 0)
-unfolding first
-no-refusal a r e =
-    let t = first-clear (refusals a r) (omega arith, (omega arith, (omega arith, (omega arith, (omega arith, (omega arith, (omega arith, (omega arith, (omega arith, (omega arith, (omega arith, tt))))))))))) e in
-    (not-false _ (t .1 .0 (omega arith)), rw (t .0 (omega arith), t .1 .0 (omega arith), t .1 .1 .0 (omega arith)) at e)
 
 field-of : (c x : ℕ) → x ≤ 12 → pick (eqb c 7) x 0 ≤ 12
 field-of c x h = of-choice (λ (n : ℕ). n ≤ 12) (eqb c 7) (λ e. h) (λ e. omega arith)
@@ -344,7 +292,7 @@ in-range-judge a r f early =
     let bad = firstBad (fields (kindOf r)) (valuesOf r) 0 in
     let short : bad ≤ 12 = omega (arith, bad-position (fields (kindOf r)) (valuesOf r) 0, row-short (kindOf r)) in
     of-choice Kept (eqb code 0)
-    (λ e. let n = no-refusal a r (eqb-true _ _ e) in in-range-accepted a f early (kindOf r) (valuesOf r) (clear a (kindOf r) (valuesOf r) (n .1)) (n .0))
+    (λ e. let t = not-refused a r (eqb-true _ _ e) in in-range-accepted a f early (kindOf r) (valuesOf r) (t .values) (not-false _ (t .kind)))
     (λ e.
     let some : code ≡ 0 → ⊥ = eqb-false _ _ e in
     in-range-refused a code (pick (eqb code 7) bad 0) f (omega arith) (number-most a r) (field-of code bad short)

@@ -3,6 +3,7 @@ pub mod Sums
 pub mod First
 pub mod Ranges
 pub mod Told
+pub mod Refusals
 pub mod Written
 pub mod Clauses
 mod Shortcuts

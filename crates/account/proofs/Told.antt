@@ -1,21 +1,23 @@
 -- How the answer of a function tells what the rules say.
 -- Assumes nothing.
-use Prim.Native.Nat.{ℕ, _+_, _*_, _^_, _≤_, _<_}
+use Prim.Native.Nat.{ℕ, _+_, _^_, _≤_, _<_}
 use mathlib.Core.Path.{_≡_, refl, sym, ap, _∙_}
 use mathlib.Core.List.{List, [], _∷_, _++_, append-nil}
 use mathlib.Core.Bool.{Bool, true, false, not, _&&_}
 use mathlib.Core.Logic.{⊎-elim}
 use native.Mathlib.Omega.{arith}
-use borrow.Author.Tests.{leb-true, leb-false, le-leb, lt-leb, eqb-true, eq-eqb, ne-eqb}
-use lib.ListN.{length, getD, length-append}
-use lib.Dec.{ltb, leb, eqb}
+use borrow.Author.Tests.{leb-false, le-leb, lt-leb, eqb-true, eq-eqb, ne-eqb}
+use lib.ListN.{length, length-append}
+use lib.Dec.{leb, eqb}
 use Rattle.base.specs.Choice.{pick}
-use Rattle.base.proofs.Tests.{no-bool, not-false}
-use Rattle.codec.specs.Table.{fields, lengthOf}
+use Rattle.base.proofs.Tests.{not-false}
+use Rattle.codec.specs.Table.{fields, lengthOf, isKind}
 use Rattle.codec.specs.Codec.{valAt, valuesAt, firstBad, lineBytes, totalBytes}
 use Rattle.codec.proofs.Round.{line-length, total-length}
 use Rattle.grams.specs.Cattle.{belowZero, manureOf, CattleSmall, Nitrogen}
 use Rattle.grams.specs.Pig.{Manure}
+use Rattle.grams.specs.Units.{noCo2, Co2Within}
+use Rattle.grams.specs.declared.units.Co2.{Co2}
 use Rattle.grams.specs.declared.cattle.CattleRation.{CattleRation}
 use Rattle.grams.specs.declared.cattle.CattleManure.{CattleManure}
 use Rattle.grams.specs.declared.cattle.CattleNitrogen.{CattleNitrogen}
@@ -27,12 +29,13 @@ use Rattle.account.specs.declared.Days.{Days}
 use Rattle.account.specs.declared.Figures.{Figures}
 use Rattle.account.specs.declared.Subtotal.{Subtotal}
 use Rattle.account.specs.declared.Judged.{Judged}
-use Rattle.account.specs.Figures.{groupFigures, cattleRation, ch4Alone, co2Alone, cattleFigures, pigFigures}
+use Rattle.account.specs.Figures.{groupFigures, ch4Alone, co2Alone, cattleFigures, pigFigures}
 use Rattle.account.specs.Line.{joined, bytesOf, lineWith, co2eIn, subtotals, totalOf}
 use Rattle.account.specs.Range.{Headed, Unheaded, Bounded, Grouped, AccountInRange}
-use Rattle.account.specs.Judge.{versionOf, kindOf, judge, first, inPlace, daysOver, partsWrong, valueRefusals, refused, underHeading, withDetail, closed, Step, accepted, decided, weigh}
+use Rattle.account.specs.Judge.{versionOf, kindOf, judge, first, inPlace, notRising, daysOver, partsWrong, feedBelow, wrongCount, valueRefusals}
+use Rattle.account.specs.Judge.{refused, underHeading, withDetail, closed, Step, accepted, weigh}
 use Rattle.account.specs.Told.{Tells, TellsIn, inRoom, Kind, Small, noLine, quiet, refusing, detailing, heading, closing}
-use Rattle.account.proofs.Sums.{bounded-more, grouped-more}
+use Rattle.account.proofs.Sums.{ch4-small, co2-small, cattle-small, pig-small, bounded-more, grouped-more}
 use Rattle.account.proofs.First.{three-clear, three-first}
 
 -- ---- an account in range, in what the arithmetic asks
@@ -61,14 +64,13 @@ subtotal-most a f = grouped-more (f .counted .records-most) (f .grouped)
 -- ---- figures of one line
 
 pub small-ch4 : (f : Figures) (g : ℕ) → f ≡ ch4Alone g → g ≤ 10 ^ 11 → Small f
-small-ch4 f g e h = rw e (record { ch4 = h; n2o = omega arith; co2 = omega arith; excreted = omega arith; land = omega arith })
+small-ch4 f g e h = rw e (ch4-small g h)
 
-pub small-co2 : (f : Figures) (g : ℕ) → f ≡ co2Alone g → g ≤ 10 ^ 13 → Small f
-small-co2 f g e h = rw e (record { ch4 = omega arith; n2o = omega arith; co2 = h; excreted = omega arith; land = omega arith })
+pub small-co2 : (f : Figures) (g : Co2) → f ≡ co2Alone g → Co2Within 1 g → Small f
+small-co2 f g e h = rw e (co2-small g h)
 
 pub small-pig : (f : Figures) (p : PigRation) (head : ℕ) (m : PigManure) → f ≡ pigFigures m → Manure p head m → Small f
-small-pig f p head m e s =
-    rw e (record { ch4 = s .ch4-small; n2o = s .n2o-small; co2 = omega arith; excreted = s .excreted-small; land = s .land-small })
+small-pig f p head m e s = rw e (pig-small m (s .ch4-small) (s .n2o-small) (s .excreted-small) (s .land-small))
 
 -- what the nitrogen of a cattle ration is, by its answer
 module _ (r : CattleRation) (head : ℕ) (n : CattleNitrogen) (w : Nitrogen r head n) where
@@ -93,7 +95,7 @@ module _ (r : CattleRation) (head : ℕ) (n : CattleNitrogen) (w : Nitrogen r he
     pub small-cattle : (f : Figures) → f ≡ cattleFigures m → Small f
     small-cattle f q =
         let s : CattleSmall (Given m) = rw e at (w .small) in
-        rw q (record { ch4 = omega arith; n2o = s .1; co2 = omega arith; excreted = s .0; land = omega arith })
+        rw q (cattle-small m (s .1) (s .0))
 
 -- ---- answers without a line, with a detail's, with the close's
 
@@ -124,7 +126,7 @@ tells-heading a group class head = go (eqb (a .heading .group) 0)
         → Tells (step (underHeading a group class head) (pick b [] (lineWith 16 (a .heading .group) (groupFigures (a .subtotal)) ∷ [])))
         (record {
           account = underHeading a group class head;
-          line = pick b noLine (record { given = 46; kind = 16; group = a .heading .group; figures = groupFigures (a .subtotal); co2e = 0 });
+          line = pick b noLine (record { given = 46; kind = 16; group = a .heading .group; figures = groupFigures (a .subtotal); co2e = noCo2 });
         })
     go true = record { account = refl; bytes = refl; long = refl; short = omega arith }
     go false = record { account = refl; bytes = sym (append-nil _); long = line-length _ _ _ _ _ _ _; short = omega arith }
@@ -194,12 +196,7 @@ module _ {room : ℕ} {a : Account} {s : Step} {r : Judged} (t : TellsIn room a 
 -- the refusals from 8 on
 abbrev pub laterRefusals : Account → ℕ → List ℕ → List (Bool × ℕ)
 laterRefusals a k v =
-    (eqb k 2 && leb (getD v 0 0) (a .heading .group), 8)
-    ∷ (daysOver (a .days) k v, 9)
-    ∷ (partsWrong k v, 10)
-    ∷ (eqb k 4 && belowZero (cattleRation v), 11)
-    ∷ (eqb k 8 && not (eqb (getD v 0 0) (a .records)), 12)
-    ∷ []
+    (notRising a k v, 8) ∷ (daysOver (a .days) k v, 9) ∷ (partsWrong k v, 10) ∷ (feedBelow k v, 11) ∷ (wrongCount a k v, 12) ∷ []
 
 -- what values that 5, 6 and 7 let through have
 pub record Passes (a : Account) (k : ℕ) (v : List ℕ) : Type 0 where
@@ -243,7 +240,7 @@ module _ (a : Account) (k : ℕ) (v : List ℕ) (p : Passes a k v) where
 -- ---- a whole record
 
 -- r is of version 1 and kind k, one of the eight
-module _ (a : Account) (k : ℕ) (r : List ℕ) (n : ℕ) (w : Kind k r) (kinds : leb 1 k && leb k 8 ≡ true) (size : lengthOf k + 2 ≡ n) where
+module _ (a : Account) (k : ℕ) (r : List ℕ) (n : ℕ) (w : Kind k r) (kinds : isKind k ≡ true) (size : lengthOf k + 2 ≡ n) where
   -- its length is not the kind's
   pub wrong-length : (room : ℕ) (j : Judged) → (length r ≡ n → ⊥) → j ≡ refusing a 4 0 → TellsIn room a (judge a r) j
   unfolding judge first
@@ -262,6 +259,6 @@ pub wrong-version : (room : ℕ) (a : Account) (r : List ℕ) (j : Judged) → (
 unfolding judge first
 wrong-version room a r j h e = quiet-in room a _ (judge a r) j e (rw (ne-eqb _ 1 h, e) (tells-quiet (refused a 2 0)))
 
-pub wrong-kind : (room : ℕ) (a : Account) (r : List ℕ) (j : Judged) → versionOf r ≡ 1 → leb 1 (kindOf r) && leb (kindOf r) 8 ≡ false → j ≡ refusing a 3 0 → TellsIn room a (judge a r) j
+pub wrong-kind : (room : ℕ) (a : Account) (r : List ℕ) (j : Judged) → versionOf r ≡ 1 → isKind (kindOf r) ≡ false → j ≡ refusing a 3 0 → TellsIn room a (judge a r) j
 unfolding judge first
 wrong-kind room a r j v h e = quiet-in room a _ (judge a r) j e (rw (v, h, e) (tells-quiet (refused a 3 0)))

@@ -1,11 +1,11 @@
 -- A line that is written is a run of stores, and a run of stores is a part pasted in.
 -- Assumes nothing.
 use Prim.Native.Nat.{ℕ, _+_, _≤_}
-use mathlib.Core.Path.{_≡_, refl, sym, ap, _∙_}
-use mathlib.Core.List.{List, [], _∷_, _++_}
+use mathlib.Core.Path.{_≡_, sym, ap, _∙_}
+use mathlib.Core.List.{List, _++_}
 use native.Mathlib.Omega.{arith}
 use borrow.Author.Tests.{ne-eqb}
-use lib.ListN.{length, take, drop}
+use lib.ListN.{length, take}
 use lib.Seq.{sets, sets-eq, paste, paste-zero, take-all}
 use Rattle.codec.proofs.Stores.{sets-append}
 use Rattle.codec.proofs.Round.{line-length, total-length}

@@ -8,7 +8,8 @@ use Rattle.base.specs.Choice.{pick}
 use Rattle.grams.specs.Cattle as cattle
 use Rattle.grams.specs.Pig as pig
 use Rattle.grams.specs.Farm.{energyOf, soilOf}
-use Rattle.grams.specs.Units.{gramsN2o}
+use Rattle.grams.specs.Units.{gramsN2o, noCo2, plusCo2}
+use Rattle.grams.specs.declared.units.Co2.{Co2}
 use Rattle.grams.specs.declared.cattle.CattleRation.{CattleRation}
 use Rattle.grams.specs.declared.cattle.CattleManure.{CattleManure}
 use Rattle.grams.specs.declared.pig.PigRation.{PigRation}
@@ -19,7 +20,7 @@ use Rattle.account.specs.declared.Subtotal.{Subtotal}
 
 -- no grams at all
 abbrev pub noFigures : Figures
-noFigures = record { ch4 = 0; n2o = gramsN2o 0; co2 = 0; excreted = 0; land = 0 }
+noFigures = record { ch4 = 0; n2o = gramsN2o 0; co2 = noCo2; excreted = 0; land = 0 }
 
 -- each figure summed
 abbrev pub added : Figures → Figures → Figures
@@ -27,7 +28,7 @@ added f g =
     record {
       ch4 = f .ch4 + g .ch4;
       n2o = gramsN2o (f .n2o .0 + g .n2o .0);
-      co2 = f .co2 + g .co2;
+      co2 = plusCo2 (f .co2) (g .co2);
       excreted = f .excreted + g .excreted;
       land = f .land + g .land;
     }
@@ -42,13 +43,13 @@ grouped s f = record { ch4 = s .ch4 + f .ch4; n2o = gramsN2o (s .n2o .0 + f .n2o
 
 -- as the figures of a line: a group has no CO2
 abbrev pub groupFigures : Subtotal → Figures
-groupFigures s = record { ch4 = s .ch4; n2o = s .n2o; co2 = 0; excreted = s .excreted; land = s .land }
+groupFigures s = record { ch4 = s .ch4; n2o = s .n2o; co2 = noCo2; excreted = s .excreted; land = s .land }
 
 -- 0 where the rule gives none: enteric CH4 alone, and CO2 alone
 abbrev pub ch4Alone : ℕ → Figures
-ch4Alone g = record { ch4 = g; n2o = gramsN2o 0; co2 = 0; excreted = 0; land = 0 }
+ch4Alone g = record { ch4 = g; n2o = gramsN2o 0; co2 = noCo2; excreted = 0; land = 0 }
 
-abbrev pub co2Alone : ℕ → Figures
+abbrev pub co2Alone : Co2 → Figures
 co2Alone g = record { ch4 = 0; n2o = gramsN2o 0; co2 = g; excreted = 0; land = 0 }
 
 -- a cattle nitrogen record's values, by name; the pasture share counts in refusal 10 only
@@ -66,7 +67,7 @@ cattleRation v =
     }
 
 abbrev pub cattleFigures : CattleManure → Figures
-cattleFigures m = record { ch4 = 0; n2o = m .n2o; co2 = 0; excreted = m .excreted; land = 0 }
+cattleFigures m = record { ch4 = 0; n2o = m .n2o; co2 = noCo2; excreted = m .excreted; land = 0 }
 
 -- a pig record's values, by name
 abbrev pub pigRation : List ℕ → PigRation
@@ -87,7 +88,7 @@ pigRation v =
     }
 
 abbrev pub pigFigures : PigManure → Figures
-pigFigures m = record { ch4 = m .ch4; n2o = m .n2o; co2 = 0; excreted = m .excreted; land = m .land }
+pigFigures m = record { ch4 = m .ch4; n2o = m .n2o; co2 = noCo2; excreted = m .excreted; land = m .land }
 
 -- the figures of a detail record of kind k (3 to 7) with the values v, under the heading h
 unfoldable pub figuresOf : Heading → ℕ → List ℕ → Figures

@@ -1,13 +1,13 @@
 -- Document 01, "The book" and "Refusal numbers": what one whole record does, after the records before it.
 -- Assumes nothing.
-use Prim.Native.Nat.{ℕ, _+_, _≤_}
+use Prim.Native.Nat.{ℕ, _+_, _≤_, _<_}
 use mathlib.Core.Path.{_≡_}
 use mathlib.Core.List.{List, [], _∷_, _++_}
 use mathlib.Core.Bool.{Bool, true, false, _&&_, _||_, not}
 use lib.ListN.{length, getD}
 use lib.Dec.{ltb, leb, eqb}
 use Rattle.base.specs.Choice.{pick}
-use Rattle.codec.specs.Table.{fields, lengthOf, lengthMost}
+use Rattle.codec.specs.Table.{fields, lengthOf, lengthMost, isKind}
 use Rattle.codec.specs.Codec.{valAt, valuesAt, firstBad}
 use Rattle.grams.specs.Cattle.{belowZero}
 use Rattle.account.specs.declared.Account.{Account}
@@ -142,55 +142,115 @@ daysAfter d k more =
       pig = pick (eqb k 5) (d .pig + more) (d .pig);
     }
 
--- days over 366 with this record, each of kinds 3, 4 and 5 for itself
+-- the tests, by name, each true where it refuses
+
+-- 2: version not 1
+abbrev pub wrongVersion : List ℕ → Bool
+wrongVersion r = not (eqb (versionOf r) 1)
+
+-- 3: kind not 1..8
+abbrev pub wrongKind : List ℕ → Bool
+wrongKind r = not (isKind (kindOf r))
+
+-- 4: length not the kind's
+abbrev pub wrongLength : List ℕ → Bool
+wrongLength r = not (eqb (valAt r 0 2) (lengthOf (kindOf r)))
+
+-- 5: 4,096 records already accepted
+abbrev pub bookFull : Account → Bool
+bookFull a = leb 4096 (a .records)
+
+-- 6: out of its place
+abbrev pub outOfPlace : Account → ℕ → Bool
+outOfPlace a k = not (inPlace a k)
+
+-- 7: a field out of range
+abbrev pub outOfRange : ℕ → List ℕ → Bool
+outOfRange k v = not (eqb (firstBad (fields k) v 0) 0)
+
+-- 8: group not above the last
+abbrev pub notRising : Account → ℕ → List ℕ → Bool
+notRising a k v = eqb k 2 && leb (getD v 0 0) (a .heading .group)
+
+-- 9: days over 366 with this record, each of kinds 3, 4 and 5 for itself
 abbrev pub daysOver : Days → ℕ → List ℕ → Bool
 daysOver d k v =
     pick (eqb k 3) (ltb 366 (d .enteric + getD v 0 0))
     (pick (eqb k 4) (ltb 366 (d .nitrogen + getD v 0 0))
     (pick (eqb k 5) (ltb 366 (d .pig + getD v 0 0)) false))
 
--- cattle shares not 10000 together, or pig parts over 1000 together
+-- 10: cattle shares not 10000 together, or pig parts over 1000 together
 abbrev pub partsWrong : ℕ → List ℕ → Bool
 partsWrong k v =
     pick (eqb k 4) (not (eqb (getD v 6 0 + getD v 7 0 + getD v 8 0) 10000))
     (pick (eqb k 5) (ltb 1000 (getD v 8 0 + getD v 10 0)) false)
 
+-- 11: X below zero
+abbrev pub feedBelow : ℕ → List ℕ → Bool
+feedBelow k v = eqb k 4 && belowZero (cattleRation v)
+
+-- 12: close count wrong
+abbrev pub wrongCount : Account → ℕ → List ℕ → Bool
+wrongCount a k v = eqb k 8 && not (eqb (getD v 0 0) (a .records))
+
 -- the refusals of values v of kind k, in the order they are tried
 abbrev pub valueRefusals : Account → ℕ → List ℕ → List (Bool × ℕ)
 valueRefusals a k v =
-    -- 4,096 records already accepted
-    (leb 4096 (a .records), 5)
-    -- out of its place
-    ∷ (not (inPlace a k), 6)
-    -- a field out of range
-    ∷ (not (eqb (firstBad (fields k) v 0) 0), 7)
-    -- group not above the last
-    ∷ (eqb k 2 && leb (getD v 0 0) (a .heading .group), 8)
-    -- days over 366 with this record
+    (bookFull a, 5)
+    ∷ (outOfPlace a k, 6)
+    ∷ (outOfRange k v, 7)
+    ∷ (notRising a k v, 8)
     ∷ (daysOver (a .days) k v, 9)
-    -- shares or parts wrong together
     ∷ (partsWrong k v, 10)
-    -- X below zero
-    ∷ (eqb k 4 && belowZero (cattleRation v), 11)
-    -- close count wrong
-    ∷ (eqb k 8 && not (eqb (getD v 0 0) (a .records)), 12)
+    ∷ (feedBelow k v, 11)
+    ∷ (wrongCount a k v, 12)
     ∷ []
 
 -- the refusals of a whole record, in the order they are tried
 abbrev pub refusals : Account → List ℕ → List (Bool × ℕ)
-refusals a r =
-    -- version not 1
-    (not (eqb (versionOf r) 1), 2)
-    -- kind not 1..8
-    ∷ (not (leb 1 (kindOf r) && leb (kindOf r) 8), 3)
-    -- length not the kind's
-    ∷ (not (eqb (valAt r 0 2) (lengthOf (kindOf r))), 4)
-    ∷ valueRefusals a (kindOf r) (valuesOf r)
+refusals a r = (wrongVersion r, 2) ∷ (wrongKind r, 3) ∷ (wrongLength r, 4) ∷ valueRefusals a (kindOf r) (valuesOf r)
 
 -- the number of the first test that holds, 0 where none does
 unfoldable pub first : List (Bool × ℕ) → ℕ
 first [] = 0
 first (t ∷ ts) = pick (t .0) (t .1) (first ts)
+
+-- ---- the refusals, test by test and by name
+
+-- what P says of each test of values v of kind k, by the test's number and by whether it refuses
+pub record ValueTests (P : ℕ → Bool → Type 0) (a : Account) (k : ℕ) (v : List ℕ) : Type 0 where
+  pub room : P 5 (bookFull a)
+  pub place : P 6 (outOfPlace a k)
+  pub inRange : P 7 (outOfRange k v)
+  pub rising : P 8 (notRising a k v)
+  pub days : P 9 (daysOver (a .days) k v)
+  pub together : P 10 (partsWrong k v)
+  pub feed : P 11 (feedBelow k v)
+  pub count : P 12 (wrongCount a k v)
+
+-- the same of each test of a whole record
+pub record Tests (P : ℕ → Bool → Type 0) (a : Account) (r : List ℕ) : Type 0 where
+  pub version : P 2 (wrongVersion r)
+  pub kind : P 3 (wrongKind r)
+  pub long : P 4 (wrongLength r)
+  pub values : ValueTests P a (kindOf r) (valuesOf r)
+
+-- not refused: no test refuses
+abbrev pub LetsThrough : ℕ → Bool → Type 0
+LetsThrough number refuses = refuses ≡ false
+
+abbrev pub ValuesPass : Account → ℕ → List ℕ → Type 0
+ValuesPass a k v = ValueTests LetsThrough a k v
+
+abbrev pub NotRefused : Account → List ℕ → Type 0
+NotRefused a r = Tests LetsThrough a r
+
+-- refused by the number c: no test before it refuses, and its own does
+abbrev pub DecidedBy : ℕ → ℕ → Bool → Type 0
+DecidedBy c number refuses = (number < c → refuses ≡ false) × (number ≡ c → refuses ≡ true)
+
+abbrev pub RefusedBy : ℕ → Account → List ℕ → Type 0
+RefusedBy c a r = Tests (DecidedBy c) a r
 
 -- ---- what a record does
 

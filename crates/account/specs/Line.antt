@@ -6,7 +6,9 @@ use lib.Dec.{eqb}
 use Rattle.base.specs.Choice.{pick}
 use Rattle.codec.specs.Table.{lineSize, totalSize}
 use Rattle.codec.specs.Codec.{lineBytes, totalBytes}
+use Rattle.grams.specs.Units.{co2Word}
 use Rattle.grams.specs.Farm.{co2eOf, warmingOf}
+use Rattle.grams.specs.declared.units.Co2.{Co2}
 use Rattle.account.specs.declared.Account.{Account}
 use Rattle.account.specs.declared.Figures.{Figures}
 use Rattle.account.specs.declared.Heading.{Heading}
@@ -16,7 +18,7 @@ use Rattle.account.specs.Figures.{groupFigures, figuresOf}
 
 -- a line of kind k, with a group and five figures
 abbrev pub lineWith : ℕ → ℕ → Figures → List ℕ
-lineWith k group f = lineBytes k group (f .ch4) (f .n2o .0) (f .co2) (f .excreted) (f .land)
+lineWith k group f = lineBytes k group (f .ch4) (f .n2o .0) (co2Word (f .co2)) (f .excreted) (f .land)
 
 -- the group that a line bears: the heading's for a detail of the group, else 0
 abbrev pub groupOf : Heading → ℕ → ℕ
@@ -27,12 +29,12 @@ abbrev pub lineOf : Heading → ℕ → List ℕ → List ℕ
 lineOf h k v = lineWith k (groupOf h k) (figuresOf h k v)
 
 -- CO2e of the sums, by the farm's warming set
-abbrev pub co2eIn : Account → ℕ
-co2eIn a = co2eOf (warmingOf (a .set)) (a .sums .co2) (a .sums .ch4) (a .sums .n2o .0)
+abbrev pub co2eIn : Account → Co2
+co2eIn a = co2eOf (warmingOf (a .set)) (a .sums .co2) (a .sums .ch4) (a .sums .n2o)
 
 -- the close's line: the five sums and CO2e
-abbrev pub totalWith : Figures → ℕ → List ℕ
-totalWith f co2e = totalBytes (f .ch4) (f .n2o .0) (f .co2) (f .excreted) (f .land) co2e
+abbrev pub totalWith : Figures → Co2 → List ℕ
+totalWith f co2e = totalBytes (f .ch4) (f .n2o .0) (co2Word (f .co2)) (f .excreted) (f .land) (co2Word co2e)
 
 abbrev pub totalOf : Account → List ℕ
 totalOf a = totalWith (a .sums) (co2eIn a)

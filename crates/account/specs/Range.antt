@@ -2,11 +2,10 @@
 -- Assumes nothing.
 use Prim.Native.Nat.{ℕ, _*_, _^_, _≤_}
 use mathlib.Core.Path.{_≡_}
-use mathlib.Core.List.{List, [], _∷_}
-use mathlib.Core.Bool.{Bool, true, false, _&&_, _||_, not}
+use mathlib.Core.Bool.{Bool, _&&_, _||_, not}
 use mathlib.Core.Logic.{_⊎_}
-use lib.Dec.{ltb, leb, eqb}
-use Rattle.base.specs.Choice.{pick}
+use lib.Dec.{leb, eqb}
+use Rattle.grams.specs.Units.{Co2Within, co2Within}
 use Rattle.account.specs.declared.Account.{Account}
 use Rattle.account.specs.declared.Heading.{Heading}
 use Rattle.account.specs.declared.Days.{Days}
@@ -55,7 +54,7 @@ pub record Unheaded (h : Heading) (d : Days) : Type 0 where
 pub record Bounded (f : Figures) (records : ℕ) : Type 0 where
   pub ch4 : f .ch4 ≤ records * 10 ^ 11
   pub n2o : f .n2o .0 ≤ records * 10 ^ 10
-  pub co2 : f .co2 ≤ records * 10 ^ 13
+  pub co2 : Co2Within records (f .co2)
   pub excreted : f .excreted ≤ records * 10 ^ 11
   pub land : f .land ≤ records * 10 ^ 11
 
@@ -137,7 +136,7 @@ abbrev pub boundedTest : Figures → ℕ → Bool
 boundedTest f records =
     leb (f .ch4) (records * 10 ^ 11)
     && leb (f .n2o .0) (records * 10 ^ 10)
-    && leb (f .co2) (records * 10 ^ 13)
+    && co2Within records (f .co2)
     && leb (f .excreted) (records * 10 ^ 11)
     && leb (f .land) (records * 10 ^ 11)
 

@@ -3,11 +3,11 @@
 use Prim.Native.Nat.{ℕ, _^_, _≤_}
 use mathlib.Core.Path.{_≡_}
 use mathlib.Core.List.{List}
-use mathlib.Core.Bool.{Bool}
 use lib.ListN.{length}
 use lib.Dec.{leb, eqb}
 use Rattle.base.specs.Choice.{pick}
 use Rattle.codec.specs.Table.{lineSize, totalSize, linesMost}
+use Rattle.grams.specs.Units.{noCo2, Co2Within}
 use Rattle.account.specs.declared.Account.{Account}
 use Rattle.account.specs.declared.Days.{Days}
 use Rattle.account.specs.declared.Figures.{Figures}
@@ -45,12 +45,12 @@ pub record Kind (k : ℕ) (r : List ℕ) : Type 0 where
 pub record Small (f : Figures) : Type 0 where
   pub ch4 : f .ch4 ≤ 10 ^ 11
   pub n2o : f .n2o .0 ≤ 10 ^ 10
-  pub co2 : f .co2 ≤ 10 ^ 13
+  pub co2 : Co2Within 1 (f .co2)
   pub excreted : f .excreted ≤ 10 ^ 11
   pub land : f .land ≤ 10 ^ 11
 
 abbrev pub noLine : Line
-noLine = record { given = 0; kind = 0; group = 0; figures = noFigures; co2e = 0 }
+noLine = record { given = 0; kind = 0; group = 0; figures = noFigures; co2e = noCo2 }
 
 abbrev pub quiet : Account → Judged
 quiet a = record { account = a; line = noLine }
@@ -60,11 +60,11 @@ refusing a code field = quiet (refused a code field)
 
 abbrev pub detailing : Account → ℕ → ℕ → Days → Subtotal → Figures → Judged
 detailing a kind group days subtotal f =
-    record { account = withDetail a days subtotal f; line = record { given = lineSize; kind = kind; group = group; figures = f; co2e = 0 } }
+    record { account = withDetail a days subtotal f; line = record { given = lineSize; kind = kind; group = group; figures = f; co2e = noCo2 } }
 
 abbrev pub groupLine : Account → Line
 groupLine a =
-    pick (eqb (a .heading .group) 0) noLine (record { given = lineSize; kind = 16; group = a .heading .group; figures = groupFigures (a .subtotal); co2e = 0 })
+    pick (eqb (a .heading .group) 0) noLine (record { given = lineSize; kind = 16; group = a .heading .group; figures = groupFigures (a .subtotal); co2e = noCo2 })
 
 abbrev pub heading : Account → ℕ → ℕ → ℕ → Judged
 heading a group class head = record { account = underHeading a group class head; line = groupLine a }

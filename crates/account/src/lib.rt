@@ -2,7 +2,10 @@
 pub mod line;
 mod range;
 
+use grams::units::Co2;
 use grams::units::N2o;
+use grams::units::NO_CO2;
+use grams::units::NO_N2O;
 use line::Line;
 ghost use mathlib.Core.Path.{_≡_};
 ghost use Rattle.account.specs.Range.{accountInRange};
@@ -26,7 +29,7 @@ pub struct Days {
 pub struct Figures {
     pub ch4: u64,
     pub n2o: N2o,
-    pub co2: u64,
+    pub co2: Co2,
     pub excreted: u64,
     pub land: u64,
 }
@@ -85,14 +88,14 @@ impl Account {
             },
             subtotal: Subtotal {
                 ch4: 0,
-                n2o: N2o(0),
+                n2o: NO_N2O,
                 excreted: 0,
                 land: 0,
             },
             sums: Figures {
                 ch4: 0,
-                n2o: N2o(0),
-                co2: 0,
+                n2o: NO_N2O,
+                co2: NO_CO2,
                 excreted: 0,
                 land: 0,
             },
@@ -108,6 +111,9 @@ impl Account {
     pub fn by_fields(self) -> Account
         ensures { λ r. ⌜ r ≡ self ⌝ }
     {
+        let group_n2o = self.subtotal.n2o.same();
+        let n2o = self.sums.n2o.same();
+        let co2 = self.sums.co2.same();
         Account {
             stage: self.stage,
             records: self.records,
@@ -124,14 +130,14 @@ impl Account {
             },
             subtotal: Subtotal {
                 ch4: self.subtotal.ch4,
-                n2o: N2o(self.subtotal.n2o.0),
+                n2o: group_n2o,
                 excreted: self.subtotal.excreted,
                 land: self.subtotal.land,
             },
             sums: Figures {
                 ch4: self.sums.ch4,
-                n2o: N2o(self.sums.n2o.0),
-                co2: self.sums.co2,
+                n2o: n2o,
+                co2: co2,
                 excreted: self.sums.excreted,
                 land: self.sums.land,
             },

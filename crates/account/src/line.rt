@@ -1,12 +1,15 @@
 // The lines of a record before they are written: their values, not their bytes.
 use crate::Figures;
 use crate::Judged;
-use grams::units::N2o;
+use grams::units::Co2;
+use grams::units::NO_CO2;
+use grams::units::NO_N2O;
 ghost use mathlib.Core.Path.{_≡_};
 ghost use Prim.Native.Nat.{_+_, _≤_};
 ghost use lib.ListN.{length};
-ghost use lib.Seq.{paste};
-ghost use Rattle.account.specs.Line.{bytesOf};
+ghost use lib.Seq.{sets, paste};
+ghost use Rattle.codec.specs.Table.{lineSize, totalSize};
+ghost use Rattle.account.specs.Line.{lineWith, totalWith, bytesOf};
 ghost use Rattle.account.specs.Told.{noLine};
 
 // given: how many bytes, and by that what they are: 0 none, LINE_SIZE a detail's line or a subtotal, TOTAL_SIZE the total (the account's sums
@@ -16,7 +19,7 @@ pub struct Line {
     pub kind: u8,
     pub group: u16,
     pub figures: Figures,
-    pub co2e: u64,
+    pub co2e: Co2,
 }
 
 pub fn none() -> Line
@@ -28,13 +31,33 @@ pub fn none() -> Line
         group: 0,
         figures: Figures {
             ch4: 0,
-            n2o: N2o(0),
-            co2: 0,
+            n2o: NO_N2O,
+            co2: NO_CO2,
             excreted: 0,
             land: 0,
         },
-        co2e: 0,
+        co2e: NO_CO2,
     }
+}
+
+// A detail's line or a subtotal, at w.
+fn put_line(out: &mut [u8], w: usize, kind: u8, group: u16, f: Figures)
+    requires { ⌜ w + lineSize ≤ length (now out) ⌝ }
+    ensures { λ _. ⌜ now (out .exit) ≡ sets (now (out .entry)) w (lineWith kind group f) ⌝ }
+{
+    let n2o = f.n2o.grams();
+    let co2 = f.co2.word();
+    codec::lines::put_line(out, w, kind, group, f.ch4, n2o, co2, f.excreted, f.land);
+}
+
+// The total, at w.
+fn put_total(out: &mut [u8], w: usize, f: Figures, co2e: Co2)
+    requires { ⌜ w + totalSize ≤ length (now out) ⌝ }
+    ensures { λ _. ⌜ now (out .exit) ≡ sets (now (out .entry)) w (totalWith f co2e) ⌝ }
+{
+    let n2o = f.n2o.grams();
+    let co2 = f.co2.word();
+    codec::lines::put_total(out, w, f.ch4, n2o, co2, f.excreted, f.land, co2e.word());
 }
 
 // Writes a record's lines at w.
@@ -48,44 +71,16 @@ pub fn write(out: &mut [u8], w: usize, j: Judged)
     }
     let f = line.figures;
     if line.given == codec::LINE_SIZE {
-        codec::lines::put_line(
-            out,
-            w,
-            line.kind,
-            line.group,
-            f.ch4,
-            f.n2o.0,
-            f.co2,
-            f.excreted,
-            f.land,
-        );
+        put_line(out, w, line.kind, line.group, f);
         return;
     }
     let account = j.account;
     let s = account.sums;
+    let co2e = line.co2e;
     if line.given == codec::TOTAL_SIZE {
-        codec::lines::put_total(out, w, s.ch4, s.n2o.0, s.co2, s.excreted, s.land, line.co2e);
+        put_total(out, w, s, co2e);
         return;
     }
-    codec::lines::put_line(
-        out,
-        w,
-        line.kind,
-        line.group,
-        f.ch4,
-        f.n2o.0,
-        f.co2,
-        f.excreted,
-        f.land,
-    );
-    codec::lines::put_total(
-        out,
-        w + codec::LINE_SIZE,
-        s.ch4,
-        s.n2o.0,
-        s.co2,
-        s.excreted,
-        s.land,
-        line.co2e,
-    );
+    put_line(out, w, line.kind, line.group, f);
+    put_total(out, w + codec::LINE_SIZE, s, co2e);
 }

@@ -56,8 +56,8 @@ fn bounded(f: Figures, records: u16) -> bool
 {
     let n = records as u64;
     (f.ch4 <= n * 100000000000)
-        & (f.n2o.0 <= n * 10000000000)
-        & (f.co2 <= n * 10000000000000)
+        & (f.n2o.grams() <= n * 10000000000)
+        & f.co2.within(n)
         & (f.excreted <= n * 100000000000)
         & (f.land <= n * 100000000000)
 }
@@ -67,7 +67,7 @@ fn grouped(s: Subtotal, records: u16) -> bool
 {
     let n = records as u64;
     (s.ch4 <= n * 100000000000)
-        & (s.n2o.0 <= n * 10000000000)
+        & (s.n2o.grams() <= n * 10000000000)
         & (s.excreted <= n * 100000000000)
         & (s.land <= n * 100000000000)
 }
@@ -75,7 +75,7 @@ fn grouped(s: Subtotal, records: u16) -> bool
 fn ungrouped(s: Subtotal) -> bool
     ensures { λ r. ⌜ r ≡ ungroupedTest s ⌝ }
 {
-    (s.ch4 == 0) & (s.n2o.0 == 0) & (s.excreted == 0) & (s.land == 0)
+    (s.ch4 == 0) & (s.n2o.grams() == 0) & (s.excreted == 0) & (s.land == 0)
 }
 
 fn numbered(r: Refusal, records: u16) -> bool

@@ -1,5 +1,6 @@
 pub mod MovedBytes
 pub mod FrontLaws
+pub mod WholeRecordLaws
 pub mod RangeLaws
 pub mod RunLaws
 pub mod Longest

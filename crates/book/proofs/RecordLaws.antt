@@ -19,7 +19,8 @@ use Rattle.account.proofs.Keeps.{in-range-judge}
 use Rattle.book.specs.Front.{whole, need, front}
 use Rattle.book.specs.State.{holding}
 use Rattle.book.specs.Run.{Outcome, outcome, book, run}
-use Rattle.book.specs.Inner.{Ready, Reading, Ran}
+use Rattle.book.specs.WholeRecords.{Ready}
+use Rattle.book.specs.Inner.{Reading, Ran}
 use Rattle.book.proofs.FrontLaws.{meaning, is-whole, length-take-two}
 use Rattle.book.proofs.RangeLaws.{range-idle}
 use Rattle.book.proofs.RunLaws.{book-whole, book-none, run-none}

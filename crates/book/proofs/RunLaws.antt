@@ -18,12 +18,10 @@ use Rattle.book.specs.Front.{Front, unfinished, badLength, whole, need, 
 use Rattle.book.specs.State.{heldOf, InRange, holding}
 use Rattle.book.specs.Run.{Run, then, ended, byFront, bookBy, book, run}
 use Rattle.book.proofs.FrontLaws.{meaning, length-append-two, bad-append, whole-append}
+use Rattle.book.proofs.WholeRecordLaws.{rest-short}
 use Rattle.book.proofs.RangeLaws.{held-holding, holding-held, ended-held, ended-is, range-idle}
 
 -- ---- the count of records that bounds a book does not matter, as long as it is above the count of bytes
-
-rest-short : (xs : List ℕ) (n : ℕ) → front xs ≡ whole → length xs < suc n → length (drop (need xs) xs) < n
-rest-short xs n e h = let m = meaning xs whole e in rw length-drop (omega arith)
 
 same-front : (f : Front) (a : Account) (xs : List ℕ) (p q : Run) → (f ≡ whole → p ≡ q) → byFront f a xs p ≡ byFront f a xs q
 same-front unfinished a xs p q h = refl

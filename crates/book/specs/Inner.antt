@@ -24,11 +24,6 @@ codeOf unfinished = 0
 codeOf badLength = 1
 codeOf whole = 2
 
--- the first n bytes of xs are a record; with n zero there is none
-pub record Ready (xs : List ℕ) (n : ℕ) : Type 0 where
-  pub some : 0 < n → (front xs ≡ whole) × (n ≡ need xs)
-  pub none : n ≡ 0 → front xs ≡ whole → ⊥
-
 -- k bytes of src stand in rec′ behind the first n of rec, up to goal bytes or the end of src
 pub record Filled (rec rec′ : List ℕ) (n goal : ℕ) (src : List ℕ) (k : ℕ) : Type 0 where
   pub inside : k ≤ length src

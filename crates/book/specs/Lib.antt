@@ -1,4 +1,5 @@
 pub mod Front
+pub mod WholeRecords
 pub mod State
 pub mod Run
 pub mod Call

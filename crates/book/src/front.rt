@@ -5,7 +5,8 @@ ghost use mathlib.Core.Path.{_≡_};
 ghost use Prim.Native.Nat.{_≤_};
 ghost use lib.ListN.{length, take};
 ghost use Rattle.book.specs.Front.{front};
-ghost use Rattle.book.specs.Inner.{Ready, codeOf};
+ghost use Rattle.book.specs.WholeRecords.{Ready};
+ghost use Rattle.book.specs.Inner.{codeOf};
 
 // What the first n bytes of s are at their front: 0 an unfinished record, 1 a bad length, 2 a whole record.
 pub(crate) fn front_of(s: &[u8], n: usize) -> u8
@@ -23,7 +24,7 @@ pub(crate) fn front_of(s: &[u8], n: usize) -> u8
 }
 
 // The bytes of the record that lies whole at the front of s; 0 where none does.
-pub(crate) fn ready(s: &[u8]) -> usize
+pub fn ready(s: &[u8]) -> usize
     ensures { λ n. ⌜ Ready (now (s .entry)) n ⌝ }
 {
     let front = front_of(s, s.len());

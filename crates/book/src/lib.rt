@@ -1,6 +1,6 @@
 // A farm's yearly book, read in calls: the state that goes from one call to the next, and what one call does.
+pub mod front; // front.rt: where a record ends
 mod bytes;
-mod front;
 mod records;
 mod turns;
 

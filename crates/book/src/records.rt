@@ -5,7 +5,6 @@ use account::line::write;
 use base::first_of;
 use base::rest_of;
 use rules::judge;
-ghost use mathlib.Core.Path.{_≡_};
 ghost use Prim.Native.Nat.{_<_};
 ghost use Rattle.account.specs.Range.{AccountInRange};
 ghost use Rattle.book.specs.Inner.{Ran};

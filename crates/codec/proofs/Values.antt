@@ -4,9 +4,8 @@ use mathlib.Core.Path.{_≡_, refl, sym, ap, _∙_}
 use mathlib.Core.List.{List, [], _∷_}
 use Prim.Native.Nat.{ℕ, suc, _+_, _<_}
 use native.Mathlib.Omega.{arith}
-use native.Mathlib.Nat.{zero-add, add-assoc}
-use lib.ListN.{length, getD, drop, length-append}
-use lib.Seq.{getD-drop}
+use native.Mathlib.Nat.{add-assoc}
+use lib.ListN.{length, getD, length-append}
 use Rattle.codec.specs.declared.Field.{Field}
 use Rattle.codec.specs.Table.{size}
 use Rattle.codec.specs.Codec.{valAt, be, valuesAt, bytesOf}
@@ -36,10 +35,6 @@ unfolding valuesAt size
 values-same [] s t p q h = refl
 values-same (f ∷ fs) s t p q h =
     rw (valAt-same s t p q (f .0) (λ k l. h k (omega arith)), values-same fs s t (p + f .0) (q + f .0) (λ k l. rw (add-assoc p (f .0) k, add-assoc q (f .0) k) (h (f .0 + k) (omega arith))))
-
--- the values of a part of the bytes
-pub values-drop : (fs : List Field) (s : List ℕ) (n : ℕ) → valuesAt fs (drop n s) 0 ≡ valuesAt fs s n
-values-drop fs s n = values-same fs (drop n s) s 0 n (λ k l. rw (getD-drop, zero-add))
 
 -- ---- the same values, each field by how far it stands from the first
 

@@ -2,9 +2,9 @@
 -- Assumes nothing.
 use Prim.Native.Nat.{ℕ, _+_, _≤_}
 use mathlib.Core.Path.{_≡_}
-use mathlib.Core.Bool.{Bool}
+use mathlib.Core.Bool.{Bool, _&&_}
 use mathlib.Core.List.{List, [], _∷_}
-use lib.Dec.{eqb}
+use lib.Dec.{eqb, leb}
 use lib.ListN.{length, getD}
 use Rattle.codec.specs.declared.Field.{Field}
 
@@ -45,6 +45,10 @@ fields kind = getD table kind []
 -- the highest kind
 abbrev pub lastKind : ℕ
 lastKind = 8
+
+-- a kind that a record may have
+abbrev pub isKind : ℕ → Bool
+isKind k = leb 1 k && leb k lastKind
 
 -- v are values of kind k, as many as its fields
 pub record Of (k : ℕ) (v : List ℕ) : Type 0 where

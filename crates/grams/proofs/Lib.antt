@@ -2,4 +2,5 @@ pub mod Bounds
 pub mod Parts
 pub mod Small
 pub mod Cases
+pub mod Carbon
 pub mod OneAnswer

@@ -1,14 +1,16 @@
--- One answer: two answers that meet the contract of a public function are equal. Each but `of` asks its ranges of its caller, who is the book reader.
--- The contracts are those of the source itself: Learnt is what a caller learns from a
--- function's `ensures`, Asked what its `requires` ask.
+-- One answer: two answers that meet the contract of a public function are equal. The figures ask their ranges of their caller, who is the book reader;
+-- what asks nothing says so first. The contracts are those of the source itself: Learnt is what a caller learns from a function's `ensures`, Asked what
+-- its `requires` ask.
 -- Assumes nothing.
 use Prim.Native.Nat.{ℕ}
+use mathlib.Core.Bool.{Bool}
 use mathlib.Core.Path.{_≡_, sym, _∙_}
 use contract.Lifetimes.{Lfts}
 use borrow.Fn.Kinds.{Dens, endedOf}
 use denote.Triple.Clauses.{AtExit}
 use Rattle.grams.specs.declared.cattle.CattleNitrogen.{CattleNitrogen}
 use Rattle.grams.specs.declared.pig.PigManure.{PigManure}
+use Rattle.grams.specs.declared.units.Co2.{Co2}
 use Rattle.grams.specs.declared.units.N2o.{N2o}
 use Rattle.grams.specs.declared.units.N2oN.{N2oN}
 use Rattle.grams.proofs.cattle.enteric.Kinds as methane
@@ -25,35 +27,109 @@ use Rattle.grams.proofs.pig.manure.Kinds as pig
 use Rattle.grams.proofs.pig.manure.Reads as pig-contract
 use Rattle.grams.proofs.rounding.round_div.Kinds as division
 use Rattle.grams.proofs.rounding.round_div.Reads as division-contract
+use Rattle.grams.proofs.units.Co2.of.Kinds as air
+use Rattle.grams.proofs.units.Co2.of.Reads as air-contract
+use Rattle.grams.proofs.units.Co2.plus.Kinds as air-sum
+use Rattle.grams.proofs.units.Co2.plus.Reads as air-sum-contract
+use Rattle.grams.proofs.units.Co2.same.Kinds as moved-air
+use Rattle.grams.proofs.units.Co2.same.Reads as moved-air-contract
+use Rattle.grams.proofs.units.Co2.within.Kinds as air-bound
+use Rattle.grams.proofs.units.Co2.within.Reads as air-bound-contract
+use Rattle.grams.proofs.units.Co2.word.Kinds as laid-air
+use Rattle.grams.proofs.units.Co2.word.Reads as laid-air-contract
+use Rattle.grams.proofs.units.N2o.grams.Kinds as weight
+use Rattle.grams.proofs.units.N2o.grams.Reads as weight-contract
+use Rattle.grams.proofs.units.N2o.of.Kinds as laughing
+use Rattle.grams.proofs.units.N2o.of.Reads as laughing-contract
 use Rattle.grams.proofs.units.N2o.plus.Kinds as sum
 use Rattle.grams.proofs.units.N2o.plus.Reads as sum-contract
+use Rattle.grams.proofs.units.N2o.same.Kinds as moved
+use Rattle.grams.proofs.units.N2o.same.Reads as moved-contract
 use Rattle.grams.proofs.units.N2oN.of.Kinds as parts
 use Rattle.grams.proofs.units.N2oN.of.Reads as parts-contract
 use Rattle.grams.proofs.units.N2oN.to_n2o.Kinds as gas
 use Rattle.grams.proofs.units.N2oN.to_n2o.Reads as gas-contract
 
-pub of-asks-nothing : (κs : Lfts 0) (args : Dens κs parts.ps) → parts-contract.Asked κs args
-of-asks-nothing κs args = tt
+pub co2-of-asks-nothing : (κs : Lfts 0) (args : Dens κs air.ps) → air-contract.Asked κs args
+co2-of-asks-nothing κs args = tt
 
--- round(n/d).
-pub one-round-div : (κs : Lfts 0) (args : Dens κs division.ps) (f g : ℕ) (e e′ : AtExit (endedOf 0 division.ps division.r) κs)
-    → division-contract.Learnt κs args f e → division-contract.Learnt κs args g e′ → f ≡ g
-one-round-div κs args f g e e′ p q = p ∙ sym q
+pub co2-same-asks-nothing : (κs : Lfts 0) (args : Dens κs moved-air.ps) → moved-air-contract.Asked κs args
+co2-same-asks-nothing κs args = tt
+
+pub co2-word-asks-nothing : (κs : Lfts 0) (args : Dens κs laid-air.ps) → laid-air-contract.Asked κs args
+co2-word-asks-nothing κs args = tt
+
+pub n2o-of-asks-nothing : (κs : Lfts 0) (args : Dens κs laughing.ps) → laughing-contract.Asked κs args
+n2o-of-asks-nothing κs args = tt
+
+pub n2o-same-asks-nothing : (κs : Lfts 0) (args : Dens κs moved.ps) → moved-contract.Asked κs args
+n2o-same-asks-nothing κs args = tt
+
+pub n2o-grams-asks-nothing : (κs : Lfts 0) (args : Dens κs weight.ps) → weight-contract.Asked κs args
+n2o-grams-asks-nothing κs args = tt
+
+pub n2o-n-of-asks-nothing : (κs : Lfts 0) (args : Dens κs parts.ps) → parts-contract.Asked κs args
+n2o-n-of-asks-nothing κs args = tt
+
+-- Grams as CO2.
+pub one-co2-of : (κs : Lfts 0) (args : Dens κs air.ps) (f g : Co2) (e e′ : AtExit (endedOf 0 air.ps air.r) κs)
+    → air-contract.Learnt κs args f e → air-contract.Learnt κs args g e′ → f ≡ g
+one-co2-of κs args f g e e′ p q = p ∙ sym q
+
+-- CO2 moved.
+pub one-co2-same : (κs : Lfts 0) (args : Dens κs moved-air.ps) (f g : Co2) (e e′ : AtExit (endedOf 0 moved-air.ps moved-air.r) κs)
+    → moved-air-contract.Learnt κs args f e → moved-air-contract.Learnt κs args g e′ → f ≡ g
+one-co2-same κs args f g e e′ p q = p ∙ sym q
+
+-- CO2 as it is laid into 8 bytes.
+pub one-co2-word : (κs : Lfts 0) (args : Dens κs laid-air.ps) (f g : ℕ) (e e′ : AtExit (endedOf 0 laid-air.ps laid-air.r) κs)
+    → laid-air-contract.Learnt κs args f e → laid-air-contract.Learnt κs args g e′ → f ≡ g
+one-co2-word κs args f g e e′ p q = p ∙ sym q
+
+-- CO2 added.
+pub one-co2-plus : (κs : Lfts 0) (args : Dens κs air-sum.ps) (f g : Co2) (e e′ : AtExit (endedOf 0 air-sum.ps air-sum.r) κs)
+    → air-sum-contract.Learnt κs args f e → air-sum-contract.Learnt κs args g e′ → f ≡ g
+one-co2-plus κs args f g e e′ p q = p ∙ sym q
+
+-- Whether so many records reach it.
+pub one-co2-within : (κs : Lfts 0) (args : Dens κs air-bound.ps) (f g : Bool) (e e′ : AtExit (endedOf 0 air-bound.ps air-bound.r) κs)
+    → air-bound-contract.Learnt κs args f e → air-bound-contract.Learnt κs args g e′ → f ≡ g
+one-co2-within κs args f g e e′ p q = p ∙ sym q
+
+-- Grams as N2O.
+pub one-n2o-of : (κs : Lfts 0) (args : Dens κs laughing.ps) (f g : N2o) (e e′ : AtExit (endedOf 0 laughing.ps laughing.r) κs)
+    → laughing-contract.Learnt κs args f e → laughing-contract.Learnt κs args g e′ → f ≡ g
+one-n2o-of κs args f g e e′ p q = p ∙ sym q
+
+-- N2O moved.
+pub one-n2o-same : (κs : Lfts 0) (args : Dens κs moved.ps) (f g : N2o) (e e′ : AtExit (endedOf 0 moved.ps moved.r) κs)
+    → moved-contract.Learnt κs args f e → moved-contract.Learnt κs args g e′ → f ≡ g
+one-n2o-same κs args f g e e′ p q = p ∙ sym q
+
+-- The grams of N2O.
+pub one-n2o-grams : (κs : Lfts 0) (args : Dens κs weight.ps) (f g : ℕ) (e e′ : AtExit (endedOf 0 weight.ps weight.r) κs)
+    → weight-contract.Learnt κs args f e → weight-contract.Learnt κs args g e′ → f ≡ g
+one-n2o-grams κs args f g e e′ p q = p ∙ sym q
+
+-- N2O added.
+pub one-n2o-plus : (κs : Lfts 0) (args : Dens κs sum.ps) (f g : N2o) (e e′ : AtExit (endedOf 0 sum.ps sum.r) κs)
+    → sum-contract.Learnt κs args f e → sum-contract.Learnt κs args g e′ → f ≡ g
+one-n2o-plus κs args f g e e′ p q = p ∙ sym q
 
 -- N2O-N from its parts.
-pub one-of : (κs : Lfts 0) (args : Dens κs parts.ps) (f g : N2oN) (e e′ : AtExit (endedOf 0 parts.ps parts.r) κs)
+pub one-n2o-n-of : (κs : Lfts 0) (args : Dens κs parts.ps) (f g : N2oN) (e e′ : AtExit (endedOf 0 parts.ps parts.r) κs)
     → parts-contract.Learnt κs args f e → parts-contract.Learnt κs args g e′ → f ≡ g
-one-of κs args f g e e′ p q = p ∙ sym q
+one-n2o-n-of κs args f g e e′ p q = p ∙ sym q
 
 -- N2O-N as N2O.
 pub one-to-n2o : (κs : Lfts 0) (args : Dens κs gas.ps) (f g : N2o) (e e′ : AtExit (endedOf 0 gas.ps gas.r) κs)
     → gas-contract.Learnt κs args f e → gas-contract.Learnt κs args g e′ → f ≡ g
 one-to-n2o κs args f g e e′ p q = p ∙ sym q
 
--- Grams of N2O added.
-pub one-plus : (κs : Lfts 0) (args : Dens κs sum.ps) (f g : N2o) (e e′ : AtExit (endedOf 0 sum.ps sum.r) κs)
-    → sum-contract.Learnt κs args f e → sum-contract.Learnt κs args g e′ → f ≡ g
-one-plus κs args f g e e′ p q = p ∙ sym q
+-- round(n/d).
+pub one-round-div : (κs : Lfts 0) (args : Dens κs division.ps) (f g : ℕ) (e e′ : AtExit (endedOf 0 division.ps division.r) κs)
+    → division-contract.Learnt κs args f e → division-contract.Learnt κs args g e′ → f ≡ g
+one-round-div κs args f g e e′ p q = p ∙ sym q
 
 -- Enteric CH4.
 pub one-enteric : (κs : Lfts 0) (args : Dens κs methane.ps) (f g : ℕ) (e e′ : AtExit (endedOf 0 methane.ps methane.r) κs)
@@ -71,16 +147,16 @@ pub one-manure : (κs : Lfts 0) (args : Dens κs pig.ps) (f g : PigManure) (e e�
 one-manure κs args f g e e′ p q = p .exact ∙ sym (q .exact)
 
 -- Energy CO2.
-pub one-energy : (κs : Lfts 0) (args : Dens κs fuel.ps) (f g : ℕ) (e e′ : AtExit (endedOf 0 fuel.ps fuel.r) κs)
+pub one-energy : (κs : Lfts 0) (args : Dens κs fuel.ps) (f g : Co2) (e e′ : AtExit (endedOf 0 fuel.ps fuel.r) κs)
     → fuel-contract.Learnt κs args f e → fuel-contract.Learnt κs args g e′ → f ≡ g
 one-energy κs args f g e e′ p q = p .exact ∙ sym (q .exact)
 
 -- Organic soil CO2.
-pub one-soil : (κs : Lfts 0) (args : Dens κs ground.ps) (f g : ℕ) (e e′ : AtExit (endedOf 0 ground.ps ground.r) κs)
+pub one-soil : (κs : Lfts 0) (args : Dens κs ground.ps) (f g : Co2) (e e′ : AtExit (endedOf 0 ground.ps ground.r) κs)
     → ground-contract.Learnt κs args f e → ground-contract.Learnt κs args g e′ → f ≡ g
 one-soil κs args f g e e′ p q = p .exact ∙ sym (q .exact)
 
 -- CO2e.
-pub one-co2e : (κs : Lfts 0) (args : Dens κs warmed.ps) (f g : ℕ) (e e′ : AtExit (endedOf 0 warmed.ps warmed.r) κs)
+pub one-co2e : (κs : Lfts 0) (args : Dens κs warmed.ps) (f g : Co2) (e e′ : AtExit (endedOf 0 warmed.ps warmed.r) κs)
     → warmed-contract.Learnt κs args f e → warmed-contract.Learnt κs args g e′ → f ≡ g
 one-co2e κs args f g e e′ p q = p ∙ sym q

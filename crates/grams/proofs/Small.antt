@@ -5,11 +5,10 @@ use Rattle.grams.specs.Cattle as cattle
 use Rattle.grams.specs.Cattle.{EntericIn, CattleIn, entericOf, keptOf}
 use Rattle.grams.specs.Pig as pig
 use Rattle.grams.specs.Pig.{PigIn, recordNitrogen}
-use Rattle.grams.specs.Farm.{EnergyIn, SoilIn, SumsIn, energyOf, soilOf, co2eOf}
+use Rattle.grams.specs.Units.{Co2Within}
+use Rattle.grams.specs.Farm.{EnergyIn, SoilIn, energyOf, soilOf}
 use Rattle.grams.specs.declared.cattle.CattleRation.{CattleRation}
 use Rattle.grams.specs.declared.pig.PigRation.{PigRation}
-use Rattle.grams.specs.declared.farm.Warming.{Warming}
-use Rattle.grams.specs.declared.farm.Warming.the-variants.{First, Second}
 use Rattle.grams.proofs.Bounds.{_⊗_, _⊕_, num, less, rounds}
 use Rattle.grams.proofs.Parts.{cattle-excreted-most, cattle-direct-most, cattle-indirect-most, pig-solids-most, pig-ch4-most, pig-nitrogen-most, pig-direct-most, pig-indirect-most, pig-land-most}
 
@@ -48,15 +47,10 @@ module _ {p : PigRation} {head : ℕ} (i : PigIn p head) where
   unfolding pig.manureOf
   pig-land-small = omega (arith, pig-land-most nitrogen-most (p .volatilised) (p .leached))
 
-pub energy-small : {amount factor : ℕ} → EnergyIn amount factor → energyOf amount factor ≤ 10 ^ 13
+pub energy-small : {amount factor : ℕ} → EnergyIn amount factor → Co2Within 1 (energyOf amount factor)
 unfolding energyOf
 energy-small i = rounds _ _ (i .amount-in ⊗ i .factor-in) tt tt
 
-pub soil-small : {area : ℕ} → SoilIn area → soilOf area ≤ 10 ^ 13
+pub soil-small : {area : ℕ} → SoilIn area → Co2Within 1 (soilOf area)
 unfolding soilOf
 soil-small i = rounds _ _ (i .area-in ⊗ num _) tt tt
-
-pub co2e-small : (w : Warming) {co2 ch4 n2o : ℕ} → SumsIn co2 ch4 n2o → co2eOf w co2 ch4 n2o ≤ 10 ^ 17
-unfolding co2eOf
-co2e-small First i = omega arith
-co2e-small Second i = omega arith

@@ -6,6 +6,7 @@ use lib.Dec.{eqb}
 use Rattle.base.specs.Choice.{pick}
 use Rattle.grams.specs.Cattle.{entericOf, nitrogenOf}
 use Rattle.grams.specs.Pig.{manureOf}
+use Rattle.grams.specs.Units.{co2Word}
 use Rattle.grams.specs.Farm.{soilOf}
 use Rattle.grams.specs.declared.cattle.CattleNitrogen.{CattleNitrogen}
 use Rattle.grams.specs.declared.cattle.CattleNitrogen.the-variants.{BelowZero, Given}
@@ -61,7 +62,7 @@ cases =
     ∷ row (entericOf 30000 650 1 365 ∷ []) (127898 ∷ [])
     ∷ row (cattleFigures (nitrogenOf p6 10)) (0 ∷ 1318672 ∷ (16370 + 12392) ∷ [])
     ∷ row (pigFigures (manureOf p7 100)) (128640 ∷ 403200 ∷ (1267 + 1584) ∷ 302400 ∷ [])
-    ∷ row (soilOf 100 ∷ []) (18333333 ∷ [])
+    ∷ row (co2Word (soilOf 100) ∷ []) (18333333 ∷ [])
     ∷ row (entericOf 30000 650 0 365 ∷ cattleFigures (nitrogenOf p6 0)) (0 ∷ 0 ∷ 0 ∷ 0 ∷ [])
     ∷ row (pigFigures (manureOf p7 0)) (0 ∷ 0 ∷ 0 ∷ 0 ∷ [])
     ∷ []

@@ -3,7 +3,10 @@ use Prim.Native.Nat.{ℕ, _+_, _*_, _^_, _≤_}
 use lib.Dec.{eqb}
 use Rattle.base.specs.Choice.{pick}
 use Rattle.grams.specs.Round.{roundDiv}
-use Rattle.grams.specs.Figure.{Figure}
+use Rattle.grams.specs.Units.{gramsCo2, plusCo2, Co2Within}
+use Rattle.grams.specs.Figure.{Carbon}
+use Rattle.grams.specs.declared.units.Co2.{Co2}
+use Rattle.grams.specs.declared.units.N2o.{N2o}
 use Rattle.grams.specs.declared.farm.Warming.{Warming}
 use Rattle.grams.specs.declared.farm.Warming.the-variants.{First, Second}
 
@@ -13,24 +16,24 @@ pub record EnergyIn (amount factor : ℕ) : Type 0 where
   pub factor-in : factor ≤ 10000000
 
 -- CO2 = round(amount × factor / 10)
-unfoldable pub energyOf : ℕ → ℕ → ℕ
-energyOf amount factor = roundDiv (amount * factor) 10
+unfoldable pub energyOf : ℕ → ℕ → Co2
+energyOf amount factor = gramsCo2 (roundDiv (amount * factor) 10)
 
 -- what `energy` answers
-abbrev pub Energy : ℕ → ℕ → ℕ → Type 0
-Energy amount factor r = Figure (energyOf amount factor) (10 ^ 13) r
+abbrev pub Energy : ℕ → ℕ → Co2 → Type 0
+Energy amount factor r = Carbon (energyOf amount factor) r
 
 -- the range of an organic soil record, from above
 pub record SoilIn (area : ℕ) : Type 0 where
   pub area-in : area ≤ 10000000
 
 -- CO2 = round(area × 550000 / 3)
-unfoldable pub soilOf : ℕ → ℕ
-soilOf area = roundDiv (area * 550000) 3
+unfoldable pub soilOf : ℕ → Co2
+soilOf area = gramsCo2 (roundDiv (area * 550000) 3)
 
 -- what `soil` answers
-abbrev pub Soil : ℕ → ℕ → Type 0
-Soil area r = Figure (soilOf area) (10 ^ 13) r
+abbrev pub Soil : ℕ → Co2 → Type 0
+Soil area r = Carbon (soilOf area) r
 
 -- a and b
 pub record Factors : Type 0 where
@@ -47,11 +50,11 @@ abbrev pub warmingOf : ℕ → Warming
 warmingOf set = pick (eqb set 1) First Second
 
 -- the most that the sums of 4,096 records reach
-pub record SumsIn (co2 ch4 n2o : ℕ) : Type 0 where
-  pub co2-in : co2 ≤ 4096 * 10 ^ 13
+pub record SumsIn (co2 : Co2) (ch4 : ℕ) (n2o : N2o) : Type 0 where
+  pub co2-in : Co2Within 4096 co2
   pub ch4-in : ch4 ≤ 4096 * 10 ^ 11
-  pub n2o-in : n2o ≤ 4096 * 10 ^ 10
+  pub n2o-in : n2o .0 ≤ 4096 * 10 ^ 10
 
 -- CO2e = CO2 + a × CH4 + b × N2O
-unfoldable pub co2eOf : Warming → ℕ → ℕ → ℕ → ℕ
-co2eOf w co2 ch4 n2o = co2 + factorsOf w .ch4 * ch4 + factorsOf w .n2o * n2o
+unfoldable pub co2eOf : Warming → Co2 → ℕ → N2o → Co2
+co2eOf w co2 ch4 n2o = plusCo2 co2 (gramsCo2 (factorsOf w .ch4 * ch4 + factorsOf w .n2o * n2o .0))

@@ -1,13 +1,78 @@
-// Grams of N2O, and N2O-N, the nitrogen in it. Only `to_n2o` leads from one to the other.
+// Grams of CO2; grams of N2O, and N2O-N, the nitrogen in it. Only `to_n2o` leads from N2O-N to N2O.
 use crate::rounding::round_div;
 ghost use mathlib.Core.Path.{_≡_};
-ghost use Prim.Native.Nat.{_+_, _*_, _^_, _<_};
-ghost use Rattle.grams.specs.Units.{gramsN2o, partsN2oN, asN2o};
+ghost use Prim.Native.Nat.{_+_, _*_, _^_, _<_, _≤_};
+ghost use Rattle.grams.specs.Units.{gramsCo2, plusCo2, Co2Within, co2Within, co2Word, gramsN2o, partsN2oN, asN2o};
+
+// Grams of CO2. How they are added, bounded and laid into 8 bytes is said here alone.
+pub struct Co2(u64);
+
+// None, as where a rule gives none.
+pub const NO_CO2: Co2 = Co2(0);
+
+impl Co2 {
+    pub fn of(grams: u64) -> Co2
+        ensures { λ r. ⌜ r ≡ gramsCo2 grams ⌝ }
+    {
+        Co2(grams)
+    }
+
+    pub fn plus(self, other: Co2) -> Co2
+        requires { ⌜ Co2Within 4096 self × Co2Within 4096 other ⌝ }
+        ensures { λ r. ⌜ r ≡ plusCo2 self other ⌝ }
+    {
+        Co2(self.0 + other.0)
+    }
+
+    // Whether so many records reach it.
+    pub fn within(self, records: u64) -> bool
+        requires { ⌜ records ≤ 65535 ⌝ }
+        ensures { λ r. ⌜ r ≡ co2Within records self ⌝ }
+    {
+        self.0 <= records * 10000000000000
+    }
+
+    // The same, moved by itself.
+    pub fn same(self) -> Co2
+        ensures { λ r. ⌜ r ≡ self ⌝ }
+    {
+        Co2(self.0)
+    }
+
+    // The number that stands for it in 8 bytes.
+    pub fn word(self) -> u64
+        ensures { λ r. ⌜ r ≡ co2Word self ⌝ }
+    {
+        self.0
+    }
+}
 
 // Grams of N2O.
-pub struct N2o(pub u64);
+pub struct N2o(u64);
+
+// None, as where a rule gives none.
+pub const NO_N2O: N2o = N2o(0);
 
 impl N2o {
+    pub fn of(grams: u64) -> N2o
+        ensures { λ r. ⌜ r ≡ gramsN2o grams ⌝ }
+    {
+        N2o(grams)
+    }
+
+    // The same, moved by itself.
+    pub fn same(self) -> N2o
+        ensures { λ r. ⌜ r ≡ self ⌝ }
+    {
+        N2o(self.0)
+    }
+
+    pub fn grams(self) -> u64
+        ensures { λ r. ⌜ r ≡ self .0 ⌝ }
+    {
+        self.0
+    }
+
     pub fn plus(self, other: N2o) -> N2o
         requires { ⌜ self .0 + other .0 < 2 ^ 64 ⌝ }
         ensures { λ r. ⌜ r ≡ gramsN2o (self .0 + other .0) ⌝ }

@@ -17,8 +17,9 @@ use Rattle.codec.specs.Codec.{firstBad, recordBytes}
 use Rattle.codec.proofs.Round.{record-length}
 use Rattle.account.specs.declared.Account.{Account}
 use Rattle.account.specs.declared.Refusal.{Refusal}
-use Rattle.account.specs.Judge.{first, valueRefusals, refused, accepted, weigh}
-use Rattle.account.proofs.Keeps.{stage-most, clear}
+use Rattle.account.specs.Judge.{weigh}
+use Rattle.account.proofs.Keeps.{stage-most}
+use Rattle.account.proofs.Refusals.{passed, weighed-passes}
 use Rattle.book.specs.declared.State.{State}
 use Rattle.book.specs.State.{inRange, holding}
 use Rattle.book.proofs.RangeLaws.{range-parts, range-test}
@@ -29,19 +30,8 @@ use Rattle.make_record.specs.Write.{Write, refusalBy, next, refusals, an
 
 -- ---- values that the reader would not refuse
 
-pub not-refused : (a : Account) (k : ℕ) (v : List ℕ) → (weigh a k v .account .stage ≡ 3 → ⊥) → first (valueRefusals a k v) ≡ 0
-unfolding weigh
-not-refused a k v h = go (eqb code 0) _ refl h
-  where
-    code : ℕ
-    code = first (valueRefusals a k v)
-
-    go : (b : Bool) (r : ℕ) → eqb code 0 ≡ b → (pick b (accepted a k v) (record { account = refused a code r; lines = [] }) .account .stage ≡ 3 → ⊥) → code ≡ 0
-    go true r e n = eqb-true _ _ e
-    go false r e n = absurd (n refl)
-
 pub in-ranges : (a : Account) (k : ℕ) (v : List ℕ) → (weigh a k v .account .stage ≡ 3 → ⊥) → firstBad (fields k) v 0 ≡ 0
-in-ranges a k v h = clear a k v (not-refused a k v h) .passes .ranges
+in-ranges a k v h = passed a k v (weighed-passes a k v h) .ranges
 
 -- ---- a state that can be written to
 

@@ -12,7 +12,7 @@ use lib.Dec.{ltb, leb, eqb}
 use lib.ListN.{length, replicate, length-replicate}
 use Rattle.base.specs.Choice.{pick}
 use Rattle.base.proofs.Tests.{and-false, or-cases}
-use Rattle.codec.specs.Table.{fields, lengthOf, Of, lastKind}
+use Rattle.codec.specs.Table.{fields, lengthOf, Of, lastKind, isKind}
 use Rattle.codec.specs.Codec.{valAt, recordBytes}
 use Rattle.codec.proofs.Rows.{Fit, fit-kind}
 use Rattle.account.specs.declared.Refusal.{Refusal}
@@ -80,11 +80,11 @@ module _ (s : State) (y : Ready s) (k : ℕ) (v : List ℕ) (room : ℕ) where
     unfolding judge first
     kind-as-reader e = rw (by-3 s k v room y e, w .version, w .kind, other k e)
       where
-        other : (n : ℕ) → ltb n 1 || ltb lastKind n ≡ true → leb 1 n && leb n 8 ≡ false
+        other : (n : ℕ) → ltb n 1 || ltb lastKind n ≡ true → isKind n ≡ false
         other n e =
             ⊎-elim
             (λ (g : ltb n 1 ≡ true). rw (lt-leb 1 n (ltb-true _ _ g)))
-            (λ (g : ltb lastKind n ≡ true). rw (lt-leb n 8 (ltb-true _ _ g)) (and-false (leb 1 n)))
+            (λ (g : ltb lastKind n ≡ true). rw (lt-leb n lastKind (ltb-true _ _ g)) (and-false (leb 1 n)))
             (or-cases (ltb n 1) (ltb lastKind n) e)
 
     -- For a wrong count of values the writer gives what the reader gives for any record of that kind that is not of the kind's length.

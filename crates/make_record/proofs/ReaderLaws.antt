@@ -12,7 +12,7 @@ use lib.Dec.{leb}
 use lib.ListN.{length, getD, take}
 use lib.Seq.{take-all, take-length}
 use Rattle.base.proofs.Tests.{and-l, and-r, lt-or-ge}
-use Rattle.codec.specs.Table.{table, fields, size, lengthOf, Of, lastKind}
+use Rattle.codec.specs.Table.{table, fields, size, lengthOf, Of, lastKind, isKind}
 use Rattle.codec.specs.Codec.{be, valuesAt, bytesOf, recordBytes}
 use Rattle.codec.proofs.BigEndian.{one-byte}
 use Rattle.codec.proofs.Rows.{Fit, length-most}
@@ -93,7 +93,7 @@ each-at p (suc n) e k l h =
 -- no kind's length is below 4: antt computes it for the eight
 length-least : (k : ℕ) → 1 ≤ k → k ≤ lastKind → 4 ≤ lengthOf k
 unfolding table size each
-length-least k l h = leb-true _ _ (each-at (λ n. leb 4 (lengthOf n)) 8 refl k l h)
+length-least k l h = leb-true _ _ (each-at (λ n. leb 4 (lengthOf n)) lastKind refl k l h)
 
 module _ (k : ℕ) (v : List ℕ) (o : Of k v) where
   -- it is a whole record of version 1 and its kind
@@ -113,7 +113,7 @@ module _ (k : ℕ) (v : List ℕ) (o : Of k v) where
   values-read f =
       rw (start-then k v) (rw (start-length k, append-nil (bytesOf (fields k) v 0)) at (values-back (fields k) v (start k) [] f (o .count)))
 
-  is-eight : leb 1 k && leb k 8 ≡ true
+  is-eight : isKind k ≡ true
   is-eight = rw (le-leb _ _ (o .least), le-leb _ _ (o .most))
 
   -- the record does what its values do

@@ -21,40 +21,17 @@ use Rattle.account.specs.Figures.{groupFigures}
 use Rattle.account.specs.Range.{Headed, Unheaded, AccountInRange}
 use Rattle.account.specs.Judge.{kindOf, valuesOf, underHeading, first, refusals, Step, accepted, judge}
 use Rattle.account.proofs.Sorts.{by-sort, heads-two}
-use Rattle.account.proofs.First.{first-clear}
+use Rattle.account.proofs.Refusals.{not-refused}
 use Rattle.account.proofs.Keeps.{in-range-judge}
 use Rattle.book.specs.declared.State.{State}
 use Rattle.book.specs.Front.{Front, unfinished, badLength, whole, need, front}
+use Rattle.book.specs.WholeRecords.{recordsOf}
 use Rattle.book.specs.State.{heldOf, InRange}
 use Rattle.book.specs.Run.{Run, book, run}
 use Rattle.book.proofs.FrontLaws.{meaning}
+use Rattle.book.proofs.WholeRecordLaws.{records-whole}
 use Rattle.book.proofs.RunLaws.{book-ended, book-unfinished, book-bad, book-whole}
-use Rattle.promises.specs.Headings.{beginsWith, recordsBy, recordsOf, acceptedRecords, groupBy, lastGroup, Mark, markOf, subtotalMark, ownMark, marksOf}
-
--- ---- the records of some bytes
-
-rest-short : (xs : List ℕ) (n : ℕ) → front xs ≡ whole → length xs < suc n → length (drop (need xs) xs) < n
-rest-short xs n e h = let m = meaning xs whole e in rw length-drop (omega arith)
-
-same-begin : (f : Front) (xs : List ℕ) (p q : List (List ℕ)) → (f ≡ whole → p ≡ q) → beginsWith f xs p ≡ beginsWith f xs q
-same-begin unfinished xs p q h = refl
-same-begin badLength xs p q h = refl
-same-begin whole xs p q h = ap (λ (l : List (List ℕ)). take (need xs) xs ∷ l) (h refl)
-
-enough : (n m : ℕ) (xs : List ℕ) → length xs < n → length xs < m → recordsBy n xs ≡ recordsBy m xs
-unfolding recordsBy
-enough zero m xs p q = absurd (omega arith)
-enough (suc n) zero xs p q = absurd (omega arith)
-enough (suc n) (suc m) xs p q =
-    same-begin (front xs) xs (recordsBy n (drop (need xs) xs)) (recordsBy m (drop (need xs) xs))
-    (λ e. enough n m (drop (need xs) xs) (rest-short xs n e p) (rest-short xs m e q))
-
-pub records-whole : (xs : List ℕ) → front xs ≡ whole → recordsOf xs ≡ take (need xs) xs ∷ recordsOf (drop (need xs) xs)
-unfolding recordsOf recordsBy
-records-whole xs e =
-    rw e
-    (ap (λ (l : List (List ℕ)). take (need xs) xs ∷ l)
-    (enough (length xs) (suc (length (drop (need xs) xs))) (drop (need xs) xs) (rest-short xs (length xs) e (omega arith)) (omega arith)))
+use Rattle.promises.specs.Headings.{acceptedRecords, groupBy, lastGroup, Mark, markOf, subtotalMark, ownMark, marksOf}
 
 -- ---- what a line bears
 
@@ -129,9 +106,7 @@ module _ (a : Account) (r : List ℕ) (f : AccountInRange a) (kinds : leb 1 (kin
       (λ e. record { counted = refl; marks = close-marks ∙ rw e refl; group = rw e refl })
 
 pub kind-in : (a : Account) (r : List ℕ) → first (refusals a r) ≡ 0 → leb 1 (kindOf r) && leb (kindOf r) 8 ≡ true
-kind-in a r e =
-    let t = first-clear (refusals a r) (omega arith, (omega arith, (omega arith, (omega arith, (omega arith, (omega arith, (omega arith, (omega arith, (omega arith, (omega arith, (omega arith, tt))))))))))) e in
-    not-false _ (t .1 .0 (omega arith))
+kind-in a r e = not-false _ (not-refused a r e .kind)
 
 pub judged : (a : Account) (r : List ℕ) → AccountInRange a → Stopped a (judge a r) ⊎ Grown a r (judge a r)
 unfolding judge

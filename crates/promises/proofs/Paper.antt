@@ -20,11 +20,12 @@ use Rattle.account.specs.Range.{accountInRange}
 use Rattle.account.specs.Sorts.{sortOf}
 use Rattle.account.specs.Judge.{kindOf, noRecord, refused, first, inPlace, accepted, judge}
 use Rattle.book.specs.Front.{front}
+use Rattle.book.specs.WholeRecords.{recordsBy, recordsOf}
 use Rattle.book.specs.State.{noRecordYet, holding, inRange, InRange}
 use Rattle.book.specs.Run.{bookBy, book, run}
 use Rattle.book.specs.Call.{longest, answerOf, call}
 use Rattle.book.specs.Way.{way, Ended}
-use Rattle.promises.specs.Headings.{recordsBy, recordsOf, lastGroup, acceptedRecords}
+use Rattle.promises.specs.Headings.{lastGroup, acceptedRecords}
 use Rattle.promises.specs.Paper.{verdictOf, paper, sample, sampleLines, fiveParts, everyKind, everyKindLines}
 use Rattle.book.proofs.RunLeaves.{run-leaves}
 use Rattle.promises.proofs.StaysInRange.{new-in-range}

@@ -14,6 +14,7 @@ use Rattle.base.specs.Choice.{pick}
 use Rattle.base.proofs.Tests.{lt-or-ge, no-bool, of-choice, true-or-false}
 use Rattle.codec.specs.Codec.{valAt, lineBytes}
 use Rattle.account.specs.declared.Account.{Account}
+use Rattle.grams.specs.declared.units.Co2.{Co2}
 use Rattle.account.specs.declared.Figures.{Figures}
 use Rattle.account.specs.declared.Subtotal.{Subtotal}
 use Rattle.account.specs.Sorts.{Sort, opens, heads, ofGroup, ofFarm, closes, sortOf, bySort}
@@ -25,14 +26,16 @@ use Rattle.account.proofs.Sorts.{by-sort, not-of-group, kind-most}
 use Rattle.account.proofs.Keeps.{in-range-judge}
 use Rattle.book.specs.declared.State.{State}
 use Rattle.book.specs.Front.{Front, unfinished, badLength, whole, need, front}
+use Rattle.book.specs.WholeRecords.{recordsOf}
 use Rattle.book.specs.State.{heldOf, noRecordYet, InRange}
 use Rattle.book.specs.Run.{Run, book, run}
 use Rattle.book.proofs.FrontLaws.{meaning}
+use Rattle.book.proofs.WholeRecordLaws.{records-whole}
 use Rattle.promises.proofs.StaysInRange.{new-in-range}
 use Rattle.book.proofs.RunLaws.{book-ended, book-unfinished, book-bad, book-whole}
-use Rattle.promises.specs.Headings.{Mark, recordsOf, acceptedRecords}
+use Rattle.promises.specs.Headings.{Mark, acceptedRecords}
 use Rattle.promises.specs.Subtotals.{detailOf, headingAfter, groupAfter, farmAfter, Group, groupUnder, ends, groupsOf, farmOf, farm, groups, addedUp, lineOfGroup, subtotalLines}
-use Rattle.promises.proofs.Headings.{line-mark, total-mark, group-most, records-whole, kind-in}
+use Rattle.promises.proofs.Headings.{line-mark, total-mark, group-most, kind-in}
 
 -- ---- lines of kind 16
 
@@ -67,7 +70,7 @@ pub record Gas : Type 0 where
   pub adds : (f g : Figures) → farm (added f g) ≡ farm f + farm g
   pub groups : (s : Subtotal) (f : Figures) → group (grouped s f) ≡ group s + farm f
   pub none : group noSubtotal ≡ 0
-  pub air : (g : ℕ) → farm (co2Alone g) ≡ 0
+  pub air : (g : Co2) → farm (co2Alone g) ≡ 0
   pub ungrouped : (s : Subtotal) → Ungrouped s → group s ≡ 0
 
 -- whether a record closes the book

@@ -19,13 +19,15 @@ use Rattle.account.proofs.Sorts.{by-sort}
 use Rattle.account.proofs.Keeps.{in-range-judge}
 use Rattle.book.specs.declared.State.{State}
 use Rattle.book.specs.Front.{Front, unfinished, badLength, whole, need, front}
+use Rattle.book.specs.WholeRecords.{recordsOf}
 use Rattle.book.specs.State.{heldOf, InRange}
 use Rattle.book.specs.Run.{book, run}
+use Rattle.book.proofs.WholeRecordLaws.{records-whole}
 use Rattle.book.proofs.RunLaws.{book-ended, book-unfinished, book-bad, book-whole}
-use Rattle.promises.specs.Headings.{recordsOf, lastGroup, marksOf, acceptedRecords}
+use Rattle.promises.specs.Headings.{lastGroup, marksOf, acceptedRecords}
 use Rattle.promises.specs.Subtotals.{headingAfter}
 use Rattle.promises.specs.WholeLines.{isDetail, lastHeading, isHeading, headingFrom, noHeading, Among}
-use Rattle.promises.proofs.Headings.{Grown, Stopped, judged, marked, map-append, records-whole}
+use Rattle.promises.proofs.Headings.{Grown, Stopped, judged, marked, map-append}
 
 -- ---- what one record does
 

@@ -1,10 +1,10 @@
 -- Document 01, rule 3: "Every ration and manure line bears the last group heading before it." Said over the records that the bytes make:
 -- there is no state, no call and no line buffer in it.
 -- Assumes nothing.
-use Prim.Native.Nat.{ℕ, zero, suc, _-_}
+use Prim.Native.Nat.{ℕ, _-_}
 use mathlib.Core.Path.{_≡_}
 use mathlib.Core.List.{List, [], _∷_, _++_, map}
-use lib.ListN.{length, take, drop}
+use lib.ListN.{take}
 use lib.Dec.{eqb}
 use Rattle.base.specs.Choice.{pick}
 use Rattle.codec.specs.Codec.{valAt}
@@ -12,24 +12,9 @@ use Rattle.account.specs.Sorts.{sortOf, bySort}
 use Rattle.account.specs.Line.{joined}
 use Rattle.account.specs.Judge.{kindOf}
 use Rattle.book.specs.declared.State.{State}
-use Rattle.book.specs.Front.{Front, unfinished, badLength, whole, need, front}
+use Rattle.book.specs.WholeRecords.{recordsOf}
 use Rattle.book.specs.State.{heldOf}
 use Rattle.book.specs.Run.{run}
-
--- a whole record at the front of xs, and then others
-abbrev pub beginsWith : Front → List ℕ → List (List ℕ) → List (List ℕ)
-beginsWith unfinished xs others = []
-beginsWith badLength xs others = []
-beginsWith whole xs others = take (need xs) xs ∷ others
-
--- at most n records of xs
-unfoldable pub recordsBy : ℕ → List ℕ → List (List ℕ)
-recordsBy zero xs = []
-recordsBy (suc n) xs = beginsWith (front xs) xs (recordsBy n (drop (need xs) xs))
-
--- the whole records of xs, one after the other, up to an unfinished one or a length that no record has
-unfoldable pub recordsOf : List ℕ → List (List ℕ)
-recordsOf xs = recordsBy (suc (length xs)) xs
 
 -- the records that a run from s over xs accepts, of those that held bytes and run make together
 abbrev pub acceptedRecords : State → List ℕ → List (List ℕ)

@@ -22,7 +22,7 @@ use Rattle.book.specs.State.{inRange, holding, noRecordYet}
 use Rattle.book.proofs.RangeLaws.{range-test, range-idle}
 use Rattle.book.specs.Front.{Front, unfinished, badLength, whole, need, front}
 use Rattle.book.proofs.RecordLaws.{record-whole}
-use Rattle.promises.specs.Headings.{beginsWith, recordsBy, recordsOf}
+use Rattle.book.specs.WholeRecords.{beginsWith, recordsBy, recordsOf}
 use Rattle.typed_book.specs.Text.{typedText, bytesTyped}
 use Rattle.retyping.specs.Typed.{lineTyped, textTyped, Accepted, AllAccepted, SameBytes}
 use Rattle.retyping.specs.Book.{acceptedOf, acceptedIn, lengthBy, wholeLength, readOf, isReady, accepts}

@@ -15,7 +15,7 @@ use Rattle.printing.specs.Decimal.{decimal, spaced}
 use Rattle.names.specs.Names.{kindName, decimalsAt}
 use Rattle.text_lines.specs.Lines.{has, kept, unmarked, isMarked}
 use Rattle.text_lines.proofs.Bytes.{before-all, has-behind}
-use Rattle.codec.specs.Table.{fields, Of}
+use Rattle.codec.specs.Table.{fields, Of, lastKind}
 use Rattle.codec.proofs.BigEndian.{Bytes}
 use Rattle.account.specs.Judge.{WholeRecord, kindOf, valuesOf, judge}
 use Rattle.book.specs.declared.State.{State}
@@ -62,7 +62,7 @@ values-back kind line (suc n) i (v ∷ vs) h p w =
 abbrev pub typedLine : ℕ → List ℕ → List ℕ
 typedLine k v = kindName k ++ spaced v
 
-module _ (k : ℕ) (v : List ℕ) (least : 1 ≤ k) (most : k ≤ 8) (count : length v ≡ length (fields k)) (small : Small v) where
+module _ (k : ℕ) (v : List ℕ) (least : 1 ≤ k) (most : k ≤ lastKind) (count : length v ≡ length (fields k)) (small : Small v) where
   pub short : length (typedLine k v) ≤ 259
   short =
       omega (arith, length-append (kindName k) (spaced v), name-short k least most, spaced-length v small, fields-few k least most)

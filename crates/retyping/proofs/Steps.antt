@@ -10,20 +10,19 @@ use lib.ListN.{length, take, drop, getD, replicate, length-drop}
 use lib.Seq.{drop-drop, take-all, take-at}
 use lib.Dec.{eqb, leb, ltb}
 use borrow.Author.Tests.{eq-eqb, ne-eqb, eqb-true, eqb-false, ltb-true, leb-true, lt-ltb, le-ltb, not-true, not-false}
-use Rattle.base.specs.Choice.{pick}
 use Rattle.base.proofs.Tests.{and-l, and-r}
 use Rattle.printing.specs.Decimal.{decimal, spaced, joined, numbersLine, Put}
 use Rattle.printing.specs.Said.{Said}
 use Rattle.printing.proofs.Puts.{none, put-length, and-then}
 use Rattle.printing.specs.Ascii.{ascii}
 use Rattle.names.specs.Names.{kindName, sentence}
-use Rattle.codec.specs.Table.{table, fields, lengthOf}
+use Rattle.codec.specs.Table.{table, fields, lengthOf, isKind, lastKind}
 use Rattle.codec.specs.Codec.{valAt, valuesAt}
 use Rattle.codec.proofs.Values.{values-length}
 use Rattle.codec.proofs.BigEndian.{one-byte}
 use Rattle.account.specs.declared.Account.{Account}
-use Rattle.account.specs.Judge.{WholeRecord, kindOf, valuesOf, refused, refusals, first, accepted, judge}
-use Rattle.account.proofs.First.{first-clear}
+use Rattle.account.specs.Judge.{WholeRecord, kindOf, valuesOf, judge}
+use Rattle.account.proofs.Refusals.{judged-passes}
 use Rattle.book.specs.declared.State.{State}
 use Rattle.book.specs.declared.Fed.{Fed}
 use Rattle.book.specs.Front.{Front, unfinished, badLength, whole, need, front}
@@ -144,41 +143,15 @@ is-taken s xs e =
 
 -- ---- what a record that is not refused is
 
-no-refusal : (a : Account) (r : List ℕ) → (judge a r .account .stage ≡ 3 → ⊥) → first (refusals a r) ≡ 0
-unfolding judge
-no-refusal a r h = go (eqb (first (refusals a r)) 0) _ refl h
-  where
-    go : (b : Bool) (f : ℕ) → eqb (first (refusals a r)) 0 ≡ b
-        → (pick b (accepted a (kindOf r) (valuesOf r)) (record { account = refused a (first (refusals a r)) f; lines = [] }) .account .stage ≡ 3 → ⊥)
-        → first (refusals a r) ≡ 0
-    go true f e n = eqb-true _ _ e
-    go false f e n = absurd (n refl)
-
 pub typable : (a : Account) (r : List ℕ) → WholeRecord r → (judge a r .account .stage ≡ 3 → ⊥) → Typable r
 typable a r w h =
-    let t = first-clear (refusals a r) (
-      omega arith,
-      (
-        omega arith,
-        (
-          omega arith,
-          (
-            omega arith,
-            (
-              omega arith,
-              (omega arith, (omega arith, (omega arith, (omega arith, (omega arith, (omega arith, tt)))))),
-            ),
-          ),
-        ),
-      ),
-    )
-    (no-refusal a r h) in
+    let t = judged-passes a r h in
     let k = kindOf r in
-    let eight : leb 1 k && leb k 8 ≡ true = not-false _ (t .1 .0 (omega arith)) in
-    let long : valAt r 0 2 ≡ lengthOf k = eqb-true _ _ (not-false _ (t .1 .1 .0 (omega arith))) in
+    let eight : isKind k ≡ true = not-false _ (t .kind) in
+    let long : valAt r 0 2 ≡ lengthOf k = eqb-true _ _ (not-false _ (t .long)) in
     record {
-      least = leb-true _ _ (and-l (leb 1 k) (leb k 8) eight);
-      most = leb-true _ _ (and-r (leb 1 k) (leb k 8) eight);
+      least = leb-true _ _ (and-l (leb 1 k) (leb k lastKind) eight);
+      most = leb-true _ _ (and-r (leb 1 k) (leb k lastKind) eight);
       long = w .long ∙ ap (λ (x : ℕ). x + 2) long;
     }
 

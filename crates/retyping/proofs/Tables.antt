@@ -16,7 +16,7 @@ use Rattle.typed_words.specs.Words.{leadingOf, nthWord, nthPart, sameText, lowe
 use Rattle.typed_words.specs.Amounts.{aWhole}
 use Rattle.names.specs.Names.{kindTable, kindName}
 use Rattle.codec.specs.declared.Field.{Field}
-use Rattle.codec.specs.Table.{table, fields}
+use Rattle.codec.specs.Table.{table, fields, lastKind}
 use Rattle.codec.specs.Codec.{bytesHold, valuesAt}
 use Rattle.codec.proofs.BigEndian.{Bytes, valAt-lt}
 use Rattle.typed_line.specs.Line.{names, placeFrom, kindOf}
@@ -60,11 +60,11 @@ wordTest k = isWord (kindName k) && (leb 1 (length (kindName k)) && leb (length 
 kindTest : ℕ → Bool
 kindTest k = kindOf (kindName k) .good && eqb (kindOf (kindName k) .value) k
 
-words-computed : each wordTest 8 ≡ true
+words-computed : each wordTest lastKind ≡ true
 unfolding each isWord wordTest kindTable nthPart indexOf indexAfter
 words-computed = refl
 
-kinds-computed : each kindTest 8 ≡ true
+kinds-computed : each kindTest lastKind ≡ true
 unfolding each kindTest kindTable nthPart indexOf indexAfter kindOf placeFrom names lowered sameText nthWord leadingOf
 kinds-computed = refl
 
@@ -78,7 +78,7 @@ narrow (f ∷ fs) = leb (bytesHold (f .0)) 1000000000000000 && narrow fs
 fieldTest : ℕ → Bool
 fieldTest k = narrow (fields k) && (leb 1 (length (fields k)) && leb (length (fields k)) 12)
 
-fields-computed : each fieldTest 8 ≡ true
+fields-computed : each fieldTest lastKind ≡ true
 unfolding each narrow fieldTest table bytesHold
 fields-computed = refl
 
@@ -91,10 +91,10 @@ values-small (f ∷ fs) e s b at =
 
 -- ---- a kind from 1 to 8
 
-module _ (k : ℕ) (least : 1 ≤ k) (most : k ≤ 8) where
+module _ (k : ℕ) (least : 1 ≤ k) (most : k ≤ lastKind) where
   word-test : isWord (kindName k) && (leb 1 (length (kindName k)) && leb (length (kindName k)) 7) ≡ true
   unfolding wordTest
-  word-test = each-at wordTest 8 words-computed k least most
+  word-test = each-at wordTest lastKind words-computed k least most
 
   pub name-word : Word (kindName k)
   name-word = is-word (kindName k) (and-l (isWord (kindName k)) (leb 1 (length (kindName k)) && leb (length (kindName k)) 7) word-test)
@@ -111,7 +111,7 @@ module _ (k : ℕ) (least : 1 ≤ k) (most : k ≤ 8) where
   pub kind-back : kindOf (kindName k) ≡ aWhole k
   unfolding kindTest
   kind-back =
-      let t = each-at kindTest 8 kinds-computed k least most in
+      let t = each-at kindTest lastKind kinds-computed k least most in
       let w = kindOf (kindName k) in
       whole-is w (and-l (w .good) (eqb (w .value) k) t) (eqb-true (w .value) k (and-r (w .good) (eqb (w .value) k) t))
     where
@@ -120,7 +120,7 @@ module _ (k : ℕ) (least : 1 ≤ k) (most : k ≤ 8) where
 
   field-test : narrow (fields k) && (leb 1 (length (fields k)) && leb (length (fields k)) 12) ≡ true
   unfolding fieldTest
-  field-test = each-at fieldTest 8 fields-computed k least most
+  field-test = each-at fieldTest lastKind fields-computed k least most
 
   pub fields-narrow : (r : List ℕ) → Bytes r → Small (valuesAt (fields k) r 4)
   fields-narrow r b = values-small (fields k) (and-l (narrow (fields k)) (leb 1 (length (fields k)) && leb (length (fields k)) 12) field-test) r b 4

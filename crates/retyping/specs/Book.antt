@@ -9,7 +9,7 @@ use Rattle.base.specs.Choice.{pick}
 use Rattle.printing.specs.Ascii.{ascii}
 use Rattle.printing.specs.Decimal.{joined, Put}
 use Rattle.names.specs.Names.{sentence}
-use Rattle.codec.specs.Table.{lengthOf}
+use Rattle.codec.specs.Table.{lengthOf, lastKind}
 use Rattle.account.specs.declared.Account.{Account}
 use Rattle.account.specs.declared.Refusal.{Refusal}
 use Rattle.account.specs.Judge.{kindOf, valuesOf, noRecord, judge}
@@ -17,7 +17,7 @@ use Rattle.book.specs.declared.State.{State}
 use Rattle.book.specs.Front.{Front, unfinished, badLength, whole, need, front}
 use Rattle.book.specs.State.{inRange}
 use Rattle.book.specs.Call.{Call, call}
-use Rattle.promises.specs.Headings.{recordsOf}
+use Rattle.book.specs.WholeRecords.{recordsOf}
 use Rattle.retyping.specs.declared.Retyped.{Retyped}
 use Rattle.retyping.specs.Typed.{lineTyped}
 
@@ -101,7 +101,7 @@ pub record Retypes (x : Retyping) (out out′ : List ℕ) (at : ℕ) (r : Retype
 -- r is a record whose kind is one of the eight, with the length of its kind
 pub record Typable (r : List ℕ) : Type 0 where
   pub least : 1 ≤ kindOf r
-  pub most : kindOf r ≤ 8
+  pub most : kindOf r ≤ lastKind
   pub long : length r ≡ lengthOf (kindOf r) + 2
 
 -- the values of a record in twelve places, zeros behind

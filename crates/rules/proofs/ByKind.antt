@@ -8,7 +8,7 @@ use native.Mathlib.Omega.{arith}
 use lib.ListN.{length}
 use lib.Dec.{leb}
 use Rattle.base.specs.Choice.{pick}
-use Rattle.codec.specs.Table.{fields, lengthOf}
+use Rattle.codec.specs.Table.{fields, lengthOf, isKind}
 use Rattle.codec.specs.Codec.{valuesAt}
 use Rattle.account.specs.declared.Account.{Account}
 use Rattle.account.specs.declared.Judged.{Judged}
@@ -18,9 +18,9 @@ use Rattle.rules.specs.Right.{Right}
 use Rattle.account.proofs.Told.{right-length}
 
 -- the size that a kind has, or none
-module _ (k n : ℕ) (e : n ≡ pick (leb 1 k && leb k 8) (2 + lengthOf k) 0) where
-  pub not-listed : n ≡ 0 → leb 1 k && leb k 8 ≡ false
-  not-listed z = go (leb 1 k && leb k 8) (sym e ∙ z)
+module _ (k n : ℕ) (e : n ≡ pick (isKind k) (2 + lengthOf k) 0) where
+  pub not-listed : n ≡ 0 → isKind k ≡ false
+  not-listed z = go (isKind k) (sym e ∙ z)
     where
       go : (b : Bool) → pick b (2 + lengthOf k) 0 ≡ 0 → b ≡ false
       go true q = absurd (omega arith)
@@ -31,11 +31,11 @@ module _ (k n : ℕ) (e : n ≡ pick (leb 1 k && leb k 8) (2 + lengthOf k) 0) wh
     sized true q = (refl, q)
     sized false q = absurd (some q)
 
-    pub listed : leb 1 k && leb k 8 ≡ true
-    listed = sized (leb 1 k && leb k 8) e .0
+    pub listed : isKind k ≡ true
+    listed = sized (isKind k) e .0
 
     pub size-is : n ≡ 2 + lengthOf k
-    size-is = sized (leb 1 k && leb k 8) e .1
+    size-is = sized (isKind k) e .1
 
 module _ {r : List ℕ} (s : Right r) (k : ℕ) (e : kindOf r ≡ k) where
   -- the bytes that the kind's function reads are there

@@ -6,12 +6,12 @@ use mathlib.Core.List.{List}
 use mathlib.Core.Bool.{true, _&&_}
 use lib.ListN.{length}
 use lib.Dec.{leb}
-use Rattle.codec.specs.Table.{lengthOf}
+use Rattle.codec.specs.Table.{lengthOf, isKind}
 use Rattle.account.specs.Judge.{WholeRecord, versionOf, kindOf}
 
 -- r is a whole record of version 1, of one of the eight kinds, and as long as its kind
 pub record Right (r : List ℕ) : Type 0 where
   pub whole : WholeRecord r
   pub version : versionOf r ≡ 1
-  pub kinds : leb 1 (kindOf r) && leb (kindOf r) 8 ≡ true
+  pub kinds : isKind (kindOf r) ≡ true
   pub long : length r ≡ 2 + lengthOf (kindOf r)

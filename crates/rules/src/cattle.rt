@@ -10,6 +10,7 @@ use account::Judged;
 use grams::cattle::CattleManure;
 use grams::cattle::CattleNitrogen;
 use grams::cattle::CattleRation;
+use grams::units::NO_CO2;
 ghost use mathlib.Core.Path.{_≡_};
 ghost use Prim.Native.Nat.{_<_};
 ghost use Rattle.account.specs.Figures.{cattleRation, cattleFigures};
@@ -39,7 +40,7 @@ fn manure_figures(m: CattleManure) -> Figures
     Figures {
         ch4: 0,
         n2o: n2o,
-        co2: 0,
+        co2: NO_CO2,
         excreted: m.excreted,
         land: 0,
     }

@@ -7,7 +7,8 @@ use crate::refusals::wrong;
 use account::Account;
 use account::Figures;
 use account::Judged;
-use grams::units::N2o;
+use grams::units::NO_CO2;
+use grams::units::NO_N2O;
 ghost use mathlib.Core.Path.{_≡_};
 ghost use Prim.Native.Nat.{_<_};
 ghost use Rattle.account.specs.Figures.{ch4Alone};
@@ -20,8 +21,8 @@ fn ch4_alone(g: u64) -> Figures
 {
     Figures {
         ch4: g,
-        n2o: N2o(0),
-        co2: 0,
+        n2o: NO_N2O,
+        co2: NO_CO2,
         excreted: 0,
         land: 0,
     }

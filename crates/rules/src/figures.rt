@@ -1,7 +1,9 @@
 // The figures of a line, the sums and the subtotal with them.
 use account::Figures;
 use account::Subtotal;
-use grams::units::N2o;
+use grams::units::Co2;
+use grams::units::NO_CO2;
+use grams::units::NO_N2O;
 ghost use mathlib.Core.Path.{_≡_};
 ghost use Rattle.account.specs.Figures.{added, grouped, groupFigures, co2Alone};
 ghost use Rattle.account.specs.Range.{Bounded, Grouped};
@@ -15,10 +17,13 @@ pub(crate) fn summed(f: Figures, g: Figures) -> Figures
     let n = f.n2o;
     let m = g.n2o;
     let n2o = n.plus(m);
+    let c = f.co2;
+    let d = g.co2;
+    let co2 = c.plus(d);
     Figures {
         ch4: f.ch4 + g.ch4,
         n2o: n2o,
-        co2: f.co2 + g.co2,
+        co2: co2,
         excreted: f.excreted + g.excreted,
         land: f.land + g.land,
     }
@@ -47,18 +52,18 @@ pub(crate) fn group_figures(s: Subtotal) -> Figures
     Figures {
         ch4: s.ch4,
         n2o: n2o,
-        co2: 0,
+        co2: NO_CO2,
         excreted: s.excreted,
         land: s.land,
     }
 }
 
-pub(crate) fn co2_alone(g: u64) -> Figures
+pub(crate) fn co2_alone(g: Co2) -> Figures
     ensures { λ r. ⌜ r ≡ co2Alone g ⌝ }
 {
     Figures {
         ch4: 0,
-        n2o: N2o(0),
+        n2o: NO_N2O,
         co2: g,
         excreted: 0,
         land: 0,

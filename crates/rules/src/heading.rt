@@ -10,7 +10,7 @@ use account::Days;
 use account::Heading;
 use account::Judged;
 use account::Subtotal;
-use grams::units::N2o;
+use grams::units::NO_N2O;
 ghost use mathlib.Core.Path.{_≡_};
 ghost use Prim.Native.Nat.{_<_};
 ghost use Rattle.account.specs.Range.{AccountInRange};
@@ -35,7 +35,7 @@ fn headed(a: Account, h: Heading, room: usize) -> Judged
     };
     let zero = Subtotal {
         ch4: 0,
-        n2o: N2o(0),
+        n2o: NO_N2O,
         excreted: 0,
         land: 0,
     };

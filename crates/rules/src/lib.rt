@@ -20,7 +20,7 @@ ghost use Prim.Native.Nat.{_+_, _<_};
 ghost use mathlib.Core.Bool.{_&&_};
 ghost use lib.Dec.{leb};
 ghost use Rattle.base.specs.Choice.{pick};
-ghost use Rattle.codec.specs.Table.{lengthOf};
+ghost use Rattle.codec.specs.Table.{lengthOf, isKind};
 ghost use Rattle.account.specs.Range.{AccountInRange};
 ghost use Rattle.account.specs.Judge.{WholeRecord, kindOf, judge};
 ghost use Rattle.account.specs.Told.{TellsIn};
@@ -28,7 +28,7 @@ ghost use Rattle.rules.specs.Right.{Right};
 
 // How many bytes a record of the kind has, the two of its length among them; 0 where there is no such kind.
 fn size_of(kind: u8) -> usize
-    ensures { λ r. ⌜ r ≡ pick (leb 1 kind && leb kind 8) (2 + lengthOf kind) 0 ⌝ }
+    ensures { λ r. ⌜ r ≡ pick (isKind kind) (2 + lengthOf kind) 0 ⌝ }
 {
     match kind {
         1 => 11,

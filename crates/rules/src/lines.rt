@@ -9,11 +9,13 @@ use account::Judged;
 use account::Subtotal;
 use account::line;
 use account::line::Line;
+use grams::units::NO_CO2;
 ghost use mathlib.Core.Path.{_≡_};
 ghost use Prim.Native.Nat.{_<_};
 ghost use lib.Dec.{eqb};
 ghost use Rattle.base.specs.Choice.{pick};
 ghost use Rattle.codec.specs.Table.{lineSize};
+ghost use Rattle.grams.specs.Units.{noCo2};
 ghost use Rattle.account.specs.Figures.{grouped, groupFigures};
 ghost use Rattle.account.specs.Range.{Bounded, Grouped};
 ghost use Rattle.account.specs.Told.{Small, inRoom, noLine, quiet, detailing};
@@ -58,7 +60,7 @@ pub(crate) fn detailed(
         kind: kind,
         group: group,
         figures: f,
-        co2e: 0,
+        co2e: NO_CO2,
     };
     if room < codec::LINE_SIZE {
         return full(a, line);
@@ -95,7 +97,7 @@ pub(crate) fn grouped_detail(
 
 // The line of a group with this subtotal; no line where there was no heading.
 pub(crate) fn group_line(group: u16, s: Subtotal) -> Line
-    ensures { λ r. ⌜ r ≡ pick (eqb group 0) noLine (record { given = lineSize; kind = 16; group = group; figures = groupFigures s; co2e = 0 }) ⌝ }
+    ensures { λ r. ⌜ r ≡ pick (eqb group 0) noLine (record { given = lineSize; kind = 16; group = group; figures = groupFigures s; co2e = noCo2 }) ⌝ }
 {
     if group == 0 {
         return line::none();
@@ -106,6 +108,6 @@ pub(crate) fn group_line(group: u16, s: Subtotal) -> Line
         kind: 16,
         group: group,
         figures: f,
-        co2e: 0,
+        co2e: NO_CO2,
     }
 }

@@ -8,6 +8,7 @@ use account::Figures;
 use account::Judged;
 use grams::pig::PigManure;
 use grams::pig::PigRation;
+use grams::units::NO_CO2;
 ghost use mathlib.Core.Path.{_≡_};
 ghost use mathlib.Core.Bool.{_&&_, not};
 ghost use Prim.Native.Nat.{_<_};
@@ -50,7 +51,7 @@ fn pig_figures(m: PigManure) -> Figures
     Figures {
         ch4: m.ch4,
         n2o: n2o,
-        co2: 0,
+        co2: NO_CO2,
         excreted: m.excreted,
         land: m.land,
     }

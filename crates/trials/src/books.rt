@@ -15,6 +15,7 @@ use account::Refusal;
 use account::Subtotal;
 use book::Answer;
 use book::State;
+use grams::units::Co2;
 use grams::units::N2o;
 use libc::STDOUT_FILENO;
 ghost use Prim.Native.Nat.{_≤_};
@@ -58,19 +59,22 @@ fn days_of(v: [u64; 22]) -> Days {
 }
 
 fn subtotal_of(v: [u64; 22]) -> Subtotal {
+    let n2o = N2o::of(v[10]);
     Subtotal {
         ch4: v[9],
-        n2o: N2o(v[10]),
+        n2o: n2o,
         excreted: v[11],
         land: v[12],
     }
 }
 
 fn sums_of(v: [u64; 22]) -> Figures {
+    let n2o = N2o::of(v[14]);
+    let co2 = Co2::of(v[15]);
     Figures {
         ch4: v[13],
-        n2o: N2o(v[14]),
-        co2: v[15],
+        n2o: n2o,
+        co2: co2,
         excreted: v[16],
         land: v[17],
     }
@@ -138,13 +142,14 @@ fn put_head(out: &mut [u8], at: usize, a: Account) -> usize {
 
 fn put_subtotal(out: &mut [u8], at: usize, s: Subtotal) -> usize {
     let n2o = s.n2o;
-    let values = [s.ch4, n2o.0, s.excreted, s.land];
+    let values = [s.ch4, n2o.grams(), s.excreted, s.land];
     put_words(out, at, &values)
 }
 
 fn put_sums(out: &mut [u8], at: usize, f: Figures) -> usize {
     let n2o = f.n2o;
-    let values = [f.ch4, n2o.0, f.co2, f.excreted, f.land];
+    let co2 = f.co2;
+    let values = [f.ch4, n2o.grams(), co2.word(), f.excreted, f.land];
     put_words(out, at, &values)
 }
 

@@ -11,6 +11,7 @@ use lib.ListN.{length, getD}
 use lib.Dec.{eqb, leb, ltb}
 use Rattle.base.specs.Choice.{pick, oneMore}
 use Rattle.base.proofs.Tests.{and-l, and-r, of-choice, or-l, or-r}
+use Rattle.codec.specs.Table.{lastKind}
 use Rattle.codec.specs.Codec.{recordBytes}
 use Rattle.account.specs.declared.Account.{Account}
 use Rattle.account.specs.Judge.{Step, headingServes, inPlace, accepted, weigh}
@@ -18,14 +19,15 @@ use Rattle.account.specs.Sorts.{sortOf}
 use Rattle.account.proofs.Sorts.{by-sort, heads-two}
 use Rattle.account.specs.declared.Refusal.{Refusal}
 use Rattle.account.specs.Judge.{noRecord}
-use Rattle.account.proofs.Keeps.{clear, in-range-none}
+use Rattle.account.proofs.Keeps.{in-range-none}
+use Rattle.account.proofs.Refusals.{passed, weighed-none, weighed-passes}
 use Rattle.book.proofs.RangeLaws.{range-test, range-idle}
 use Rattle.book.specs.declared.State.{State}
 use Rattle.book.specs.State.{InRange, inRange, noRecordYet}
 use Rattle.make_record.specs.declared.Answer.{Answer}
 use Rattle.make_record.specs.declared.Answer.the-variants as answers
 use Rattle.make_record.specs.Write as writer
-use Rattle.make_record.proofs.Answers.{Written-so, not-refused, written-so}
+use Rattle.make_record.proofs.Answers.{Written-so, written-so}
 use Rattle.make_record.proofs.AsReader.{stays-in-range}
 use Rattle.typed_line.specs.declared.Entry.{Entry}
 use Rattle.typed_line.specs.declared.Said.{Said}
@@ -47,7 +49,7 @@ group-no-head k g =
     let low = leb-true 3 k (and-l (leb 3 k) (leb k 5) g) in
     let high = leb-true k 5 (and-r (leb 3 k) (leb k 5) g) in
     let two : eqb k 2 ≡ false = ne-eqb k 2 (λ (e : k ≡ 2). omega arith) in
-    (two, rw (two, le-ltb k 1 (omega arith), le-ltb 8 k (omega arith)))
+    (two, rw (two, le-ltb k 1 (omega arith), le-ltb lastKind k (omega arith)))
 
 -- ---- what a written record does to the heading
 
@@ -55,14 +57,14 @@ group-no-head k g =
 heading-after : (a : Account) (k : ℕ) (v : List ℕ) → (weigh a k v .account .stage ≡ 3 → ⊥) → (k ≡ 2 → ⊥) → weigh a k v .account .heading ≡ a .heading
 unfolding weigh accepted
 heading-after a k v h n =
-    rw (not-refused a k v h)
+    rw (weighed-none a k v h)
     (by-sort (λ (s : Step). s .account .heading ≡ a .heading) (sortOf k) (λ _. refl) (λ e. absurd (n (heads-two k e))) (λ _. refl) (λ _. refl) (λ _. refl))
 
 -- a detail of the group is written under a heading only
 needs-class : (a : Account) (k : ℕ) (v : List ℕ) → (weigh a k v .account .stage ≡ 3 → ⊥) → inGroup k ≡ true → a .heading .class ≡ 0 → ⊥
 unfolding inPlace
 needs-class a k v h g z =
-    let place = clear a k v (not-refused a k v h) .passes .place in
+    let place = passed a k v (weighed-passes a k v h) .place in
     let low = leb-true 3 k (and-l (leb 3 k) (leb k 5) g) in
     let high = leb-true k 5 (and-r (leb 3 k) (leb k 5) g) in
     let one : eqb k 1 ≡ false = ne-eqb k 1 (λ (e : k ≡ 1). omega arith) in
@@ -98,7 +100,7 @@ still-lost true n lost m h A l z f = absurd (omega arith)
 still-lost false n lost m h A l z f = f z
 
 -- a kind that the book has not is refused by 3
-three : (s : State) (k : ℕ) (v : List ℕ) (room : ℕ) → inRange s ≡ true → s .account .stage < 2 → s .count ≡ 0 → ltb k 1 || ltb 8 k ≡ true
+three : (s : State) (k : ℕ) (v : List ℕ) (room : ℕ) → inRange s ≡ true → s .account .stage < 2 → s .count ≡ 0 → ltb k 1 || ltb lastKind k ≡ true
     → writer.write s k v room .answer ≡ answers.Refused (writer.refusalBy 3 (s .account .records))
 unfolding writer.write writer.refusals writer.answerOf
 three s k v room r early c g =
@@ -139,14 +141,14 @@ module _ (m : Mark) (h : List ℕ) (t : Typist) (k : Kept m h t) (e : Entry) whe
       stays (p .0) (p .1) x a b
 
   -- refused by the number code, which is 3 for a kind that the book has not
-  refused-keeps : (n : ℕ) → 1 ≤ n → (code : ℕ) → (t .state .account .stage < 2 → ltb (e .kind) 1 || ltb 8 (e .kind) ≡ true → code ≡ 3) → (x : Typist)
+  refused-keeps : (n : ℕ) → 1 ≤ n → (code : ℕ) → (t .state .account .stage < 2 → ltb (e .kind) 1 || ltb lastKind (e .kind) ≡ true → code ≡ 3) → (x : Typist)
       → x .state ≡ t .state → x .lost ≡ pick (eqb (e .kind) 2 || eqb code 3) n (t .lost) → Kept (markSaid said.Record e m) h x
   refused-keeps n l code g x a b =
       record {
         range = rw a (k .range);
         empty = rw a (k .empty);
         under =
-            λ z early. rw a (marks (eqb (e .kind) 2) (ltb (e .kind) 1 || ltb 8 (e .kind)) (eqb code 3) (sym b ∙ z)
+            λ z early. rw a (marks (eqb (e .kind) 2) (ltb (e .kind) 1 || ltb lastKind (e .kind)) (eqb code 3) (sym b ∙ z)
             (λ o. eq-eqb code 3 (g (rw a at early) o)) (λ y. k .under y (rw a at early)));
       }
     where
@@ -190,7 +192,7 @@ module _ (m : Mark) (h : List ℕ) (t : Typist) (k : Kept m h t) (e : Entry) whe
           let low = so .of .least in
           let high = so .of .most in
           let one : ltb (e .kind) 1 ≡ false = rw (← completed-kind e (t .state .account .records)) (le-ltb _ _ low) in
-          let last : ltb 8 (e .kind) ≡ false = rw (← completed-kind e (t .state .account .records)) (le-ltb _ _ high) in
+          let last : ltb lastKind (e .kind) ≡ false = rw (← completed-kind e (t .state .account .records)) (le-ltb _ _ high) in
           let head : writeEntry (t .state) e 28 .state .account .heading ≡ t .state .account .heading =
           ap (λ (x : writer.Write). x .state .account .heading) (so .is) ∙ heading-after (t .state .account) _ _ (so .still) not-two in
           rw (y, one, last, head) (k .under (rw y at z) (so .ready .early))

@@ -3,6 +3,7 @@ use Prim.Native.Nat.{ℕ, zero, suc}
 use mathlib.Core.List.{List, [], _∷_, _++_}
 use lib.ListN.{length, take, drop}
 use Rattle.base.specs.Choice.{pick}
+use Rattle.codec.specs.Table.{recordMost}
 use Rattle.text_lines.specs.declared.Cut.{Cut}
 use Rattle.text_lines.specs.declared.Cutting.{Cutting}
 use Rattle.text_lines.specs.Lines.{nextOf, cuttingOf, cutIn, unmarked}
@@ -75,7 +76,7 @@ behind l o = record { typist = o .typist; bytes = l .bytes ++ o .bytes; said = l
 unfoldable pub output : Typist → List Numbered → Output
 output t [] = record { typist = t; bytes = []; said = [] }
 output t (l ∷ ls) =
-    let x = lineBy t (l .number) (unmarked (l .number) (l .bytes)) 28 in
+    let x = lineBy t (l .number) (unmarked (l .number) (l .bytes)) recordMost in
     behind x (output (x .typist) ls)
 
 -- what some calls have given, and the cutter behind them
@@ -117,5 +118,5 @@ callsOver t c (part ∷ parts) =
 -- at the end of the text the unfinished line is entered
 abbrev pub withLast : Calls → Output
 withLast c =
-    let x = lastOf (record { typist = c .output .typist; cut = c .cutter .cut }) (c .cutter .line) 28 in
+    let x = lastOf (record { typist = c .output .typist; cut = c .cutter .cut }) (c .cutter .line) recordMost in
     record { typist = x .typist; bytes = c .output .bytes ++ x .bytes; said = c .output .said ++ x .remark }

@@ -1,6 +1,7 @@
 -- A typed text: its lines, each without its comment and the first without its byte order mark, one after the other.
 use Prim.Native.Nat.{ℕ}
 use mathlib.Core.List.{List, [], _∷_, _++_, map}
+use Rattle.codec.specs.Table.{recordMost}
 use Rattle.text_lines.specs.Lines.{kept, linesOf, unmarked}
 use Rattle.text_lines.specs.Parts.{Numbered, numbered}
 use Rattle.book.specs.declared.State.{State}
@@ -13,7 +14,7 @@ textLines text = numbered 1 (map kept (linesOf text))
 
 -- what becomes of a line: a buffer of 28 bytes holds any record
 abbrev pub lineTurn : Typist → Numbered → Turn
-lineTurn t l = turn t (l .number) (unmarked (l .number) (l .bytes)) 28
+lineTurn t l = turn t (l .number) (unmarked (l .number) (l .bytes)) recordMost
 
 -- the typist behind some lines, and what became of each of them
 pub record Typed : Type 0 where

@@ -8,6 +8,7 @@ use mathlib.Core.List.{List, [], _∷_, _++_}
 use lib.ListN.{length, getD, drop}
 use lib.Dec.{eqb, leb, ltb}
 use Rattle.base.specs.Choice.{pick, oneMore}
+use Rattle.codec.specs.Table.{lastKind}
 use Rattle.account.specs.declared.Refusal.{Refusal}
 use Rattle.book.specs.declared.State.{State}
 use Rattle.make_record.specs.declared.Answer.{Answer}
@@ -31,7 +32,7 @@ inGroup k = leb 3 k && leb k 5
 
 -- a heading, or none of the book's kinds: it may have been a heading
 abbrev pub mayHead : ℕ → Bool
-mayHead k = eqb k 2 || (ltb k 1 || ltb 8 k)
+mayHead k = eqb k 2 || (ltb k 1 || ltb lastKind k)
 
 -- ---- the typist
 

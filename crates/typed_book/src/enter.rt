@@ -36,7 +36,7 @@ fn in_group(kind: u64) -> bool
 fn may_head(kind: u64) -> bool
     ensures { λ r. ⌜ r ≡ mayHead kind ⌝ }
 {
-    (kind == 2) | ((kind < 1) | (8 < kind))
+    (kind == 2) | ((kind < 1) | (codec::LAST_KIND < kind))
 }
 
 fn days_of_year(year: u64) -> u64

@@ -13,6 +13,7 @@ use lib.Seq.{take-all, take-append-le, set-at, append-snoc}
 use lib.Dec.{eqb, ltb}
 use Rattle.base.specs.Choice.{pick}
 use Rattle.base.proofs.Tests.{lt-or-ge}
+use Rattle.codec.specs.Table.{lastKind}
 use Rattle.typed_words.specs.declared.Whole.{Whole}
 use Rattle.typed_words.specs.Words.{nthWord, sameText, lowered}
 use Rattle.typed_words.specs.Amounts.{amountOf}
@@ -26,25 +27,25 @@ use Rattle.typed_line.specs.Line.{names, placeFrom, kindOf, Read, nothin
 
 -- ---- the place of a word among eight
 
-module _ (line w : List ℕ) (i : ℕ) (h : i < 8) {name : List ℕ} (e : name ≡ nthWord i line) {b : Bool} (f : b ≡ sameText w name) where
-  more : 8 - i ≡ suc (8 - suc i)
+module _ (line w : List ℕ) (i : ℕ) (h : i < lastKind) {name : List ℕ} (e : name ≡ nthWord i line) {b : Bool} (f : b ≡ sameText w name) where
+  more : lastKind - i ≡ suc (lastKind - suc i)
   more = omega arith
 
-  pub place-here : b ≡ true → placeFrom (8 - i) i line w ≡ i + 1
+  pub place-here : b ≡ true → placeFrom (lastKind - i) i line w ≡ i + 1
   unfolding placeFrom
   place-here t = rw (more, ← e, ← f, t, add-one)
 
-  pub place-on : b ≡ false → placeFrom (8 - i) i line w ≡ placeFrom (8 - (i + 1)) (i + 1) line w
+  pub place-on : b ≡ false → placeFrom (lastKind - i) i line w ≡ placeFrom (lastKind - (i + 1)) (i + 1) line w
   unfolding placeFrom
   place-on t = rw (more, ← e, ← f, t, add-one)
 
-pub place-none : (line w : List ℕ) (i : ℕ) → 8 ≤ i → placeFrom (8 - i) i line w ≡ 0
+pub place-none : (line w : List ℕ) (i : ℕ) → lastKind ≤ i → placeFrom (lastKind - i) i line w ≡ 0
 unfolding placeFrom
-place-none line w i h = let z : 8 - i ≡ 0 = omega arith in rw z
+place-none line w i h = let z : lastKind - i ≡ 0 = omega arith in rw z
 
 -- ---- a kind by its name, or by its number
 
-module _ (w : List ℕ) {n : ℕ} (e : n ≡ placeFrom 8 0 names (lowered w)) where
+module _ (w : List ℕ) {n : ℕ} (e : n ≡ placeFrom lastKind 0 names (lowered w)) where
   pub by-number : {x : Whole} → n ≡ 0 → x ≡ amountOf 0 w → x ≡ kindOf w
   unfolding kindOf
   by-number z f = rw (← e, eq-eqb _ _ z) f

@@ -6,6 +6,7 @@ use mathlib.Core.List.{List, [], _∷_, _++_}
 use lib.ListN.{length, take, replicate}
 use lib.Dec.{eqb, leb}
 use Rattle.base.specs.Choice.{pick}
+use Rattle.codec.specs.Table.{lastKind}
 use Rattle.printing.specs.Ascii.{ascii}
 use Rattle.typed_words.specs.declared.Whole.{Whole}
 use Rattle.typed_words.specs.Words.{nthWord, sameText, lowered}
@@ -32,7 +33,7 @@ placeFrom (suc n) i line w = pick (sameText w (nthWord i line)) (suc i) (placeFr
 
 -- a kind by its name, in capitals or not, or else by a whole number
 unfoldable pub kindOf : List ℕ → Whole
-kindOf w = pick (eqb (placeFrom 8 0 names (lowered w)) 0) (amountOf 0 w) (record { good = true; value = placeFrom 8 0 names (lowered w) })
+kindOf w = pick (eqb (placeFrom lastKind 0 names (lowered w)) 0) (amountOf 0 w) (record { good = true; value = placeFrom lastKind 0 names (lowered w) })
 
 -- ---- the values
 

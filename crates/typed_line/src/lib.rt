@@ -5,6 +5,7 @@ use typed_words::Whole;
 ghost use mathlib.Core.Path.{_≡_};
 ghost use Prim.Native.Nat.{_≤_};
 ghost use lib.ListN.{length};
+ghost use Rattle.codec.specs.Table.{lastKind};
 ghost use Rattle.typed_words.specs.Words.{lowered};
 ghost use Rattle.make_record.specs.Write.{writtenOf, laid};
 ghost use Rattle.typed_line.specs.Line.{placeFrom, kindOf, valuesFrom, listed, noRecord, lineOf, completedOf, writeEntry};
@@ -39,10 +40,10 @@ pub struct Line {
 
 // The place of the word among the eight words of names, counted from 1; 0 where it is none of them.
 fn place(word: &[u8], names: &[u8]) -> u64
-    ensures { λ r. ⌜ r ≡ placeFrom 8 0 (now (names .entry)) (lowered (now (word .entry))) ⌝ }
+    ensures { λ r. ⌜ r ≡ placeFrom lastKind 0 (now (names .entry)) (lowered (now (word .entry))) ⌝ }
 {
     let mut i = 0;
-    while i < 8 {
+    while i < codec::LAST_KIND as usize {
         if typed_words::is_name(word, typed_words::word(names, i)) {
             return i as u64 + 1;
         }

@@ -5,6 +5,7 @@ mod figures;
 mod lines;
 mod parts;
 mod refusals;
+mod salvage;
 mod slips;
 mod states;
 mod subtotals;

@@ -3,7 +3,7 @@ use mathlib.Core.Path.{_≡_, refl}
 use Prim.Native.Nat.{_≤_}
 use native.Mathlib.Omega.{arith}
 use borrow.Author.Needs.{needs}
-use Rattle.codec.specs.Table.{table, size}
+use Rattle.codec.specs.Table.{table, size, lastKind}
 use Rattle.codec.proofs.Rows.{eighth}
 use Rattle.retyping.proofs.Steps.{long-by, values-by, twelve-by}
 use Rattle.retyping.proofs.values_of.Statement.{statement}
@@ -14,7 +14,7 @@ eight c =
     let r = c .match .rest in
     let p = c .before .before .pre in
     let least : 1 ≤ c .before .before .args .kind = omega (arith, p .1, p .0 .least) in
-    let most : c .before .before .args .kind ≤ 8 = omega (arith, p .1, p .0 .most) in
+    let most : c .before .before .args .kind ≤ lastKind = omega (arith, p .1, p .0 .most) in
     eighth _ least most (r .0 .0 .0 .0 .0 .0 .1) (r .0 .0 .0 .0 .0 .1) (r .0 .0 .0 .0 .1) (r .0 .0 .0 .1) (r .0 .0 .1) (r .0 .1) (r .1)
 
 pub values-of-spec : {M : Type 1} → statement M

@@ -1,7 +1,6 @@
 -- What the kind's own function tells. Assumes nothing.
 use mathlib.Core.Path.{_≡_, refl, sym, _∙_}
 use Rattle.codec.specs.Table.{table, size}
-use Rattle.account.specs.Judge.{kindOf}
 use Rattle.account.proofs.Sorts.{kind-least, kind-most, eighth}
 use Rattle.rules.proofs.ByKind.{there, by-kind}
 use Rattle.rules.proofs.by_kind.Statement.{statement}

@@ -1,5 +1,5 @@
 -- The version, the kind, the length, then what the kind's own function tells. Assumes nothing.
-use mathlib.Core.Path.{_≡_, refl, sym, _∙_}
+use mathlib.Core.Path.{refl, _∙_}
 use native.Mathlib.Omega.{arith}
 use Rattle.account.specs.Judge.{kindOf}
 use Rattle.account.specs.Told.{Kind}

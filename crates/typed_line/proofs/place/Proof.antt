@@ -3,6 +3,7 @@ use Prim.Native.Nat.{_-_, _≤_}
 use mathlib.Core.Path.{_≡_, refl, sym, _∙_}
 use native.Mathlib.Omega.{arith}
 use borrow.Author.Needs.{needs}
+use Rattle.codec.specs.Table.{lastKind}
 use Rattle.typed_words.specs.Words.{lowered}
 use Rattle.typed_line.specs.Line.{placeFrom}
 use Rattle.typed_line.proofs.Lines.{place-here, place-on, place-none}
@@ -10,10 +11,10 @@ use Rattle.typed_line.proofs.place.Statement.{statement}
 use Rattle.typed_line.proofs.place.Tie as tie
 
 abbrev Inv-loop : tie.InvT-loop
-Inv-loop word names i₀ i = (i ≤ 8) × (placeFrom (8 - i) i names (lowered word) ≡ placeFrom 8 0 names (lowered word))
+Inv-loop word names i₀ i = (i ≤ lastKind) × (placeFrom (lastKind - i) i names (lowered word) ≡ placeFrom lastKind 0 names (lowered word))
 
 abbrev μ-loop : tie.MeasureT-loop
-μ-loop word names i₀ i = 8 - i
+μ-loop word names i₀ i = lastKind - i
 
 pub place-spec : {M : Type 1} → statement M
 place-spec =

@@ -4,4 +4,10 @@ use Rattle.account.proofs.Account.by_fields.Statement.{statement}
 use Rattle.account.proofs.Account.by_fields.Tie as tie
 
 pub by-fields-spec : {M : Type 1} → statement M
-by-fields-spec = tie.close (tie.spec (λ c. refl))
+by-fields-spec =
+    tie.close
+    (tie.spec
+    (λ c κs. tt)
+    (λ c κs. tt)
+    (λ c κs. tt)
+    (λ c. rw (c .same3 .ensures, c .before .same2 .ensures, c .before .before .same .ensures) refl))

@@ -10,36 +10,63 @@ use Rattle.account.proofs.Written.{total, none-written, line-written, t
 use Rattle.account.proofs.line.write.Statement.{statement}
 use Rattle.account.proofs.line.write.Tie as tie
 
-both : (c : tie.Else3) → c .before .before .before .before .before .before .before .before .before .before .before .args .j .line .given ≡ 100
-both c = both-are (c .before .before .before .before .before .before .before .before .before .before .before .args .out .now) (c .before .before .before .before .before .before .before .before .before .before .before .args .w) (c .before .before .before .before .before .before .before .before .before .before .before .args .j) (c .before .before .before .before .before .before .before .before .before .before .before .pre .0) (c .before .before .before .before .before .before .before .if1 .left) (c .before .before .before .before .if2 .left) (c .if3 .left) (c .before .before .before .before .before .before .before .before .before .before .before .pre .1)
+-- the entry, from each of the branches that write
+abbrev from-line : tie.Then2 → tie.Start
+from-line c = c .before .before .before .before .before .before .before
 
-put-line-requires-2 : tie.Need-put-line-requires-2
-put-line-requires-2 c κs = omega (arith, both (c .before), c .before .before .before .before .before .before .before .before .before .before .before .before .pre .0)
+abbrev from-total : tie.Then3 → tie.Start
+from-total c = c .before .before .before .before .before .before .before .before .before .before .before .before
+
+abbrev from-both : tie.Else3 → tie.Start
+from-both c = c .before .before .before .before .before .before .before .before .before .before .before .before
+
+both : (c : tie.Else3) → from-both c .args .j .line .given ≡ 100
+both c =
+    let s = from-both c in
+    let second = c .before .before .before .before .before in
+    both-are (s .args .out .now) (s .args .w) (s .args .j) (s .pre .0) (second .before .before .before .if1 .left) (second .if2 .left) (c .if3 .left) (s .pre .1)
+
+line-returns : tie.Need-returns-2
+line-returns c =
+    let b = c .before .before .before .before in
+    let s = from-line b in
+    c .before .before .put-line .ensures ∙ line-written (s .args .out .now) (s .args .w) (s .args .j) (s .pre .0) (b .if2 .taken)
+
+total-returns : tie.Need-returns-3
+total-returns c =
+    let b = c .before .before .before .before in
+    let s = from-total b in
+    c .before .before .put-total .ensures ∙ total-written (s .args .out .now) (s .args .w) (s .args .j) (s .pre .0) (b .if3 .taken)
 
 add-put-total : tie.Need-add-put-total
-add-put-total c = omega (arith, both (c .before .before .before .before .before), c .before .before .before .before .before .before .before .before .before .before .before .before .before .before .before .before .pre .0)
+add-put-total c = let b = c .before .before .before .before .before in omega (arith, both b, from-both b .pre .0)
 
 put-total-requires-2 : tie.Need-put-total-requires-2
-put-total-requires-2 c κs = omega (arith, both (c .before .before .before .before .before), c .before .before .before .before .before .before .before .before .before .before .before .before .before .before .before .before .pre .0, simp length-sets at (ap length (c .before .before .before .put-line2 .ensures)))
+put-total-requires-2 c κs =
+    let b = c .before .before .before .before .before in
+    omega (arith, both b, from-both b .pre .0, simp length-sets at (ap length (c .before .before .before .put-line2 .ensures)))
 
 returns-4 : tie.Need-returns-4
 returns-4 c =
+    let b = c .before .before .before .before .before .before .before .before in
+    let second = b .before .before .before .before .before in
+    let s = from-both b in
     c .before .before .put-total2 .ensures
-    ∙ ap (λ (l : List ℕ). sets l (c .before .before .before .before .before .before .before .before .before .before .before .before .before .before .before .before .before .before .before .args .w + 46) (total (c .before .before .before .before .before .before .before .before .before .before .before .before .before .before .before .before .before .before .before .args .j))) (c .before .before .before .before .before .before .put-line2 .ensures)
-    ∙ both-written (c .before .before .before .before .before .before .before .before .before .before .before .before .before .before .before .before .before .before .before .args .out .now) (c .before .before .before .before .before .before .before .before .before .before .before .before .before .before .before .before .before .before .before .args .w) (c .before .before .before .before .before .before .before .before .before .before .before .before .before .before .before .before .before .before .before .args .j) (c .before .before .before .before .before .before .before .before .before .before .before .before .before .before .before .before .before .before .before .pre .0) (c .before .before .before .before .before .before .before .before .before .before .before .before .before .before .before .if1 .left) (c .before .before .before .before .before .before .before .before .before .before .before .before .if2 .left) (c .before .before .before .before .before .before .before .before .if3 .left) (c .before .before .before .before .before .before .before .before .before .before .before .before .before .before .before .before .before .before .before .pre .1)
+    ∙ ap (λ (l : List ℕ). sets l (s .args .w + 46) (total (s .args .j))) (c .before .before .before .before .before .before .put-line2 .ensures)
+    ∙ both-written (s .args .out .now) (s .args .w) (s .args .j) (s .pre .0) (second .before .before .before .if1 .left) (second .if2 .left) (b .if3 .left) (s .pre .1)
 
 pub write-spec : {M : Type 1} → statement M
 write-spec =
     tie.close
     (tie.spec
-    (λ c. none-written (c .before .before .before .before .args .out .now) (c .before .before .before .before .args .w) (c .before .before .before .before .args .j) (c .if1 .taken))
+    (λ c. let s = c .before .before .before .before in none-written (s .args .out .now) (s .args .w) (s .args .j) (c .if1 .taken))
     (λ c κs. search needs)
     (λ c. search needs)
-    (λ c. c .before .before .put-line .ensures ∙ line-written (c .before .before .before .before .before .before .before .before .before .before .before .args .out .now) (c .before .before .before .before .before .before .before .before .before .before .before .args .w) (c .before .before .before .before .before .before .before .before .before .before .before .args .j) (c .before .before .before .before .before .before .before .before .before .before .before .pre .0) (c .before .before .before .before .if2 .taken))
-    (λ c κs. omega (arith, c .before .if3 .taken, c .before .before .before .before .before .before .before .before .before .before .before .before .pre .0))
+    line-returns
+    (λ c κs. omega (arith, c .before .if3 .taken, from-total (c .before) .pre .0))
     (λ c. search needs)
-    (λ c. c .before .before .put-total .ensures ∙ total-written (c .before .before .before .before .before .before .before .before .before .before .before .before .before .before .before .args .out .now) (c .before .before .before .before .before .before .before .before .before .before .before .before .before .before .before .args .w) (c .before .before .before .before .before .before .before .before .before .before .before .before .before .before .before .args .j) (c .before .before .before .before .before .before .before .before .before .before .before .before .before .before .before .pre .0) (c .before .before .before .before .if3 .taken))
-    put-line-requires-2
+    total-returns
+    (λ c κs. omega (arith, both (c .before), from-both (c .before) .pre .0))
     add-put-total
     put-total-requires-2
     (λ c. search needs)

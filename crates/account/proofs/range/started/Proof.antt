@@ -1,5 +1,4 @@
 -- In stage 1, or in another. Assumes nothing.
-use borrow.Author.Needs.{needs}
 use Rattle.account.proofs.Shortcuts.{open-started}
 use Rattle.account.proofs.range.started.Statement.{statement}
 use Rattle.account.proofs.range.started.Tie as tie

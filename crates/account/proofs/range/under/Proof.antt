@@ -1,5 +1,4 @@
 -- Without a group, or with one. Assumes nothing.
-use borrow.Author.Needs.{needs}
 use Rattle.account.proofs.Shortcuts.{under-none, under-some}
 use Rattle.account.proofs.range.under.Statement.{statement}
 use Rattle.account.proofs.range.under.Tie as tie

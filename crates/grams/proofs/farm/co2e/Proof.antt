@@ -1,17 +1,29 @@
 -- `grams::farm::co2e` meets its contract. Assumes nothing.
 use borrow.Author.Needs.{needs}
-use mathlib.Core.Path.{refl}
+use mathlib.Core.Path.{_≡_, ap, _∙_}
+use Prim.Native.Nat.{ℕ, _*_, _^_, _≤_}
+use native.Mathlib.Omega.{arith}
+use Rattle.grams.specs.declared.units.Co2.{Co2}
+use Rattle.grams.specs.Units.{gramsCo2, plusCo2, Co2Within}
 use Rattle.grams.specs.Farm.{co2eOf}
 use Rattle.grams.proofs.farm.co2e.Statement.{statement}
 use Rattle.grams.proofs.farm.co2e.Tie as tie
 
+-- what CH4 and N2O count for is within the bound of as many records
+counted : (c : Co2) (grams : ℕ) → c ≡ gramsCo2 grams → grams ≤ 4096 * 10 ^ 13 → Co2Within 4096 c
+counted c grams e h = rw e h
+
 returns : tie.Need-returns
 unfolding co2eOf
-returns c = rw (c .before .enum-told .given .1) refl
+returns c =
+    rw (c .before .before .before .enum-told .given .1, ← c .before .before .grams .ensures)
+    (c .plus .ensures ∙ ap (plusCo2 (c .before .before .before .before .before .args .co2)) (c .before .of .ensures))
 
 returns-2 : tie.Need-returns-2
 unfolding co2eOf
-returns-2 c = rw (c .before .enum-told2 .given .1) refl
+returns-2 c =
+    rw (c .before .before .before .enum-told2 .given .1, ← c .before .before .grams2 .ensures)
+    (c .plus2 .ensures ∙ ap (plusCo2 (c .before .before .before .before .before .args .co2)) (c .before .of2 .ensures))
 
 pub co2e-spec : {M : Type 1} → statement M
 co2e-spec =
@@ -19,13 +31,17 @@ co2e-spec =
     (tie.spec
     (λ c. search needs)
     (λ c. search needs)
+    (λ c κs. tt)
     (λ c. search needs)
     (λ c. search needs)
+    (λ c κs. tt)
+    (λ c κs. let p = c .before .before .before .before .pre in (p .co2-in, counted _ _ (c .of .ensures) (omega arith)))
     (λ c. search needs)
     (λ c. search needs)
+    (λ c κs. tt)
     (λ c. search needs)
     (λ c. search needs)
-    (λ c. search needs)
-    (λ c. search needs)
+    (λ c κs. tt)
+    (λ c κs. let p = c .before .before .before .before .pre in (p .co2-in, counted _ _ (c .of2 .ensures) (omega arith)))
     returns
     returns-2)

@@ -1,5 +1,5 @@
 -- Refused by 5, 6 or 7, or by 9, 10 or 11; else the days, the nitrogen and the N2O. Assumes nothing.
-use mathlib.Core.Path.{_≡_, refl, sym, _∙_}
+use mathlib.Core.Path.{refl}
 use native.Mathlib.Omega.{arith}
 use borrow.Author.Needs.{needs}
 use borrow.Author.Tests.{lt-ltb, le-ltb, eq-eqb, ne-eqb}

@@ -1,7 +1,6 @@
 -- Assumes nothing.
 use mathlib.Core.Path.{refl}
 use borrow.Author.Tests.{ne-eqb}
-use borrow.Author.Needs.{needs}
 use Rattle.rules.proofs.close.warming.Statement.{statement}
 use Rattle.rules.proofs.close.warming.Tie as tie
 

@@ -1,6 +1,5 @@
 -- Refused by 5, 6 or 7, or by 12; else the total. Assumes nothing.
-use mathlib.Core.Path.{_≡_, refl}
-use native.Mathlib.Omega.{arith}
+use mathlib.Core.Path.{refl}
 use borrow.Author.Needs.{needs}
 use borrow.Author.Tests.{eq-eqb, ne-eqb}
 use Rattle.account.specs.Sorts.{sortOf}

@@ -1,5 +1,5 @@
 -- Refused by 5, 6 or 7, or by 9; else the days and the grams of CH4. Assumes nothing.
-use mathlib.Core.Path.{_≡_, refl}
+use mathlib.Core.Path.{refl}
 use native.Mathlib.Omega.{arith}
 use borrow.Author.Needs.{needs}
 use borrow.Author.Tests.{lt-ltb, le-ltb}

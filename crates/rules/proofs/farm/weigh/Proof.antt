@@ -1,5 +1,5 @@
 -- Refused by 5, 6 or 7; else the book is open. Assumes nothing.
-use mathlib.Core.Path.{_≡_, refl}
+use mathlib.Core.Path.{refl}
 use native.Mathlib.Omega.{arith}
 use borrow.Author.Needs.{needs}
 use Rattle.account.specs.Sorts.{sortOf}

@@ -1,6 +1,8 @@
 -- Assumes nothing.
 use mathlib.Core.Path.{refl}
+use native.Mathlib.Omega.{arith}
 use borrow.Author.Needs.{needs}
+use Rattle.grams.proofs.Carbon.{within-more}
 use Rattle.rules.proofs.figures.summed.Statement.{statement}
 use Rattle.rules.proofs.figures.summed.Tie as tie
 
@@ -9,8 +11,8 @@ summed-spec =
     tie.close
     (tie.spec
     (λ c κs. search needs)
+    (λ c κs. let p = c .before .before .before .before .before .pre in (p .0 .co2, within-more _ 1 4096 (omega arith) (p .1 .co2)))
     (λ c. search needs)
     (λ c. search needs)
     (λ c. search needs)
-    (λ c. search needs)
-    (λ c. rw (c .before .before .before .before .before .before .before .before .plus .ensures) refl))
+    (λ c. let co2 = c .before .before .before .before .before .before in rw (co2 .before .before .before .plus .ensures, co2 .plus2 .ensures) refl))

@@ -1,5 +1,5 @@
 -- Refused by 5, 6 or 7, or by 8; else a new heading, with no days yet. Assumes nothing.
-use mathlib.Core.Path.{_≡_, refl}
+use mathlib.Core.Path.{refl}
 use native.Mathlib.Omega.{arith}
 use borrow.Author.Needs.{needs}
 use borrow.Author.Tests.{le-leb, lt-leb}

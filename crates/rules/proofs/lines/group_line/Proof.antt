@@ -1,6 +1,5 @@
 -- There was no heading, or there was one. Assumes nothing.
 use mathlib.Core.Path.{refl}
-use borrow.Author.Needs.{needs}
 use borrow.Author.Tests.{ne-eqb, eq-eqb}
 use Rattle.rules.proofs.lines.group_line.Statement.{statement}
 use Rattle.rules.proofs.lines.group_line.Tie as tie

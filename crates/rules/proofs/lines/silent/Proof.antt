@@ -1,5 +1,4 @@
 -- Assumes nothing.
-use borrow.Author.Needs.{needs}
 use Rattle.rules.proofs.lines.silent.Statement.{statement}
 use Rattle.rules.proofs.lines.silent.Tie as tie
 

@@ -1,5 +1,5 @@
 -- One test after the other. Assumes nothing.
-use borrow.Author.Tests.{le-leb, lt-leb, eq-eqb, ne-eqb}
+use borrow.Author.Tests.{le-leb, lt-leb, ne-eqb}
 use Rattle.account.specs.Judge.{first}
 use Rattle.rules.proofs.refusals.barred.Statement.{statement}
 use Rattle.rules.proofs.refusals.barred.Tie as tie

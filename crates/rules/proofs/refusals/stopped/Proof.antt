@@ -1,6 +1,5 @@
 -- The code is 7, or it is not. Assumes nothing.
 use borrow.Author.Tests.{ne-eqb}
-use borrow.Author.Needs.{needs}
 use Rattle.rules.proofs.refusals.stopped.Statement.{statement}
 use Rattle.rules.proofs.refusals.stopped.Tie as tie
 

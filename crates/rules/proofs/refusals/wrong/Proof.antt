@@ -1,5 +1,4 @@
 -- Assumes nothing.
-use borrow.Author.Needs.{needs}
 use Rattle.rules.proofs.refusals.wrong.Statement.{statement}
 use Rattle.rules.proofs.refusals.wrong.Tie as tie
 

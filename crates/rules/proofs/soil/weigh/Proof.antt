@@ -1,6 +1,5 @@
 -- Refused by 5, 6 or 7; else the grams of CO2, which belong to the farm. Assumes nothing.
-use mathlib.Core.Path.{_≡_, refl}
-use native.Mathlib.Omega.{arith}
+use mathlib.Core.Path.{refl}
 use borrow.Author.Needs.{needs}
 use Rattle.account.specs.Figures.{figuresOf}
 use Rattle.account.specs.Sorts.{sortOf}

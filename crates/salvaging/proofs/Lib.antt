@@ -1,0 +1,14 @@
+pub mod KindLaws
+pub mod FateLaws
+pub mod TurnLaws
+pub mod PassLaws
+pub mod CloseLaws
+pub mod AnswerLaws
+pub mod RemarkLaws
+pub mod SalvagedAccepted
+pub mod Untouched
+pub mod KeptOrListed
+pub mod HeadingKept
+pub mod Told
+pub mod OneAnswer
+pub mod Witnesses

@@ -1,0 +1,87 @@
+-- The premises of the promises are met. A damaged book, computed: a ration of no days, a heading of a wrong version with a ration under it, a
+-- close that counts wrong, and a farm record behind it. And a right book, which comes back as it is.
+-- Assumes nothing.
+use Prim.Native.Nat.{ℕ}
+use mathlib.Core.Path.{_≡_, refl}
+use mathlib.Core.List.{List, [], _∷_, _++_}
+use native.Mathlib.Omega.{arith}
+use Rattle.codec.specs.Table.{table, size}
+use Rattle.codec.specs.Codec.{valAt, be, valuesAt, bytesOf, firstBad, recordBytes}
+use Rattle.codec.proofs.BigEndian.{Bytes, bytes-append}
+use Rattle.codec.proofs.Round.{record-whole}
+use Rattle.account.specs.Sorts.{sortOf}
+use Rattle.account.specs.Judge.{inPlace, first, accepted, judge}
+use Rattle.account.specs.Line.{joined}
+use Rattle.book.specs.Front.{front}
+use Rattle.book.specs.WholeRecords.{recordsBy, recordsOf}
+use Rattle.book.specs.State.{noRecordYet}
+use Rattle.book.specs.Run.{bookBy, book, run}
+use Rattle.salvaging.specs.Salvage.{droppedBy, found, listOf, farmAmong, refusing, saving, answering, salvageOf}
+use Rattle.salvaging.specs.Promised.{underHeadings, details}
+
+-- ---- a damaged book
+
+abbrev farm : List ℕ
+farm = 0 ∷ 9 ∷ 1 ∷ 1 ∷ 0 ∷ 0 ∷ 0 ∷ 7 ∷ 7 ∷ 218 ∷ 1 ∷ []
+
+-- a heading of that version
+abbrev heading : ℕ → List ℕ
+heading version = 0 ∷ 7 ∷ version ∷ 2 ∷ 0 ∷ 12 ∷ 1 ∷ 0 ∷ 40 ∷ []
+
+-- a ration of so many days
+abbrev ration : ℕ → List ℕ
+ration days = 0 ∷ 10 ∷ 1 ∷ 3 ∷ 0 ∷ days ∷ 0 ∷ 0 ∷ 117 ∷ 48 ∷ 2 ∷ 138 ∷ []
+
+abbrev energy : List ℕ
+energy = 0 ∷ 11 ∷ 1 ∷ 6 ∷ 1 ∷ 0 ∷ 0 ∷ 0 ∷ 125 ∷ 0 ∷ 1 ∷ 17 ∷ 112 ∷ []
+
+abbrev close : ℕ → List ℕ
+close count = 0 ∷ 4 ∷ 1 ∷ 8 ∷ 0 ∷ count ∷ []
+
+-- an entry of the list
+abbrev entry : ℕ → ℕ → List ℕ
+entry number code = 0 ∷ 0 ∷ 0 ∷ 0 ∷ 0 ∷ 0 ∷ 0 ∷ number ∷ code ∷ []
+
+abbrev damaged : List ℕ
+damaged = joined (farm ∷ heading 1 ∷ ration 31 ∷ ration 0 ∷ energy ∷ heading 2 ∷ ration 28 ∷ close 9 ∷ farm ∷ [])
+
+abbrev clean : List ℕ
+clean = joined (farm ∷ heading 1 ∷ ration 31 ∷ energy ∷ close 4 ∷ [])
+
+-- it is saved: what salvaged-accepted and heading-kept ask
+pub damaged-saved : salvageOf damaged 51 27 ≡ saving clean (joined (entry 3 7 ∷ entry 5 2 ∷ entry 6 6 ∷ []))
+unfolding salvageOf answering found recordsOf recordsBy front valAt droppedBy first judge accepted sortOf table size valuesAt firstBad inPlace
+    listOf farmAmong be bytesOf recordBytes
+damaged-saved = refl
+
+-- there is a detail for heading-kept to speak of
+pub detail-kept : details (underHeadings [] (recordsOf clean)) ≡ record { detail = ration 31; heading = heading 1 } ∷ []
+unfolding recordsOf recordsBy front valAt underHeadings details sortOf
+detail-kept = refl
+
+-- a byte less of room
+pub damaged-16 : (salvageOf damaged 50 27 ≡ refusing 16) × (salvageOf damaged 51 26 ≡ refusing 16)
+unfolding salvageOf answering found recordsOf recordsBy front valAt droppedBy first judge accepted sortOf table size valuesAt firstBad inPlace
+    listOf farmAmong be bytesOf recordBytes
+damaged-16 = (refl, refl)
+
+-- no farm record, and no room either
+pub no-farm-19 : salvageOf (joined (heading 1 ∷ close 1 ∷ [])) 0 0 ≡ refusing 19
+unfolding salvageOf answering found recordsOf recordsBy front valAt droppedBy first judge accepted sortOf table size valuesAt firstBad inPlace
+    farmAmong
+no-farm-19 = refl
+
+-- ---- a right book
+
+abbrev right : List ℕ
+right = recordBytes 1 (7 ∷ 2010 ∷ 1 ∷ []) ++ recordBytes 8 (1 ∷ [])
+
+-- what untouched asks: bytes, closed by rule 2 with nothing left
+pub right-bytes : Bytes right
+right-bytes =
+    bytes-append (recordBytes 1 (7 ∷ 2010 ∷ 1 ∷ [])) (recordBytes 8 (1 ∷ [])) (record-whole 1 (7 ∷ 2010 ∷ 1 ∷ []) (omega arith) .bytes)
+    (record-whole 8 (1 ∷ []) (omega arith) .bytes)
+
+pub right-closed : (run noRecordYet right .state .account .stage ≡ 2) × (run noRecordYet right .left ≡ [])
+unfolding run book bookBy front valAt first judge accepted sortOf table size valuesAt firstBad inPlace be bytesOf recordBytes
+right-closed = (refl, refl)

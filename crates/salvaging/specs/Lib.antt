@@ -1,0 +1,4 @@
+pub mod Salvage
+pub mod Promised
+pub mod Remarks
+pub mod Inner

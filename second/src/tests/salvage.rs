@@ -1,0 +1,151 @@
+//! Document 02's W5, sentence by sentence, and that the makers of damaged books make what they say.
+
+use crate::damages::damaged;
+use crate::desk::long_book;
+use crate::lister::list;
+use crate::plain::{plain_values, sample};
+use crate::record::record_of;
+use crate::salvage::{tell, Told, LONGEST};
+use std::collections::BTreeSet;
+
+fn farm() -> Vec<u8> {
+    record_of(1, &plain_values(1))
+}
+
+fn heading(group: u64) -> Vec<u8> {
+    record_of(2, &[group, 1, 40])
+}
+
+fn ration() -> Vec<u8> {
+    record_of(3, &plain_values(3))
+}
+
+fn close(count: u64) -> Vec<u8> {
+    record_of(8, &[count])
+}
+
+fn with(mut record: Vec<u8>, at: usize, byte: u8) -> Vec<u8> {
+    record[at] = byte;
+    record
+}
+
+/// The clean book, and number and code of each dropped record.
+fn saved(records: &[Vec<u8>]) -> (Vec<u8>, Vec<(u64, u8)>) {
+    let told = tell(&records.concat());
+    assert!(told.saved, "{}", told.said);
+    assert_eq!(list(&told.book).lines().last(), Some("closed"));
+    let lines = told.said.lines().filter_map(|line| line.strip_prefix("record "));
+    let dropped = lines.map(|line| {
+        let (number, rest) = line.split_once(": dropped ").unwrap();
+        (number.parse().unwrap(), rest.split_once(": ").unwrap().0.parse().unwrap())
+    });
+    (told.book, dropped.collect())
+}
+
+#[test]
+fn a_right_book_comes_back() {
+    let told = tell(&sample());
+    assert_eq!((told.book, told.said.as_str()), (sample(), "5 kept, 0 dropped\n"));
+}
+
+#[test]
+fn a_dropped_heading_takes_its_details_along() {
+    let energy = record_of(6, &plain_values(6));
+    for (wrong, code) in [
+        (with(heading(5), 2, 2), 2),
+        ([vec![0, 8, 1, 2], heading(5)[4..].to_vec(), vec![0]].concat(), 4),
+        (heading(4), 8),
+        (record_of(2, &[5, 9, 40]), 7),
+    ] {
+        let book = [
+            farm(),
+            heading(4),
+            wrong,
+            ration(),
+            energy.clone(),
+            with(ration(), 2, 3),
+            heading(6),
+            ration(),
+        ];
+        let (clean, dropped) = saved(&book);
+        assert_eq!(dropped, [(2, code), (3, 6), (5, 2)]);
+        assert_eq!(
+            clean,
+            [farm(), heading(4), energy.clone(), heading(6), ration(), close(5)].concat()
+        );
+    }
+}
+
+#[test]
+fn a_heading_with_a_damaged_kind_is_no_heading() {
+    let (clean, dropped) = saved(&[farm(), heading(4), with(heading(5), 3, 9), ration()]);
+    assert_eq!(dropped, [(2, 3)]);
+    assert_eq!(clean, [farm(), heading(4), ration(), close(3)].concat());
+}
+
+#[test]
+fn what_ends_the_reading_is_not_listed() {
+    let clean = [farm(), heading(4), close(2)].concat();
+    for end in [close(9), close(2), vec![0, 3], vec![0, 27], vec![0]] {
+        let behind = [farm(), heading(4), end, farm(), with(farm(), 2, 0)];
+        assert_eq!(saved(&behind), (clean.clone(), Vec::new()));
+    }
+    for end in [vec![0, 9, 1], vec![0], Vec::new()] {
+        assert_eq!(saved(&[farm(), heading(4), end]), (clean.clone(), Vec::new()));
+    }
+}
+
+#[test]
+fn a_close_before_any_farm_record_is_dropped() {
+    assert_eq!(saved(&[close(0), farm(), close(1)]).1, [(0, 6)]);
+    assert_eq!(saved(&[farm(), with(close(1), 2, 0), close(1)]).1, [(1, 2)]);
+    assert_eq!(saved(&[farm(), vec![0, 5, 1, 8, 0, 1, 0], heading(4)]).1, [(1, 4)]);
+}
+
+#[test]
+fn several_farm_records() {
+    assert_eq!(saved(&[farm(), farm(), heading(4), farm()]).1, [(1, 6), (3, 6)]);
+}
+
+#[test]
+fn at_4095_kept_records_the_next_is_not_looked_at() {
+    for (details, kept) in [(4_093, 4_094), (4_094, 4_095), (4_095, 4_095)] {
+        let told = tell(&[long_book(details), vec![0, 4, 2, 8, 0, 0]].concat());
+        assert_eq!(told.said, format!("{kept} kept, 0 dropped\n"));
+    }
+}
+
+#[test]
+fn no_farm_record_is_19() {
+    for damaged in [
+        Vec::new(),
+        heading(4),
+        [heading(4), ration(), close(2)].concat(),
+        b"farm 7 2010 1\n".to_vec(),
+    ] {
+        let Told { book, said, saved } = tell(&damaged);
+        assert_eq!((book, said.as_str(), saved), (Vec::new(), "refused 19\n", false));
+    }
+}
+
+#[test]
+fn the_longest_book() {
+    let fills = |bytes: usize| [farm(), vec![0; bytes - farm().len()]].concat();
+    assert!(tell(&fills(LONGEST)).saved);
+    assert!(!tell(&fills(LONGEST + 1)).saved);
+}
+
+#[test]
+fn damaged_books_are_damaged_in_every_way() {
+    let told: Vec<Told> = (0..500).map(|index| tell(&damaged(1, index))).collect();
+    let codes: BTreeSet<&str> = told
+        .iter()
+        .flat_map(|t| t.said.lines())
+        .filter_map(|line| line.split(": ").nth(1))
+        .collect();
+    let wanted = [2, 3, 4, 6, 7, 8, 9, 10, 11].map(|code| format!("dropped {code}"));
+    assert!(wanted.iter().all(|code| codes.contains(code.as_str())), "{codes:?}");
+    assert!(told.iter().filter(|t| !t.saved).count() > 20);
+    assert!(told.iter().filter(|t| t.said.ends_with(" kept, 0 dropped\n")).count() > 20);
+    assert!(told.iter().any(|t| t.said.contains("4095 kept")));
+}
