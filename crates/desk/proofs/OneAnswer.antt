@@ -1,5 +1,5 @@
--- One answer: herd_desk asks nothing of its caller, a C program, and two answers that meet its contract are equal. The contracts are those of the source itself: Learnt is what a caller learns from a
--- function's `ensures`, Asked what its `requires` ask.
+-- One answer: herd_desk asks nothing of its caller, a C program, and two answers that meet its contract are equal. The contracts are those of the
+-- source itself: Learnt is what a caller learns from a function's `ensures`, Asked what its `requires` ask.
 -- Assumes nothing.
 use Prim.Native.Nat.{ℕ}
 use mathlib.Core.Path.{_≡_, sym, _∙_}

@@ -1,6 +1,6 @@
--- One answer: two answers that meet the contract of a public function are equal. The figures ask their ranges of their caller, who is the book reader;
--- what asks nothing says so first. The contracts are those of the source itself: Learnt is what a caller learns from a function's `ensures`, Asked what
--- its `requires` ask.
+-- One answer: two answers that meet the contract of a public function are equal. The figures ask their ranges of their caller, who is the book
+-- reader; what asks nothing says so first. The contracts are those of the source itself: Learnt is what a caller learns from a function's
+-- `ensures`, Asked what its `requires` ask.
 -- Assumes nothing.
 use Prim.Native.Nat.{ℕ}
 use mathlib.Core.Bool.{Bool}

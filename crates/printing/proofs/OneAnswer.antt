@@ -1,7 +1,6 @@
--- One answer: two answers that meet the contract of a public function are equal: the index past the text, and the buffer at the end (the first parameter,
--- out). Each asks its caller for room: the functions named put for all of the text, those named say for where it begins. The
--- contracts are those of the source itself: Learnt is what a caller learns from a
--- function's `ensures`, Asked what its `requires` ask.
+-- One answer: two answers that meet the contract of a public function are equal: the index past the text, and the buffer at the end (the first
+-- parameter, out). Each asks its caller for room: the functions named put for all of the text, those named say for where it begins. The contracts
+-- are those of the source itself: Learnt is what a caller learns from a function's `ensures`, Asked what its `requires` ask.
 -- Assumes nothing.
 use Prim.Native.Nat.{ℕ}
 use mathlib.Core.Path.{_≡_}

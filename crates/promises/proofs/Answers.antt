@@ -84,7 +84,8 @@ module _ (s : State) (b room : ℕ) (v : InRange s) (early : s .account .stage <
       let n : length zs ≤ need zs = omega (arith, length-append (heldOf s) (b ∷ [])) in
       let d : drop (need zs) zs ≡ [] = drop-of-length-le zs {i = need zs} n in
       let t : take (need zs) zs ≡ zs = take-all (need zs) zs n in
-      rw (book-whole (s .account) zs early e, t, d, book-none (judge (s .account) zs .account) (in-range-judge (s .account) zs (v .account) early), append-nil)
+      let j = in-range-judge (s .account) zs (v .account) early in
+      rw (book-whole (s .account) zs early e, t, d, book-none (judge (s .account) zs .account) j, append-nil)
       (λ l. record { complete = e; right = refused-none zs l; long = l })
 
   too-long : room < length (joined (run s (b ∷ []) .lines)) → NextTooLong s b room
@@ -139,7 +140,8 @@ module _ (s : State) (xs : List ℕ) (room : ℕ) (v : InRange s) where
       let ok : length (joined (w .lines)) ≤ room = leb-true _ _ (longest-ok (fits s xs room) (length xs) none) in
       let more : room - length (joined (w .lines)) < length (joined (run (w .state) (b ∷ []) .lines)) =
       omega (arith, c, length-append (joined (w .lines)) (joined (run (w .state) (b ∷ []) .lines)), big) in
-      (t .0, rw n k, rw n big, rw (called, l, sub-zero) (too-long (w .state) b (room - length (joined (w .lines))) (run-leaves s (take many xs) v .range) h more))
+      let next = too-long (w .state) b (room - length (joined (w .lines))) (run-leaves s (take many xs) v .range) h more in
+      (t .0, rw n k, rw n big, rw (called, l, sub-zero) next)
 
   -- Closed (0): the close is in.
   pub closed-means : numbers (call s xs room .answer) ≡ 0 ∷ [] → call s xs room .state .account .stage ≡ 2

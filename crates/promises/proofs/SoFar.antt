@@ -120,7 +120,8 @@ so-far (p ∷ ps) s xs v =
     let f : outcome (run s (take (c .taken) xs)) ≡ o = rw (take-take (c .taken) (p .offered) xs t) at (call-so-far s offered (p .room) v) in
     rw (take-add (c .taken) n xs) (outcome-append s (take (c .taken) xs) (take n (drop (c .taken) xs)) o f ∙ ap (join o) i)
 
--- A series of calls from a state in range, at its end or not, has the state and the lines that rule 2 gives for the bytes taken, and leaves the others.
+-- A series of calls from a state in range, at its end or not, has the state and the lines that rule 2 gives for the bytes taken, and leaves the
+-- others.
 pub way-so-far : (s : State) (xs : List ℕ) (ps : List Part) → InRange s
     → way s xs ps
     ≡ record {

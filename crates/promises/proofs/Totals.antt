@@ -49,7 +49,8 @@ record EndsWith (l : List ℕ) (ls : List (List ℕ)) : Type 0 where
   is : ls ≡ before ++ (l ∷ [])
 
 put-before : (ks ls : List (List ℕ)) (l : List ℕ) → EndsWith l ls → EndsWith l (ks ++ ls)
-put-before ks ls l e = record { before = ks ++ e .before; is = ap (λ (k : List (List ℕ)). ks ++ k) (e .is) ∙ sym (append-assoc ks (e .before) (l ∷ [])) }
+put-before ks ls l e =
+    record { before = ks ++ e .before; is = ap (λ (k : List (List ℕ)). ks ++ k) (e .is) ∙ sym (append-assoc ks (e .before) (l ∷ [])) }
 
 -- a record that closes an open book gives the total line last
 closes-with : (a : Account) (r : List ℕ) → a .stage < 2 → judge a r .account .stage ≡ 2 → EndsWith (totalOf (judge a r .account)) (judge a r .lines)
@@ -69,7 +70,8 @@ abbrev Ends : Run → Type 0
 Ends r = r .state .account .stage ≡ 2 → EndsWith (totalOf (r .state .account)) (r .lines)
 
 ends-at : (a : Account) (xs : List ℕ) → AccountInRange a → a .stage < 2
-    → ((b : Account) (zs : List ℕ) → length zs < length xs → AccountInRange b → b .stage < 2 → Ends (book b zs)) → (f : Front) → front xs ≡ f → Ends (book a xs)
+    → ((b : Account) (zs : List ℕ) → length zs < length xs → AccountInRange b → b .stage < 2 → Ends (book b zs))
+    → (f : Front) → front xs ≡ f → Ends (book a xs)
 ends-at a xs v k ih unfinished e = rw (book-unfinished a xs k e) (λ q. absurd (omega (arith, q)))
 ends-at a xs v k ih badLength e = rw (book-bad a xs k e) (λ q. absurd (omega (arith, q)))
 ends-at a xs v k ih whole e =
@@ -79,7 +81,8 @@ ends-at a xs v k ih whole e =
     let short : length rest < length xs = rw length-drop (omega arith) in
     rw (book-whole a xs k e)
     (⊎-elim
-    (λ (h : j .account .stage < 2). λ q. put-before (j .lines) (book (j .account) rest .lines) _ (ih (j .account) rest short (in-range-judge a (take (need xs) xs) v k) h q))
+    (λ (h : j .account .stage < 2). λ q.
+    put-before (j .lines) (book (j .account) rest .lines) _ (ih (j .account) rest short (in-range-judge a (take (need xs) xs) v k) h q))
     (λ (h : 2 ≤ j .account .stage). rw (book-ended (j .account) rest h, append-nil) (closes-with a (take (need xs) xs) k))
     (lt-or-ge (j .account .stage) 2))
 
@@ -222,7 +225,8 @@ from-bytes x at p z xs q =
     let b = run noRecordYet xs .state .account in
     let gs = groupsOf (noRecord .heading) (noRecord .subtotal) (acceptedRecords noRecordYet xs) in
     let v = run-leaves noRecordYet xs new-in-range .range .account in
-    let g : x .farm (b .sums) + x .group noSubtotal ≡ x .farm noFigures + addedUp (x .group) gs = from-state noRecordYet xs new-in-range .closed x (omega arith) q in
+    let g : x .farm (b .sums) + x .group noSubtotal ≡ x .farm noFigures + addedUp (x .group) gs =
+    from-state noRecordYet xs new-in-range .closed x (omega arith) q in
     let small : x .farm (b .sums) < bytesHold 8 = p .small (b .sums) (b .records) (v .sums) (v .counted .records-most) in
     let e : addedUp (x .group) gs ≡ x .farm (b .sums) = omega (arith, g, z, x .none) in
     let l : valAt (lastOf (run noRecordYet xs .lines)) at 8 ≡ x .farm (b .sums) =

@@ -69,7 +69,8 @@ none-first n m ls r rs e q =
     let l : length (take 0 ls) ≡ length (r ∷ rs) = ap length (rw z at q) in
     omega (arith, l)
 
-next-at : (a : Account) (xs r : List ℕ) (rs : List (List ℕ)) → AccountInRange a → a .stage < 2 → bookRecords a xs ≡ r ∷ rs → (f : Front) → front xs ≡ f → Next a xs r rs
+next-at : (a : Account) (xs r : List ℕ) (rs : List (List ℕ)) → AccountInRange a → a .stage < 2 → bookRecords a xs ≡ r ∷ rs
+    → (f : Front) → front xs ≡ f → Next a xs r rs
 next-at a xs r rs v k q unfinished e = absurd (none-first (a .records) (a .records) (recordsOf xs) r rs refl (rw (book-unfinished a xs k e) at q))
 next-at a xs r rs v k q badLength e = absurd (none-first (a .records) (a .records) (recordsOf xs) r rs refl (rw (book-bad a xs k e) at q))
 next-at a xs r rs v k q whole e =
@@ -99,7 +100,8 @@ next a xs r rs v q =
 
 -- ---- at any one record
 
-among : (before after : List (List ℕ)) (r : List ℕ) → isDetail r ≡ true → (a : Account) (xs : List ℕ) → AccountInRange a → bookRecords a xs ≡ before ++ (r ∷ after)
+among : (before after : List (List ℕ)) (r : List ℕ) → isDetail r ≡ true
+    → (a : Account) (xs : List ℕ) → AccountInRange a → bookRecords a xs ≡ before ++ (r ∷ after)
     → Among (marksOf (a .heading .group) before) (lineOf (lastHeading (a .heading) before) (kindOf r) (valuesOf r)) (book a xs .lines)
 unfolding marksOf lastHeading
 among [] after r d a xs v q =
@@ -122,10 +124,13 @@ among (b ∷ bs) after r d a xs v q =
       are = e ∙ ap (λ (h : Heading). (j .lines ++ i .before) ++ (lineOf (lastHeading h bs) (kindOf r) (valuesOf r) ∷ i .behind)) h;
     }
 
--- Where the records that a run accepts are some, then a detail r, then others: among its lines, right behind those that the first ones bear, stands the
--- line of r, made of the last heading among the first ones (the state's where there is none) and r's values alone.
-pub line-of-record : (s : State) (xs : List ℕ) → InRange s → (before after : List (List ℕ)) (r : List ℕ) → acceptedRecords s xs ≡ before ++ (r ∷ after) → isDetail r ≡ true
-    → Among (marksOf (s .account .heading .group) before) (lineOf (lastHeading (s .account .heading) before) (kindOf r) (valuesOf r)) (run s xs .lines)
+-- Where the records that a run accepts are some, then a detail r, then others: among its lines, right behind those that the first ones bear, stands
+-- the line of r, made of the last heading among the first ones (the state's where there is none) and r's values alone.
+pub line-of-record : (s : State) (xs : List ℕ) → InRange s → (before after : List (List ℕ)) (r : List ℕ)
+    → acceptedRecords s xs ≡ before ++ (r ∷ after) → isDetail r ≡ true
+    → Among (marksOf (s .account .heading .group) before)
+    (lineOf (lastHeading (s .account .heading) before) (kindOf r) (valuesOf r))
+    (run s xs .lines)
 unfolding run
 line-of-record s xs v before after r e d = among before after r d (s .account) (heldOf s ++ xs) (v .account) e
 
@@ -155,9 +160,11 @@ brings ofGroup g new e = no-bool e
 brings ofFarm g new e = no-bool e
 brings closes g new e = no-bool e
 
-last-is : (before between : List (List ℕ)) (l : List ℕ) (h : Heading) → isHeading l ≡ true → noHeading between ≡ true → lastHeading h (before ++ (l ∷ between)) ≡ headingFrom l
+last-is : (before between : List (List ℕ)) (l : List ℕ) (h : Heading) → isHeading l ≡ true → noHeading between ≡ true
+    → lastHeading h (before ++ (l ∷ between)) ≡ headingFrom l
 unfolding lastHeading
-last-is [] between l h e n = ap (λ (g : Heading). lastHeading g between) (brings (sortOf (kindOf l)) h (headingFrom l) e) ∙ stays (headingFrom l) between n
+last-is [] between l h e n =
+    ap (λ (g : Heading). lastHeading g between) (brings (sortOf (kindOf l)) h (headingFrom l) e) ∙ stays (headingFrom l) between n
 last-is (b ∷ before) between l h e n = last-is before between l (headingAfter h b) e n
 
 -- Where they are some, then a heading record l, then some without a heading, then a detail r, then others, r's line is made of l's group, class and

@@ -1,5 +1,5 @@
--- One answer: two answers that meet the contract of a public function are equal. retype asks for room; say_end and status ask nothing. The contracts are those of the source itself: Learnt is what a caller learns from a
--- function's `ensures`, Asked what its `requires` ask.
+-- One answer: two answers that meet the contract of a public function are equal. retype asks for room; say_end and status ask nothing. The
+-- contracts are those of the source itself: Learnt is what a caller learns from a function's `ensures`, Asked what its `requires` ask.
 -- Assumes nothing.
 use Prim.Native.Nat.{ℕ}
 use mathlib.Core.Path.{_≡_, sym, _∙_}
@@ -24,7 +24,8 @@ status-asks-nothing κs args = tt
 
 -- A part of a book typed again: all of Retyped, and the buffer at the end (the third parameter, out).
 pub one-retype : (κs : Lfts 2) (args : Dens κs typed.ps) (f g : Retyped) (e e′ : AtExit (endedOf 2 typed.ps typed.r) κs)
-    → typed-contract.Learnt κs args f e → typed-contract.Learnt κs args g e′ → (f .state ≡ g .state) × (f .taken ≡ g .taken) × (f .more ≡ g .more) × ((f .written ≡ g .written) × (now (e .1 .1 .0) ≡ now (e′ .1 .1 .0)))
+    → typed-contract.Learnt κs args f e → typed-contract.Learnt κs args g e′
+    → (f .state ≡ g .state) × (f .taken ≡ g .taken) × (f .more ≡ g .more) × ((f .written ≡ g .written) × (now (e .1 .1 .0) ≡ now (e′ .1 .1 .0)))
 one-retype κs args f g e e′ p q =
     (p .0 .state ∙ sym (q .0 .state), p .0 .taken ∙ sym (q .0 .taken), p .0 .more ∙ sym (q .0 .more), one-put (p .0 .put) (q .0 .put))
 

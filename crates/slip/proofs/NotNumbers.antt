@@ -40,7 +40,8 @@ unfolding whatIf
 refused-so r c e = rw e refl
 
 -- A NaN for GE, for Ym, for head or for the change's number gives 14: the ration back unchanged, and zero kg.
-pub nan-gives-14 : (r : Ration) (c : Change) → (numberOf c ≡ nan) ⊎ ((r .ge ≡ nan) ⊎ ((r .ym ≡ nan) ⊎ (r .head ≡ nan))) → whatIf r c ≡ refusedWith 14 r
+pub nan-gives-14 : (r : Ration) (c : Change) → (numberOf c ≡ nan) ⊎ ((r .ge ≡ nan) ⊎ ((r .ym ≡ nan) ⊎ (r .head ≡ nan)))
+    → whatIf r c ≡ refusedWith 14 r
 nan-gives-14 r c n =
     refused-so r c
     (⊎-elim (λ (e : numberOf c ≡ nan). rw (change-outside c e) (and-false (rationInRange r)))

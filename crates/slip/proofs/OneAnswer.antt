@@ -1,5 +1,5 @@
--- One answer: what_if asks nothing of its caller, and two slips that meet its contract are equal. The contract is that of the source itself: Learnt is
--- what a caller learns from its `ensures`, Asked what its `requires` ask.
+-- One answer: what_if asks nothing of its caller, and two slips that meet its contract are equal. The contract is that of the source itself: Learnt
+-- is what a caller learns from its `ensures`, Asked what its `requires` ask.
 -- Assumes nothing.
 use mathlib.Core.Path.{_≡_, sym, _∙_}
 use contract.Lifetimes.{Lfts}

@@ -1,6 +1,5 @@
--- One answer: two answers that meet the contract of a public function are equal. All but put_slip, which asks for room, ask nothing of their callers.
--- The contracts are those of the source itself: Learnt is what a caller learns from a
--- function's `ensures`, Asked what its `requires` ask.
+-- One answer: two answers that meet the contract of a public function are equal. All but put_slip, which asks for room, ask nothing of their
+-- callers. The contracts are those of the source itself: Learnt is what a caller learns from a function's `ensures`, Asked what its `requires` ask.
 -- Assumes nothing.
 use Prim.Native.Nat.{ℕ}
 use mathlib.Core.Path.{_≡_, sym, _∙_}

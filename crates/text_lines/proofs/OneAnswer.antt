@@ -1,5 +1,5 @@
--- One answer: no public function asks anything of its caller, and two answers that meet a contract are equal. The contracts are those of the source itself: Learnt is what a caller learns from a
--- function's `ensures`, Asked what its `requires` ask.
+-- One answer: no public function asks anything of its caller, and two answers that meet a contract are equal. The contracts are those of the source
+-- itself: Learnt is what a caller learns from a function's `ensures`, Asked what its `requires` ask.
 -- Assumes nothing.
 use borrow.Fn.World.{ResD}
 use mathlib.Core.Path.{_≡_, sym, _∙_}
