@@ -12,6 +12,7 @@ use Rattle.base.proofs.Tests.{lt-or-ge, of-choice}
 use Rattle.codec.specs.Table.{lineFields, totalFields}
 use Rattle.codec.specs.Codec.{bytesHold, valAt, be, bytesOf, lineBytes, totalBytes}
 use Rattle.codec.proofs.BigEndian.{valAt-be}
+use Rattle.grams.specs.declared.units.Co2.{Co2}
 use Rattle.account.specs.declared.Account.{Account}
 use Rattle.account.specs.declared.Figures.{Figures}
 use Rattle.account.specs.declared.Subtotal.{Subtotal}
@@ -172,7 +173,7 @@ module _ (k g a n c e l w : ℕ) where
 -- where a figure of a group stands in a line: read from a subtotal line and from a total line it is itself, as no sum is too big for 8 bytes
 record Placed (x : Gas) (at : ℕ) : Type 0 where
   line : (g : ℕ) (t : Subtotal) → x .group t < bytesHold 8 → valAt (lineWith 16 g (groupFigures t)) at 8 ≡ x .group t
-  total : (f : Figures) (co2e : ℕ) → x .farm f < bytesHold 8 → valAt (totalWith f co2e) at 8 ≡ x .farm f
+  total : (f : Figures) (co2e : Co2) → x .farm f < bytesHold 8 → valAt (totalWith f co2e) at 8 ≡ x .farm f
   small : (f : Figures) (records : ℕ) → Bounded f records → records ≤ 4096 → x .farm f < bytesHold 8
 
 ch4-placed : Placed ch4 6
@@ -180,7 +181,7 @@ unfolding bytesHold
 ch4-placed =
     record {
       line = λ g t h. line-first 16 g _ _ _ _ _ 0 h;
-      total = λ f w h. total-first 0 0 _ _ _ _ _ w h;
+      total = λ f w h. total-first 0 0 _ _ _ _ _ _ h;
       small = λ f r b m. omega (arith, b .ch4, m);
     }
 
@@ -189,7 +190,7 @@ unfolding bytesHold
 n2o-placed =
     record {
       line = λ g t h. line-second 16 g _ _ _ _ _ 0 h;
-      total = λ f w h. total-second 0 0 _ _ _ _ _ w h;
+      total = λ f w h. total-second 0 0 _ _ _ _ _ _ h;
       small = λ f r b m. omega (arith, b .n2o, m);
     }
 
@@ -198,7 +199,7 @@ unfolding bytesHold
 excreted-placed =
     record {
       line = λ g t h. line-fourth 16 g _ _ _ _ _ 0 h;
-      total = λ f w h. total-fourth 0 0 _ _ _ _ _ w h;
+      total = λ f w h. total-fourth 0 0 _ _ _ _ _ _ h;
       small = λ f r b m. omega (arith, b .excreted, m);
     }
 
@@ -207,7 +208,7 @@ unfolding bytesHold
 land-placed =
     record {
       line = λ g t h. line-fifth 16 g _ _ _ _ _ 0 h;
-      total = λ f w h. total-fifth 0 0 _ _ _ _ _ w h;
+      total = λ f w h. total-fifth 0 0 _ _ _ _ _ _ h;
       small = λ f r b m. omega (arith, b .land, m);
     }
 
