@@ -1,75 +1,162 @@
--- Two answers that meet a public function's contract are equal. Assumes nothing.
-use mathlib.Core.Path.{_≡_, sym, _∙_}
-use Prim.Native.Nat.{ℕ, _+_}
+-- One answer: two answers that meet the contract of a public function are equal. The figures ask their ranges of their caller, who is the book
+-- reader; what asks nothing says so first. The contracts are those of the source itself: Learnt is what a caller learns from a function's
+-- `ensures`, Asked what its `requires` ask.
+-- Assumes nothing.
+use Prim.Native.Nat.{ℕ}
 use mathlib.Core.Bool.{Bool}
-use Rattle.grams.specs.Round.{roundDiv}
-use Rattle.grams.specs.Units.{gramsCo2, plusCo2, co2Within, co2Word, gramsN2o, partsN2oN, asN2o}
-use Rattle.grams.specs.Cattle.{Enteric, Nitrogen}
-use Rattle.grams.specs.Pig.{Manure}
-use Rattle.grams.specs.Farm.{Energy, Soil, co2eOf}
+use mathlib.Core.Path.{_≡_, sym, _∙_}
+use contract.Lifetimes.{Lfts}
+use borrow.Fn.Kinds.{Dens, endedOf}
+use denote.Triple.Clauses.{AtExit}
+use Rattle.grams.specs.declared.cattle.CattleNitrogen.{CattleNitrogen}
+use Rattle.grams.specs.declared.pig.PigManure.{PigManure}
 use Rattle.grams.specs.declared.units.Co2.{Co2}
 use Rattle.grams.specs.declared.units.N2o.{N2o}
 use Rattle.grams.specs.declared.units.N2oN.{N2oN}
-use Rattle.grams.specs.declared.cattle.CattleRation.{CattleRation}
-use Rattle.grams.specs.declared.cattle.CattleNitrogen.{CattleNitrogen}
-use Rattle.grams.specs.declared.pig.PigRation.{PigRation}
-use Rattle.grams.specs.declared.pig.PigManure.{PigManure}
-use Rattle.grams.specs.declared.farm.Warming.{Warming}
+use Rattle.grams.proofs.cattle.enteric.Kinds as methane
+use Rattle.grams.proofs.cattle.enteric.Reads as methane-contract
+use Rattle.grams.proofs.cattle.nitrogen.Kinds as nitrogen
+use Rattle.grams.proofs.cattle.nitrogen.Reads as nitrogen-contract
+use Rattle.grams.proofs.farm.co2e.Kinds as warmed
+use Rattle.grams.proofs.farm.co2e.Reads as warmed-contract
+use Rattle.grams.proofs.farm.energy.Kinds as fuel
+use Rattle.grams.proofs.farm.energy.Reads as fuel-contract
+use Rattle.grams.proofs.farm.soil.Kinds as ground
+use Rattle.grams.proofs.farm.soil.Reads as ground-contract
+use Rattle.grams.proofs.pig.manure.Kinds as pig
+use Rattle.grams.proofs.pig.manure.Reads as pig-contract
+use Rattle.grams.proofs.rounding.round_div.Kinds as division
+use Rattle.grams.proofs.rounding.round_div.Reads as division-contract
+use Rattle.grams.proofs.units.Co2.of.Kinds as air
+use Rattle.grams.proofs.units.Co2.of.Reads as air-contract
+use Rattle.grams.proofs.units.Co2.plus.Kinds as air-sum
+use Rattle.grams.proofs.units.Co2.plus.Reads as air-sum-contract
+use Rattle.grams.proofs.units.Co2.same.Kinds as moved-air
+use Rattle.grams.proofs.units.Co2.same.Reads as moved-air-contract
+use Rattle.grams.proofs.units.Co2.within.Kinds as air-bound
+use Rattle.grams.proofs.units.Co2.within.Reads as air-bound-contract
+use Rattle.grams.proofs.units.Co2.word.Kinds as laid-air
+use Rattle.grams.proofs.units.Co2.word.Reads as laid-air-contract
+use Rattle.grams.proofs.units.N2o.grams.Kinds as weight
+use Rattle.grams.proofs.units.N2o.grams.Reads as weight-contract
+use Rattle.grams.proofs.units.N2o.of.Kinds as laughing
+use Rattle.grams.proofs.units.N2o.of.Reads as laughing-contract
+use Rattle.grams.proofs.units.N2o.plus.Kinds as sum
+use Rattle.grams.proofs.units.N2o.plus.Reads as sum-contract
+use Rattle.grams.proofs.units.N2o.same.Kinds as moved
+use Rattle.grams.proofs.units.N2o.same.Reads as moved-contract
+use Rattle.grams.proofs.units.N2oN.of.Kinds as parts
+use Rattle.grams.proofs.units.N2oN.of.Reads as parts-contract
+use Rattle.grams.proofs.units.N2oN.to_n2o.Kinds as gas
+use Rattle.grams.proofs.units.N2oN.to_n2o.Reads as gas-contract
 
--- what all of them come down to
-same : {A : Type 0} {a r s : A} → r ≡ a → s ≡ a → r ≡ s
-same p q = p ∙ sym q
+pub co2-of-asks-nothing : (κs : Lfts 0) (args : Dens κs air.ps) → air-contract.Asked κs args
+co2-of-asks-nothing κs args = tt
 
-pub round-div-one : (n d r s : ℕ) → r ≡ roundDiv n d → s ≡ roundDiv n d → r ≡ s
-round-div-one n d r s p q = same p q
+pub co2-same-asks-nothing : (κs : Lfts 0) (args : Dens κs moved-air.ps) → moved-air-contract.Asked κs args
+co2-same-asks-nothing κs args = tt
 
-pub co2-of-one : (grams : ℕ) (r s : Co2) → r ≡ gramsCo2 grams → s ≡ gramsCo2 grams → r ≡ s
-co2-of-one grams r s p q = same p q
+pub co2-word-asks-nothing : (κs : Lfts 0) (args : Dens κs laid-air.ps) → laid-air-contract.Asked κs args
+co2-word-asks-nothing κs args = tt
 
-pub co2-plus-one : (a b r s : Co2) → r ≡ plusCo2 a b → s ≡ plusCo2 a b → r ≡ s
-co2-plus-one a b r s p q = same p q
+pub n2o-of-asks-nothing : (κs : Lfts 0) (args : Dens κs laughing.ps) → laughing-contract.Asked κs args
+n2o-of-asks-nothing κs args = tt
 
-pub co2-within-one : (records : ℕ) (c : Co2) (r s : Bool) → r ≡ co2Within records c → s ≡ co2Within records c → r ≡ s
-co2-within-one records c r s p q = same p q
+pub n2o-same-asks-nothing : (κs : Lfts 0) (args : Dens κs moved.ps) → moved-contract.Asked κs args
+n2o-same-asks-nothing κs args = tt
 
-pub co2-same-one : (c r s : Co2) → r ≡ c → s ≡ c → r ≡ s
-co2-same-one c r s p q = same p q
+pub n2o-grams-asks-nothing : (κs : Lfts 0) (args : Dens κs weight.ps) → weight-contract.Asked κs args
+n2o-grams-asks-nothing κs args = tt
 
-pub co2-word-one : (c : Co2) (r s : ℕ) → r ≡ co2Word c → s ≡ co2Word c → r ≡ s
-co2-word-one c r s p q = same p q
+pub n2o-n-of-asks-nothing : (κs : Lfts 0) (args : Dens κs parts.ps) → parts-contract.Asked κs args
+n2o-n-of-asks-nothing κs args = tt
 
-pub n2o-of-one : (grams : ℕ) (r s : N2o) → r ≡ gramsN2o grams → s ≡ gramsN2o grams → r ≡ s
-n2o-of-one grams r s p q = same p q
+-- Grams as CO2.
+pub one-co2-of : (κs : Lfts 0) (args : Dens κs air.ps) (f g : Co2) (e e′ : AtExit (endedOf 0 air.ps air.r) κs)
+    → air-contract.Learnt κs args f e → air-contract.Learnt κs args g e′ → f ≡ g
+one-co2-of κs args f g e e′ p q = p ∙ sym q
 
-pub n2o-same-one : (n r s : N2o) → r ≡ n → s ≡ n → r ≡ s
-n2o-same-one n r s p q = same p q
+-- CO2 moved.
+pub one-co2-same : (κs : Lfts 0) (args : Dens κs moved-air.ps) (f g : Co2) (e e′ : AtExit (endedOf 0 moved-air.ps moved-air.r) κs)
+    → moved-air-contract.Learnt κs args f e → moved-air-contract.Learnt κs args g e′ → f ≡ g
+one-co2-same κs args f g e e′ p q = p ∙ sym q
 
-pub n2o-grams-one : (n : N2o) (r s : ℕ) → r ≡ n .0 → s ≡ n .0 → r ≡ s
-n2o-grams-one n r s p q = same p q
+-- CO2 as it is laid into 8 bytes.
+pub one-co2-word : (κs : Lfts 0) (args : Dens κs laid-air.ps) (f g : ℕ) (e e′ : AtExit (endedOf 0 laid-air.ps laid-air.r) κs)
+    → laid-air-contract.Learnt κs args f e → laid-air-contract.Learnt κs args g e′ → f ≡ g
+one-co2-word κs args f g e e′ p q = p ∙ sym q
 
-pub plus-one : (a b r s : N2o) → r ≡ gramsN2o (a .0 + b .0) → s ≡ gramsN2o (a .0 + b .0) → r ≡ s
-plus-one a b r s p q = same p q
+-- CO2 added.
+pub one-co2-plus : (κs : Lfts 0) (args : Dens κs air-sum.ps) (f g : Co2) (e e′ : AtExit (endedOf 0 air-sum.ps air-sum.r) κs)
+    → air-sum-contract.Learnt κs args f e → air-sum-contract.Learnt κs args g e′ → f ≡ g
+one-co2-plus κs args f g e e′ p q = p ∙ sym q
 
-pub of-one : (parts : ℕ) (r s : N2oN) → r ≡ partsN2oN parts → s ≡ partsN2oN parts → r ≡ s
-of-one parts r s p q = same p q
+-- Whether so many records reach it.
+pub one-co2-within : (κs : Lfts 0) (args : Dens κs air-bound.ps) (f g : Bool) (e e′ : AtExit (endedOf 0 air-bound.ps air-bound.r) κs)
+    → air-bound-contract.Learnt κs args f e → air-bound-contract.Learnt κs args g e′ → f ≡ g
+one-co2-within κs args f g e e′ p q = p ∙ sym q
 
-pub to-n2o-one : (n : N2oN) (r s : N2o) → r ≡ asN2o n → s ≡ asN2o n → r ≡ s
-to-n2o-one n r s p q = same p q
+-- Grams as N2O.
+pub one-n2o-of : (κs : Lfts 0) (args : Dens κs laughing.ps) (f g : N2o) (e e′ : AtExit (endedOf 0 laughing.ps laughing.r) κs)
+    → laughing-contract.Learnt κs args f e → laughing-contract.Learnt κs args g e′ → f ≡ g
+one-n2o-of κs args f g e e′ p q = p ∙ sym q
 
-pub enteric-one : (ge ym head days r s : ℕ) → Enteric ge ym head days r → Enteric ge ym head days s → r ≡ s
-enteric-one ge ym head days r s p q = same (p .exact) (q .exact)
+-- N2O moved.
+pub one-n2o-same : (κs : Lfts 0) (args : Dens κs moved.ps) (f g : N2o) (e e′ : AtExit (endedOf 0 moved.ps moved.r) κs)
+    → moved-contract.Learnt κs args f e → moved-contract.Learnt κs args g e′ → f ≡ g
+one-n2o-same κs args f g e e′ p q = p ∙ sym q
 
-pub nitrogen-one : (r : CattleRation) (head : ℕ) (a b : CattleNitrogen) → Nitrogen r head a → Nitrogen r head b → a ≡ b
-nitrogen-one r head a b p q = same (p .exact) (q .exact)
+-- The grams of N2O.
+pub one-n2o-grams : (κs : Lfts 0) (args : Dens κs weight.ps) (f g : ℕ) (e e′ : AtExit (endedOf 0 weight.ps weight.r) κs)
+    → weight-contract.Learnt κs args f e → weight-contract.Learnt κs args g e′ → f ≡ g
+one-n2o-grams κs args f g e e′ p q = p ∙ sym q
 
-pub manure-one : (p : PigRation) (head : ℕ) (r s : PigManure) → Manure p head r → Manure p head s → r ≡ s
-manure-one p head r s a b = same (a .exact) (b .exact)
+-- N2O added.
+pub one-n2o-plus : (κs : Lfts 0) (args : Dens κs sum.ps) (f g : N2o) (e e′ : AtExit (endedOf 0 sum.ps sum.r) κs)
+    → sum-contract.Learnt κs args f e → sum-contract.Learnt κs args g e′ → f ≡ g
+one-n2o-plus κs args f g e e′ p q = p ∙ sym q
 
-pub energy-one : (amount factor : ℕ) (r s : Co2) → Energy amount factor r → Energy amount factor s → r ≡ s
-energy-one amount factor r s p q = same (p .exact) (q .exact)
+-- N2O-N from its parts.
+pub one-n2o-n-of : (κs : Lfts 0) (args : Dens κs parts.ps) (f g : N2oN) (e e′ : AtExit (endedOf 0 parts.ps parts.r) κs)
+    → parts-contract.Learnt κs args f e → parts-contract.Learnt κs args g e′ → f ≡ g
+one-n2o-n-of κs args f g e e′ p q = p ∙ sym q
 
-pub soil-one : (area : ℕ) (r s : Co2) → Soil area r → Soil area s → r ≡ s
-soil-one area r s p q = same (p .exact) (q .exact)
+-- N2O-N as N2O.
+pub one-to-n2o : (κs : Lfts 0) (args : Dens κs gas.ps) (f g : N2o) (e e′ : AtExit (endedOf 0 gas.ps gas.r) κs)
+    → gas-contract.Learnt κs args f e → gas-contract.Learnt κs args g e′ → f ≡ g
+one-to-n2o κs args f g e e′ p q = p ∙ sym q
 
-pub co2e-one : (w : Warming) (co2 : Co2) (ch4 : ℕ) (n2o : N2o) (r s : Co2) → r ≡ co2eOf w co2 ch4 n2o → s ≡ co2eOf w co2 ch4 n2o → r ≡ s
-co2e-one w co2 ch4 n2o r s p q = same p q
+-- round(n/d).
+pub one-round-div : (κs : Lfts 0) (args : Dens κs division.ps) (f g : ℕ) (e e′ : AtExit (endedOf 0 division.ps division.r) κs)
+    → division-contract.Learnt κs args f e → division-contract.Learnt κs args g e′ → f ≡ g
+one-round-div κs args f g e e′ p q = p ∙ sym q
+
+-- Enteric CH4.
+pub one-enteric : (κs : Lfts 0) (args : Dens κs methane.ps) (f g : ℕ) (e e′ : AtExit (endedOf 0 methane.ps methane.r) κs)
+    → methane-contract.Learnt κs args f e → methane-contract.Learnt κs args g e′ → f ≡ g
+one-enteric κs args f g e e′ p q = p .exact ∙ sym (q .exact)
+
+-- Cattle nitrogen: X below zero, or excreted N and N2O.
+pub one-nitrogen : (κs : Lfts 0) (args : Dens κs nitrogen.ps) (f g : CattleNitrogen) (e e′ : AtExit (endedOf 0 nitrogen.ps nitrogen.r) κs)
+    → nitrogen-contract.Learnt κs args f e → nitrogen-contract.Learnt κs args g e′ → f ≡ g
+one-nitrogen κs args f g e e′ p q = p .exact ∙ sym (q .exact)
+
+-- Pig manure: CH4, N2O, excreted and land N.
+pub one-manure : (κs : Lfts 0) (args : Dens κs pig.ps) (f g : PigManure) (e e′ : AtExit (endedOf 0 pig.ps pig.r) κs)
+    → pig-contract.Learnt κs args f e → pig-contract.Learnt κs args g e′ → f ≡ g
+one-manure κs args f g e e′ p q = p .exact ∙ sym (q .exact)
+
+-- Energy CO2.
+pub one-energy : (κs : Lfts 0) (args : Dens κs fuel.ps) (f g : Co2) (e e′ : AtExit (endedOf 0 fuel.ps fuel.r) κs)
+    → fuel-contract.Learnt κs args f e → fuel-contract.Learnt κs args g e′ → f ≡ g
+one-energy κs args f g e e′ p q = p .exact ∙ sym (q .exact)
+
+-- Organic soil CO2.
+pub one-soil : (κs : Lfts 0) (args : Dens κs ground.ps) (f g : Co2) (e e′ : AtExit (endedOf 0 ground.ps ground.r) κs)
+    → ground-contract.Learnt κs args f e → ground-contract.Learnt κs args g e′ → f ≡ g
+one-soil κs args f g e e′ p q = p .exact ∙ sym (q .exact)
+
+-- CO2e.
+pub one-co2e : (κs : Lfts 0) (args : Dens κs warmed.ps) (f g : Co2) (e e′ : AtExit (endedOf 0 warmed.ps warmed.r) κs)
+    → warmed-contract.Learnt κs args f e → warmed-contract.Learnt κs args g e′ → f ≡ g
+one-co2e κs args f g e e′ p q = p ∙ sym q

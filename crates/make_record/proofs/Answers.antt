@@ -21,12 +21,12 @@ use Rattle.account.specs.Judge.{weigh}
 use Rattle.account.proofs.Keeps.{stage-most}
 use Rattle.account.proofs.Refusals.{passed, weighed-passes}
 use Rattle.book.specs.declared.State.{State}
-use Rattle.book.specs.State.{InRange, inRange, holding}
+use Rattle.book.specs.State.{inRange, holding}
 use Rattle.book.proofs.RangeLaws.{range-parts, range-test}
 use Rattle.make_record.specs.declared.Answer.{Answer}
 use Rattle.make_record.specs.declared.Answer.the-variants.{Wrote, Refused}
 use Rattle.make_record.specs.declared.Written.{Written}
-use Rattle.make_record.specs.Write.{Write, refusalBy, next, refusals, answerOf, refusing, writing, byAnswer, write, writtenOf, laid}
+use Rattle.make_record.specs.Write.{Write, refusalBy, next, refusals, answerOf, refusing, writing, byAnswer, write, writtenOf, laid, Ready}
 
 -- ---- values that the reader would not refuse
 
@@ -34,12 +34,6 @@ pub in-ranges : (a : Account) (k : ℕ) (v : List ℕ) → (weigh a k v .account
 in-ranges a k v h = passed a k v (weighed-passes a k v h) .ranges
 
 -- ---- a state that can be written to
-
--- in range, open, and holding no bytes
-pub record Ready (s : State) : Type 0 where
-  pub range : InRange s
-  pub early : s .account .stage < 2
-  pub none : s .count ≡ 0
 
 pub ready : (s : State) → inRange s ≡ true → (s .account .stage ≡ 3 → ⊥) → eqb (s .account .stage) 2 || not (eqb (s .count) 0) ≡ false → Ready s
 ready s r h b =

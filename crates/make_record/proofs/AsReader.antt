@@ -15,7 +15,6 @@ use Rattle.base.proofs.Tests.{and-false, or-cases}
 use Rattle.codec.specs.Table.{fields, lengthOf, Of, lastKind, isKind}
 use Rattle.codec.specs.Codec.{valAt, recordBytes}
 use Rattle.codec.proofs.Rows.{Fit, fit-kind}
-use Rattle.account.specs.declared.Account.{Account}
 use Rattle.account.specs.declared.Refusal.{Refusal}
 use Rattle.account.specs.Judge.{first, judge, weigh}
 use Rattle.account.specs.Told.{Kind}
@@ -29,8 +28,8 @@ use Rattle.book.proofs.ReadingLaws.{reading-none}
 use Rattle.book.proofs.CallLaws.{done-ended}
 use Rattle.make_record.specs.declared.Answer.{Answer}
 use Rattle.make_record.specs.declared.Answer.the-variants.{Wrote, Refused}
-use Rattle.make_record.specs.Write.{numbers, next, refusals, answerOf, byAnswer, write}
-use Rattle.make_record.proofs.Answers.{Ready, written-so, by-13, by-own, by-3, by-4, by-reader, wrote}
+use Rattle.make_record.specs.Write.{numbers, next, refusals, answerOf, byAnswer, write, Ready, saying}
+use Rattle.make_record.proofs.Answers.{written-so, by-13, by-own, by-3, by-4, by-reader, wrote}
 use Rattle.make_record.proofs.ReaderLaws.{run-one, call-one, is-kind, judge-is}
 
 -- ---- a record that is written
@@ -62,10 +61,6 @@ refusal-keeps s k v room r e = go (answerOf (refusals s k v room)) e
     go : (a : Answer) → byAnswer a s k v .answer ≡ Refused r → (byAnswer a s k v .state ≡ s) × (byAnswer a s k v .bytes ≡ [])
     go Wrote e = let z : _≡_ {A = ℕ} 0 1 = cc in absurd (omega arith)
     go (Refused q) e = (refl, refl)
-
--- what the reader says by the account that it reaches
-abbrev pub saying : Account → Answer
-saying a = pick (eqb (a .stage) 3) (Refused (a .refusal)) Wrote
 
 module _ (s : State) (y : Ready s) (k : ℕ) (v : List ℕ) (room : ℕ) where
   -- Of values that fit their bytes, with room for the record, the writer refuses exactly those whose record the reader refuses, with the

@@ -32,7 +32,7 @@ use Rattle.book.proofs.FrontLaws.{is-whole}
 use Rattle.book.proofs.RecordLaws.{book-one}
 use Rattle.book.proofs.Longest.{longest-top}
 use Rattle.book.proofs.CallLaws.{call-at}
-use Rattle.make_record.proofs.Answers.{Ready}
+use Rattle.make_record.specs.Write.{Ready}
 
 -- ---- one whole record, read by a state that holds no bytes
 

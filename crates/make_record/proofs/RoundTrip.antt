@@ -22,8 +22,8 @@ use Rattle.account.proofs.Told.{right-length}
 use Rattle.book.specs.declared.State.{State}
 use Rattle.book.specs.State.{holding}
 use Rattle.make_record.specs.declared.Answer.the-variants.{Wrote}
-use Rattle.make_record.specs.Write.{write}
-use Rattle.make_record.proofs.Answers.{Ready, written-so, wrote}
+use Rattle.make_record.specs.Write.{write, Ready}
+use Rattle.make_record.proofs.Answers.{written-so, wrote}
 use Rattle.make_record.proofs.ReaderLaws.{is-kind, values-read}
 
 -- What it writes is a record of version 1 and of the kind, and its fields are the values.

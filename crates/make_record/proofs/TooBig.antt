@@ -19,8 +19,8 @@ use Rattle.account.specs.declared.Account.{Account}
 use Rattle.account.specs.Judge.{first, inPlace, weigh, refused}
 use Rattle.book.specs.declared.State.{State}
 use Rattle.make_record.specs.declared.Answer.the-variants.{Refused}
-use Rattle.make_record.specs.Write.{next, write}
-use Rattle.make_record.proofs.Answers.{Ready, by-reader}
+use Rattle.make_record.specs.Write.{next, write, Ready}
+use Rattle.make_record.proofs.Answers.{by-reader}
 
 -- ---- the table, field by field: antt computes the test
 

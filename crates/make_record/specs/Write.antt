@@ -1,6 +1,7 @@
 -- Document 02, W1: "given a record's field values in order, and a state, it writes the record and hands back the reader's next state, or gives
 -- the number the reader would give, writes nothing and keeps the state".
-use Prim.Native.Nat.{ℕ, _+_}
+use Prim.Native.Nat.{ℕ, _+_, _<_}
+use mathlib.Core.Path.{_≡_}
 use mathlib.Core.List.{List, [], _∷_, _++_}
 use mathlib.Core.Bool.{Bool, _||_, not}
 use lib.ListN.{length, drop}
@@ -12,7 +13,7 @@ use Rattle.account.specs.declared.Account.{Account}
 use Rattle.account.specs.declared.Refusal.{Refusal}
 use Rattle.account.specs.Judge.{weigh}
 use Rattle.book.specs.declared.State.{State}
-use Rattle.book.specs.State.{holding, inRange}
+use Rattle.book.specs.State.{InRange, holding, inRange}
 use Rattle.make_record.specs.declared.Answer.{Answer}
 use Rattle.make_record.specs.declared.Answer.the-variants.{Wrote, Refused}
 use Rattle.make_record.specs.declared.Written.{Written}
@@ -83,3 +84,15 @@ writtenOf w = record { state = w .state; written = length (w .bytes); answer = w
 -- the buffer after it: the record goes at its start; its bytes past those written stay
 abbrev pub laid : Write → List ℕ → List ℕ
 laid w out = w .bytes ++ drop (length (w .bytes)) out
+
+-- ---- what the promises say it with
+
+-- a state that can be written to: in range, open, and holding no bytes
+pub record Ready (s : State) : Type 0 where
+  pub range : InRange s
+  pub early : s .account .stage < 2
+  pub none : s .count ≡ 0
+
+-- what the reader says by the account that it reaches
+abbrev pub saying : Account → Answer
+saying a = pick (eqb (a .stage) 3) (Refused (a .refusal)) Wrote

@@ -2,3 +2,4 @@ mod Examples
 mod Lines
 mod Shown
 pub mod Ranges
+pub mod OneAnswer

@@ -3,3 +3,4 @@ pub mod Examples
 pub mod Joined
 pub mod Puts
 pub mod Sayings
+pub mod OneAnswer

@@ -23,6 +23,12 @@ longest-least ok (suc k) i h e =
     (λ (p : suc k ≤ i). let z : i ≡ suc k = omega arith in no-bool (sym f ∙ (rw z at e)))
     (lt-or-ge i (suc k)))
 
+-- it is ok, where none at all is
+pub longest-ok : (ok : ℕ → Bool) (k : ℕ) → ok 0 ≡ true → ok (longest ok k) ≡ true
+unfolding longest
+longest-ok ok zero e = e
+longest-ok ok (suc k) e = of-choice (λ (n : ℕ). ok n ≡ true) (ok (suc k)) (λ f. f) (λ f. longest-ok ok k e)
+
 -- the next one above it is not ok
 pub longest-next : (ok : ℕ → Bool) (k : ℕ) → longest ok k < k → ok (longest ok k + 1) ≡ false
 unfolding longest

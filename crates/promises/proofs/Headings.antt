@@ -2,20 +2,19 @@
 -- complete none before it.
 -- Assumes nothing.
 use Prim.Native.Nat.{ℕ, zero, suc, _+_, _-_, _*_, _/_, _%_, _≤_, _<_}
-use mathlib.Core.Path.{_≡_, refl, sym, ap, _∙_}
-use mathlib.Core.List.{List, [], _∷_, _++_, map, append-assoc, append-nil}
-use mathlib.Core.Bool.{Bool, true, false, _&&_, _||_, not}
+use mathlib.Core.Path.{_≡_, refl, ap, _∙_}
+use mathlib.Core.List.{List, [], _∷_, _++_, map, append-assoc}
+use mathlib.Core.Bool.{Bool, true, false, _&&_}
 use mathlib.Core.Logic.{_⊎_, inl, inr, ⊎-elim}
 use native.Mathlib.Omega.{arith}
 use borrow.Author.Tests.{leb-true, eqb-true}
-use lib.ListN.{length, getD, take, drop, length-append, length-drop}
+use lib.ListN.{length, getD, take, drop, length-drop}
 use lib.Dec.{leb, eqb}
 use Rattle.base.specs.Choice.{pick}
 use Rattle.base.proofs.Tests.{and-r, lt-or-ge, not-false, of-choice}
-use Rattle.codec.specs.Table.{table, fields, lineFields, totalFields}
+use Rattle.codec.specs.Table.{table, lineFields, totalFields}
 use Rattle.codec.specs.Codec.{valAt, be, valuesAt, bytesOf, lineBytes, totalBytes}
 use Rattle.account.specs.declared.Account.{Account}
-use Rattle.account.specs.declared.Heading.{Heading}
 use Rattle.account.specs.Sorts.{heads, ofGroup, sortOf}
 use Rattle.account.specs.Line.{lineWith, subtotals, totalOf}
 use Rattle.account.specs.Figures.{groupFigures}
@@ -27,12 +26,12 @@ use Rattle.account.proofs.Keeps.{in-range-judge}
 use Rattle.book.specs.declared.State.{State}
 use Rattle.book.specs.Front.{Front, unfinished, badLength, whole, need, front}
 use Rattle.book.specs.WholeRecords.{recordsOf}
-use Rattle.book.specs.State.{heldOf, holding, InRange}
+use Rattle.book.specs.State.{heldOf, InRange}
 use Rattle.book.specs.Run.{Run, book, run}
 use Rattle.book.proofs.FrontLaws.{meaning}
 use Rattle.book.proofs.WholeRecordLaws.{records-whole}
 use Rattle.book.proofs.RunLaws.{book-ended, book-unfinished, book-bad, book-whole}
-use Rattle.promises.specs.Headings.{groupBy, lastGroup, Mark, markOf, subtotalMark, ownMark, marksOf}
+use Rattle.promises.specs.Headings.{acceptedRecords, groupBy, lastGroup, Mark, markOf, subtotalMark, ownMark, marksOf}
 
 -- ---- what a line bears
 
@@ -48,7 +47,7 @@ pub total-mark : (ch4 n2o co2 excreted land co2e : ℕ) → markOf (totalBytes c
 unfolding totalBytes totalFields bytesOf be valAt
 total-mark ch4 n2o co2 excreted land co2e = refl
 
-map-append : (xs ys : List (List ℕ)) → map markOf (xs ++ ys) ≡ map markOf xs ++ map markOf ys
+pub map-append : (xs ys : List (List ℕ)) → map markOf (xs ++ ys) ≡ map markOf xs ++ map markOf ys
 map-append [] ys = refl
 map-append (x ∷ xs) ys = ap (λ (l : List Mark). markOf x ∷ l) (map-append xs ys)
 
@@ -58,16 +57,16 @@ group-most a f = ⊎-elim (λ (h : Headed (a .heading) (a .days) (a .records)). 
 -- ---- what one record does
 
 -- it is accepted: one record more, its line bears what it should, and the group is that of the last heading
-record Grown (a : Account) (r : List ℕ) (j : Step) : Type 0 where
-  counted : j .account .records ≡ a .records + 1
-  marks : map markOf (j .lines) ≡ ownMark (a .heading .group) (kindOf r)
-  group : j .account .heading .group ≡ lastGroup (a .heading .group) (r ∷ [])
+pub record Grown (a : Account) (r : List ℕ) (j : Step) : Type 0 where
+  pub counted : j .account .records ≡ a .records + 1
+  pub marks : map markOf (j .lines) ≡ ownMark (a .heading .group) (kindOf r)
+  pub group : j .account .heading .group ≡ lastGroup (a .heading .group) (r ∷ [])
 
 -- or refused: no record more, and no line
-record Stopped (a : Account) (j : Step) : Type 0 where
-  stage : j .account .stage ≡ 3
-  counted : j .account .records ≡ a .records
-  none : j .lines ≡ []
+pub record Stopped (a : Account) (j : Step) : Type 0 where
+  pub stage : j .account .stage ≡ 3
+  pub counted : j .account .records ≡ a .records
+  pub none : j .lines ≡ []
 
 module _ (a : Account) (r : List ℕ) (f : AccountInRange a) (kinds : leb 1 (kindOf r) && leb (kindOf r) 8 ≡ true) where
   small-kind : kindOf r < 256
@@ -109,7 +108,7 @@ module _ (a : Account) (r : List ℕ) (f : AccountInRange a) (kinds : leb 1 (kin
 pub kind-in : (a : Account) (r : List ℕ) → first (refusals a r) ≡ 0 → leb 1 (kindOf r) && leb (kindOf r) 8 ≡ true
 kind-in a r e = not-false _ (not-refused a r e .kind)
 
-judged : (a : Account) (r : List ℕ) → AccountInRange a → Stopped a (judge a r) ⊎ Grown a r (judge a r)
+pub judged : (a : Account) (r : List ℕ) → AccountInRange a → Stopped a (judge a r) ⊎ Grown a r (judge a r)
 unfolding judge
 judged a r f =
     of-choice (λ (j : Step). Stopped a j ⊎ Grown a r j) (eqb (first (refusals a r)) 0)
@@ -119,9 +118,9 @@ judged a r f =
 -- ---- a run of records
 
 -- the lines of a run bear what those of the records accepted should
-record Marked (a : Account) (xs : List ℕ) (r : Run) : Type 0 where
-  grows : a .records ≤ r .state .account .records
-  marks : map markOf (r .lines) ≡ marksOf (a .heading .group) (take (r .state .account .records - a .records) (recordsOf xs))
+pub record Marked (a : Account) (xs : List ℕ) (r : Run) : Type 0 where
+  pub grows : a .records ≤ r .state .account .records
+  pub marks : map markOf (r .lines) ≡ marksOf (a .heading .group) (take (r .state .account .records - a .records) (recordsOf xs))
 
 -- nothing accepted, no line
 none-marked : (a : Account) (xs : List ℕ) (r : Run) → r .state .account .records ≡ a .records → r .lines ≡ [] → Marked a xs r
@@ -158,17 +157,13 @@ marked-at a xs v k ih whole e =
     (λ (g : Grown a (take (need xs) xs) j). one-marked a xs j (book (j .account) rest) e g (ih (j .account) rest short (in-range-judge a (take (need xs) xs) v k)))
     (judged a (take (need xs) xs) v))
 
-marked : (n : ℕ) (a : Account) (xs : List ℕ) → length xs < n → AccountInRange a → Marked a xs (book a xs)
+pub marked : (n : ℕ) (a : Account) (xs : List ℕ) → length xs < n → AccountInRange a → Marked a xs (book a xs)
 marked zero a xs h v = absurd (omega arith)
 marked (suc n) a xs h v =
     ⊎-elim
     (λ (k : a .stage < 2). marked-at a xs v k (λ t zs p w. marked n t zs (omega arith) w) (front xs) refl)
     (λ (k : 2 ≤ a .stage). rw (book-ended a xs k) (none-marked a xs _ refl refl))
     (lt-or-ge (a .stage) 2)
-
--- the records that a run from s over xs accepts, of those that held bytes and run make together
-abbrev pub acceptedRecords : State → List ℕ → List (List ℕ)
-acceptedRecords s xs = take (run s xs .state .account .records - s .account .records) (recordsOf (heldOf s ++ xs))
 
 -- Line by line: the lines of a run bear the kinds of the records accepted, and the groups of the last headings before them, beginning
 -- with the group of the state.

@@ -9,3 +9,7 @@ pub mod Headings
 pub mod Paper
 pub mod Taken
 pub mod Subtotals
+pub mod Limits
+pub mod Totals
+pub mod SoFar
+pub mod WholeLines

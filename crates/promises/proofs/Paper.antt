@@ -24,10 +24,9 @@ use Rattle.book.specs.WholeRecords.{recordsBy, recordsOf}
 use Rattle.book.specs.State.{noRecordYet, holding, inRange, InRange}
 use Rattle.book.specs.Run.{bookBy, book, run}
 use Rattle.book.specs.Call.{longest, answerOf, call}
-use Rattle.book.specs.Way.{Part, way, Ended}
-use Rattle.promises.specs.Headings.{lastGroup}
-use Rattle.promises.specs.Paper.{verdictOf, paper, sample, sampleLines}
-use Rattle.promises.proofs.Headings.{acceptedRecords}
+use Rattle.book.specs.Way.{way, Ended}
+use Rattle.promises.specs.Headings.{lastGroup, acceptedRecords}
+use Rattle.promises.specs.Paper.{verdictOf, paper, sample, sampleLines, fiveParts, everyKind, everyKindLines}
 use Rattle.book.proofs.RunLeaves.{run-leaves}
 use Rattle.promises.proofs.StaysInRange.{new-in-range}
 
@@ -49,6 +48,15 @@ pub sample-left : run noRecordYet sample .left ≡ []
 unfolding table size valAt valuesAt firstBad first inPlace accepted sortOf judge front bookBy book run
 sample-left = refl
 
+-- The book with every kind is accepted and closed, and gives, byte for byte, the lines that the second program writes.
+pub every-kind-lines : run noRecordYet everyKind .lines ≡ everyKindLines
+unfolding table size valAt be valuesAt firstBad bytesOf lineBytes totalBytes lineFields totalFields roundDiv cattle.entericOf cattle.belowZero cattle.manureOf pig.manureOf energyOf soilOf co2eOf figuresOf first inPlace accepted sortOf judge front bookBy book run
+every-kind-lines = refl
+
+pub every-kind-closed : verdictOf (run noRecordYet everyKind .state .account) ≡ 2 ∷ 9 ∷ 0 ∷ 0 ∷ 0 ∷ []
+unfolding table size valAt valuesAt firstBad roundDiv cattle.belowZero first inPlace accepted sortOf judge front bookBy book run
+every-kind-closed = refl
+
 -- ---- the premises are met
 
 -- A state in range that is open: the one before any record.
@@ -69,16 +77,7 @@ unfolding inRange accountInRange
 outside-state = refl
 
 -- A way that is at its end: the sample book in five parts, with buffers that are too small at first.
-abbrev pub parts : List Part
-parts =
-    record { offered = 25; room = 0 }
-    ∷ record { offered = 7; room = 45 }
-    ∷ record { offered = 30; room = 50 }
-    ∷ record { offered = 100; room = 92 }
-    ∷ record { offered = 100; room = 100 }
-    ∷ []
-
-pub ended-way : Ended (way noRecordYet sample parts)
+pub ended-way : Ended (way noRecordYet sample fiveParts)
 unfolding table size valAt be valuesAt firstBad bytesOf lineBytes totalBytes lineFields totalFields roundDiv cattle.entericOf energyOf co2eOf figuresOf accountInRange first inPlace accepted sortOf judge front bookBy book run inRange longest answerOf call way
 ended-way = inl refl
 

@@ -3,20 +3,18 @@
 -- Assumes nothing.
 use Prim.Native.Nat.{ℕ, zero, suc, _+_, _-_, _≤_, _<_}
 use mathlib.Core.Path.{_≡_, refl, sym, ap, _∙_}
-use mathlib.Core.List.{List, [], _∷_, _++_, map, append-assoc, append-nil}
-use mathlib.Core.Bool.{Bool, true, false, _&&_, _||_, not}
+use mathlib.Core.List.{List, [], _∷_, _++_, map, append-nil}
+use mathlib.Core.Bool.{Bool, true, false, _&&_}
 use mathlib.Core.Logic.{_⊎_, inl, inr, ⊎-elim}
 use native.Mathlib.Omega.{arith}
 use borrow.Author.Tests.{eqb-true, ne-eqb}
-use lib.ListN.{length, getD, take, drop, length-drop}
+use lib.ListN.{length, take, drop, length-drop}
 use lib.Dec.{leb, eqb}
 use Rattle.base.specs.Choice.{pick}
 use Rattle.base.proofs.Tests.{lt-or-ge, no-bool, of-choice, true-or-false}
 use Rattle.codec.proofs.EachKind.{kind-most}
-use Rattle.codec.specs.Table.{fields}
-use Rattle.codec.specs.Codec.{valAt, valuesAt, lineBytes}
+use Rattle.codec.specs.Codec.{valAt, lineBytes}
 use Rattle.account.specs.declared.Account.{Account}
-use Rattle.account.specs.declared.Heading.{Heading}
 use Rattle.grams.specs.declared.units.Co2.{Co2}
 use Rattle.account.specs.declared.Figures.{Figures}
 use Rattle.account.specs.declared.Subtotal.{Subtotal}
@@ -24,7 +22,7 @@ use Rattle.account.specs.Sorts.{Sort, opens, heads, ofGroup, ofFarm, closes, so
 use Rattle.account.specs.Figures.{noFigures, noSubtotal, added, grouped, groupFigures, co2Alone, figuresOf}
 use Rattle.account.specs.Line.{lineWith, subtotals, totalOf}
 use Rattle.account.specs.Range.{Ungrouped, AccountInRange}
-use Rattle.account.specs.Judge.{kindOf, valuesOf, noRecord, first, refusals, Step, accepted, judge}
+use Rattle.account.specs.Judge.{kindOf, valuesOf, first, refusals, Step, accepted, judge}
 use Rattle.account.proofs.Sorts.{by-sort, not-of-group}
 use Rattle.account.proofs.Keeps.{in-range-judge}
 use Rattle.book.specs.declared.State.{State}
@@ -36,9 +34,9 @@ use Rattle.book.proofs.FrontLaws.{meaning}
 use Rattle.book.proofs.WholeRecordLaws.{records-whole}
 use Rattle.promises.proofs.StaysInRange.{new-in-range}
 use Rattle.book.proofs.RunLaws.{book-ended, book-unfinished, book-bad, book-whole}
-use Rattle.promises.specs.Headings.{Mark, markOf}
-use Rattle.promises.specs.Subtotals.{detailOf, headingAfter, groupAfter, farmAfter, Group, groupUnder, ends, groupsOf, farmOf, addedUp, lineOfGroup, subtotalLines}
-use Rattle.promises.proofs.Headings.{line-mark, total-mark, group-most, kind-in, acceptedRecords}
+use Rattle.promises.specs.Headings.{Mark, acceptedRecords}
+use Rattle.promises.specs.Subtotals.{detailOf, headingAfter, groupAfter, farmAfter, Group, groupUnder, ends, groupsOf, farmOf, farm, groups, addedUp, lineOfGroup, subtotalLines}
+use Rattle.promises.proofs.Headings.{line-mark, total-mark, group-most, kind-in}
 
 -- ---- lines of kind 16
 
@@ -67,14 +65,14 @@ line-kind k g a b c d e p q = ap (λ (m : Mark). m .kind) (line-mark k g a b c d
 -- ---- what one record does
 
 -- one of the four figures that a group has too
-record Gas : Type 0 where
-  farm : Figures → ℕ
-  group : Subtotal → ℕ
-  adds : (f g : Figures) → farm (added f g) ≡ farm f + farm g
-  groups : (s : Subtotal) (f : Figures) → group (grouped s f) ≡ group s + farm f
-  none : group noSubtotal ≡ 0
-  air : (g : Co2) → farm (co2Alone g) ≡ 0
-  ungrouped : (s : Subtotal) → Ungrouped s → group s ≡ 0
+pub record Gas : Type 0 where
+  pub farm : Figures → ℕ
+  pub group : Subtotal → ℕ
+  pub adds : (f g : Figures) → farm (added f g) ≡ farm f + farm g
+  pub groups : (s : Subtotal) (f : Figures) → group (grouped s f) ≡ group s + farm f
+  pub none : group noSubtotal ≡ 0
+  pub air : (g : Co2) → farm (co2Alone g) ≡ 0
+  pub ungrouped : (s : Subtotal) → Ungrouped s → group s ≡ 0
 
 -- whether a record closes the book
 abbrev closing : List ℕ → Bool
@@ -164,10 +162,10 @@ module _ (a : Account) (r : List ℕ) (f : AccountInRange a) (kinds : leb 1 (kin
 -- ---- a run of records
 
 -- what the records accepted make, beginning with the account a
-record Summed (a : Account) (rs : List (List ℕ)) (r : Run) : Type 0 where
-  sums : r .state .account .sums ≡ farmOf (a .heading) (a .sums) rs
-  lines : subtotalLines (r .lines) ≡ map lineOfGroup (groupsOf (a .heading) (a .subtotal) rs)
-  closed : (x : Gas) → a .stage < 2 → r .state .account .stage ≡ 2
+pub record Summed (a : Account) (rs : List (List ℕ)) (r : Run) : Type 0 where
+  pub sums : r .state .account .sums ≡ farmOf (a .heading) (a .sums) rs
+  pub lines : subtotalLines (r .lines) ≡ map lineOfGroup (groupsOf (a .heading) (a .subtotal) rs)
+  pub closed : (x : Gas) → a .stage < 2 → r .state .account .stage ≡ 2
       → x .farm (r .state .account .sums) + x .group (a .subtotal) ≡ x .farm (a .sums) + addedUp (x .group) (groupsOf (a .heading) (a .subtotal) rs)
 
 record Grows (a : Account) (xs : List ℕ) (r : Run) : Type 0 where
@@ -327,7 +325,7 @@ summed (suc n) a xs h v =
     (λ (k : 2 ≤ a .stage). rw (book-ended a xs k) (none-summed a xs _ refl refl refl (λ h q. omega arith)))
     (lt-or-ge (a .stage) 2)
 
-from-state : (s : State) (xs : List ℕ) → InRange s → Summed (s .account) (acceptedRecords s xs) (run s xs)
+pub from-state : (s : State) (xs : List ℕ) → InRange s → Summed (s .account) (acceptedRecords s xs) (run s xs)
 unfolding run
 from-state s xs v = summed (suc (length (heldOf s ++ xs))) (s .account) (heldOf s ++ xs) (omega arith) (v .account) .summed
 
@@ -342,7 +340,7 @@ pub sums-of-farm : (s : State) (xs : List ℕ) → InRange s → run s xs .state
 sums-of-farm s xs v = from-state s xs v .sums
 
 -- the four figures that groups have
-abbrev ch4 : Gas
+abbrev pub ch4 : Gas
 ch4 =
     record {
       farm = λ (f : Figures). f .ch4;
@@ -354,7 +352,7 @@ ch4 =
       ungrouped = λ s u. u .ch4;
     }
 
-abbrev n2o : Gas
+abbrev pub n2o : Gas
 n2o =
     record {
       farm = λ (f : Figures). f .n2o .0;
@@ -366,7 +364,7 @@ n2o =
       ungrouped = λ s u. u .n2o;
     }
 
-abbrev excreted : Gas
+abbrev pub excreted : Gas
 excreted =
     record {
       farm = λ (f : Figures). f .excreted;
@@ -378,7 +376,7 @@ excreted =
       ungrouped = λ s u. u .excreted;
     }
 
-abbrev land : Gas
+abbrev pub land : Gas
 land =
     record {
       farm = λ (f : Figures). f .land;
@@ -389,13 +387,6 @@ land =
       air = λ g. refl;
       ungrouped = λ s u. u .land;
     }
-
--- the figures of a whole book, and the groups of its records
-abbrev farm : List ℕ → Figures
-farm xs = farmOf (noRecord .heading) (noRecord .sums) (acceptedRecords noRecordYet xs)
-
-abbrev groups : List ℕ → List Group
-groups xs = groupsOf (noRecord .heading) (noRecord .subtotal) (acceptedRecords noRecordYet xs)
 
 whole-book : (x : Gas) (xs : List ℕ) → run noRecordYet xs .state .account .stage ≡ 2 → x .farm (farm xs) + x .group noSubtotal ≡ x .farm noFigures + addedUp (x .group) (groups xs)
 whole-book x xs e = rw (sums-of-farm noRecordYet xs new-in-range) at (from-state noRecordYet xs new-in-range .closed x (omega arith) e)

@@ -40,7 +40,7 @@ module _ (s : State) (xs : List ℕ) (v : InRange s) (early : s .account .stage 
       let l : length (b .left) ≡ length (drop (need zs) zs) - i .at = rw (i .is, length-drop (i .at) (drop (need zs) zs)) in
       rw (book-whole (s .account) zs early e) (omega arith)
 
-  takes-one : length (run s xs .left) < length xs
+  pub takes-one : length (run s xs .left) < length xs
   takes-one = takes-at (front (heldOf s ++ xs)) refl
 
 -- ---- one byte gives at most 100 bytes of lines

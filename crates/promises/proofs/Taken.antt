@@ -1,10 +1,9 @@
 -- The count of bytes taken: a series of calls that is at its end has taken as many as rule 2 gives for the uncut run, so that two of them
 -- have taken equally many.
 -- Assumes nothing.
-use Prim.Native.Nat.{ℕ, _+_, _-_, _≤_}
+use Prim.Native.Nat.{ℕ, _-_, _≤_}
 use mathlib.Core.Path.{_≡_, refl, sym, ap, _∙_}
 use mathlib.Core.List.{List, [], _∷_}
-use mathlib.Core.Logic.{⊎-elim}
 use native.Mathlib.Omega.{arith}
 use lib.ListN.{length, take, drop, length-take, length-drop}
 use lib.Seq.{drop-drop}
@@ -20,18 +19,18 @@ use Rattle.promises.proofs.RuleThree.{rule-three}
 use Rattle.promises.proofs.StaysInRange.{stays-in-range}
 
 -- a call takes no more than it is offered
-taken-most : (s : State) (xs : List ℕ) (room : ℕ) → InRange s → call s xs room .taken ≤ length xs
+pub taken-most : (s : State) (xs : List ℕ) (room : ℕ) → InRange s → call s xs room .taken ≤ length xs
 taken-most s xs room v =
     let n = longest (fits s xs room) (length xs) in
     let m : n ≤ length xs = longest-most (fits s xs room) (length xs) in
     rw (call-at s xs room n (outcome (run s (take n xs))) v refl refl) (omega arith)
 
 -- what a series of calls leaves is what stands behind the bytes taken
-record Leaves (xs : List ℕ) (o : Outcome) (n : ℕ) : Type 0 where
-  most : n ≤ length xs
-  left : o .left ≡ drop n xs
+pub record Leaves (xs : List ℕ) (o : Outcome) (n : ℕ) : Type 0 where
+  pub most : n ≤ length xs
+  pub left : o .left ≡ drop n xs
 
-way-leaves : (ps : List Part) (s : State) (xs : List ℕ) → InRange s → Leaves xs (way s xs ps) (takenBy s xs ps)
+pub way-leaves : (ps : List Part) (s : State) (xs : List ℕ) → InRange s → Leaves xs (way s xs ps) (takenBy s xs ps)
 unfolding way takenBy
 way-leaves [] s xs v = record { most = omega arith; left = refl }
 way-leaves (p ∷ ps) s xs v =

@@ -1,13 +1,24 @@
 -- Document 01, rule 3: "Every ration and manure line bears the last group heading before it." Said over the records that the bytes make:
 -- there is no state, no call and no line buffer in it.
 -- Assumes nothing.
-use Prim.Native.Nat.{ℕ}
-use mathlib.Core.List.{List, [], _∷_, _++_}
+use Prim.Native.Nat.{ℕ, _-_}
+use mathlib.Core.Path.{_≡_}
+use mathlib.Core.List.{List, [], _∷_, _++_, map}
+use lib.ListN.{take}
 use lib.Dec.{eqb}
 use Rattle.base.specs.Choice.{pick}
 use Rattle.codec.specs.Codec.{valAt}
 use Rattle.account.specs.Sorts.{sortOf, bySort}
+use Rattle.account.specs.Line.{joined}
 use Rattle.account.specs.Judge.{kindOf}
+use Rattle.book.specs.declared.State.{State}
+use Rattle.book.specs.WholeRecords.{recordsOf}
+use Rattle.book.specs.State.{heldOf}
+use Rattle.book.specs.Run.{run}
+
+-- the records that a run from s over xs accepts, of those that held bytes and run make together
+abbrev pub acceptedRecords : State → List ℕ → List (List ℕ)
+acceptedRecords s xs = take (run s xs .state .account .records - s .account .records) (recordsOf (heldOf s ++ xs))
 
 -- the group after the record r, g being the one before it: a heading brings its own
 abbrev pub groupBy : ℕ → List ℕ → ℕ
@@ -44,3 +55,9 @@ ownMark g k =
 unfoldable pub marksOf : ℕ → List (List ℕ) → List Mark
 marksOf g [] = []
 marksOf g (r ∷ rs) = ownMark g (kindOf r) ++ marksOf (lastGroup g (r ∷ [])) rs
+
+-- some bytes are lines one after the other, which bear these marks
+pub record Bears (marks : List Mark) (bytes : List ℕ) : Type 0 where
+  pub lines : List (List ℕ)
+  pub are : bytes ≡ joined lines
+  pub bear : map markOf lines ≡ marks

@@ -1,12 +1,19 @@
--- Document 01, "Figures to meet": the cases P1 to P12 as one table, and the sample book.
+-- Document 01, "Figures to meet": the cases P1 to P12 as one table, with P6 (as document 02, W3, changes it) and P7 in their parts; the sample
+-- book, and a book with every kind.
 -- Assumes nothing.
-use Prim.Native.Nat.{ℕ}
+use Prim.Native.Nat.{ℕ, _-_}
 use mathlib.Core.List.{List, [], _∷_, _++_}
 use Rattle.codec.specs.Codec.{recordBytes, lineBytes, totalBytes}
+use Rattle.grams.specs.Cattle as cattle
+use Rattle.grams.specs.Pig as pig
+use Rattle.grams.specs.declared.cattle.CattleRation.{CattleRation}
+use Rattle.grams.specs.declared.pig.PigRation.{PigRation}
 use Rattle.grams.specs.Cases.{Row, row, cases}
+use Rattle.account.specs.Figures.{cattleRation, pigRation}
 use Rattle.account.specs.declared.Account.{Account}
 use Rattle.book.specs.State.{noRecordYet}
 use Rattle.book.specs.Run.{run}
+use Rattle.book.specs.Way.{Part}
 
 -- what a book has come to: stage, records accepted, and the refusal's code, record number and field
 abbrev pub verdictOf : Account → List ℕ
@@ -27,10 +34,30 @@ enteric days = recordBytes 3 (days ∷ 30000 ∷ 650 ∷ [])
 abbrev pub shares : ℕ → List ℕ
 shares liquid = recordBytes 4 (365 ∷ 2000 ∷ 1600 ∷ 3000 ∷ 320 ∷ 0 ∷ 2000 ∷ liquid ∷ 0 ∷ [])
 
+-- P6's record and P7's, by their values
+abbrev pub p6 : CattleRation
+p6 = cattleRation (365 ∷ 2000 ∷ 1600 ∷ 3000 ∷ 320 ∷ 0 ∷ 2000 ∷ 8000 ∷ 0 ∷ [])
+
+abbrev pub p7 : PigRation
+p7 = pigRation (100 ∷ 200 ∷ 1000 ∷ 1000 ∷ 200 ∷ 1800 ∷ 1000 ∷ 200 ∷ 250 ∷ 1000 ∷ 0 ∷ 0 ∷ [])
+
+-- P6 with 10 head and P7 with 100, in parts. P6: X, excreted, direct and indirect N2O; P7: V, CH4, N, direct and indirect N2O, land
+abbrev pub parts : List Row
+parts =
+    row ((cattle.fedOf p6 - cattle.keptOf p6) ∷ []) (361280000 ∷ [])
+    ∷ row (cattle.excretedOf 361280000 10 365 ∷ []) (1318672 ∷ [])
+    ∷ row (cattle.directOf 1318672 2000 8000 .0 ∷ cattle.indirectOf 1318672 2000 8000 .0 ∷ []) (16370 ∷ 12392 ∷ [])
+    ∷ row (pig.recordSolids p7 ∷ pig.ch4Of 200000 200 100 100 ∷ []) (200000 ∷ 128640 ∷ [])
+    ∷ row (pig.recordNitrogen p7 100 ∷ []) (403200 ∷ [])
+    ∷ row (pig.directOf 403200 200 .0 ∷ pig.indirectOf 403200 250 1000 0 0 .0 ∷ []) (1267 ∷ 1584 ∷ [])
+    ∷ row (pig.landOf 403200 250 0 ∷ []) (302400 ∷ [])
+    ∷ []
+
 -- P1 to P9, then P10: days 366 passes, 0 is refusal 7 field 1; P11: shares 10000 pass, 9999 is 10; P12: length 3 and 27 are 1
 abbrev pub paper : List Row
 paper =
     cases
+    ++ parts
     ++ row (verdict (opening ++ enteric 366)) (1 ∷ 3 ∷ 0 ∷ 0 ∷ 0 ∷ [])
     ∷ row (verdict (opening ++ enteric 0)) (3 ∷ 2 ∷ 7 ∷ 2 ∷ 1 ∷ [])
     ∷ row (verdict (opening ++ shares 8000)) (1 ∷ 3 ∷ 0 ∷ 0 ∷ 0 ∷ [])
@@ -57,4 +84,66 @@ sampleLines =
     ∷ lineBytes 3 12 392453 0 0 0 0
     ∷ lineBytes 16 12 826954 0 0 0 0
     ∷ totalBytes 826954 0 875000 0 0 18241034
+    ∷ []
+
+-- the sample book in five parts, with buffers that are too small at first
+abbrev pub fiveParts : List Part
+fiveParts =
+    record { offered = 25; room = 0 }
+    ∷ record { offered = 7; room = 45 }
+    ∷ record { offered = 30; room = 50 }
+    ∷ record { offered = 100; room = 92 }
+    ∷ record { offered = 100; room = 100 }
+    ∷ []
+
+-- a book with every kind, in set 2, with two groups: no figure is zero where the rules give one. Its bytes, record by record
+abbrev pub everyKind : List ℕ
+everyKind =
+    -- farm 258, year 2024, warming set 2
+    (0 ∷ 9 ∷ 1 ∷ 1 ∷ 0 ∷ 0 ∷ 1 ∷ 2 ∷ 7 ∷ 232 ∷ 2 ∷ [])
+    -- group 258, milking, 41 head
+    ++ (0 ∷ 7 ∷ 1 ∷ 2 ∷ 1 ∷ 2 ∷ 1 ∷ 0 ∷ 41 ∷ [])
+    -- enteric: 211, 31417, 653
+    ++ (0 ∷ 10 ∷ 1 ∷ 3 ∷ 0 ∷ 211 ∷ 0 ∷ 0 ∷ 122 ∷ 185 ∷ 2 ∷ 141 ∷ [])
+    -- energy: 3, 4321, 2709
+    ++ (0 ∷ 11 ∷ 1 ∷ 6 ∷ 3 ∷ 0 ∷ 0 ∷ 16 ∷ 225 ∷ 0 ∷ 0 ∷ 10 ∷ 149 ∷ [])
+    -- cattle nitrogen: 97, 2113, 1621, 2909, 331, 17, 2300, 6100, 1600
+    ++ (0 ∷ 20 ∷ 1 ∷ 4 ∷ 0 ∷ 97 ∷ 8 ∷ 65 ∷ 6 ∷ 85 ∷ 11 ∷ 93 ∷ 1 ∷ 75 ∷ 0 ∷ 17 ∷ 8 ∷ 252 ∷ 23 ∷ 212 ∷ 6 ∷ 64 ∷ [])
+    -- group 515, pig, 307 head
+    ++ (0 ∷ 7 ∷ 1 ∷ 2 ∷ 2 ∷ 3 ∷ 4 ∷ 1 ∷ 51 ∷ [])
+    -- pig: 103, 219, 1013, 1103, 211, 1811, 907, 223, 251, 1009, 127, 769
+    ++ (0 ∷ 26 ∷ 1 ∷ 5 ∷ 0 ∷ 103 ∷ 0 ∷ 219 ∷ 3 ∷ 245 ∷ 4 ∷ 79 ∷ 0 ∷ 211 ∷ 7 ∷ 19 ∷ 3 ∷ 139 ∷ 0 ∷ 223 ∷ 0 ∷ 251 ∷ 3 ∷ 241 ∷ 0 ∷ 127 ∷ 3 ∷ 1 ∷ [])
+    -- organic soil: 1234
+    ++ (0 ∷ 6 ∷ 1 ∷ 7 ∷ 0 ∷ 0 ∷ 4 ∷ 210 ∷ [])
+    -- close
+    ++ (0 ∷ 4 ∷ 1 ∷ 8 ∷ 0 ∷ 8 ∷ [])
+
+-- its lines, as the second program writes them: length, version, kind and group, then the figures in 8 bytes each
+abbrev pub everyKindLines : List (List ℕ)
+everyKindLines =
+    -- 3, group 258: 3189180, 0, 0, 0, 0
+    ((0 ∷ 44 ∷ 1 ∷ 3 ∷ 1 ∷ 2 ∷ []) ++ (0 ∷ 0 ∷ 0 ∷ 0 ∷ 0 ∷ 48 ∷ 169 ∷ 188 ∷ []) ++ (0 ∷ 0 ∷ 0 ∷ 0 ∷ 0 ∷ 0 ∷ 0 ∷ 0 ∷ [])
+    ++ (0 ∷ 0 ∷ 0 ∷ 0 ∷ 0 ∷ 0 ∷ 0 ∷ 0 ∷ []) ++ (0 ∷ 0 ∷ 0 ∷ 0 ∷ 0 ∷ 0 ∷ 0 ∷ 0 ∷ []) ++ (0 ∷ 0 ∷ 0 ∷ 0 ∷ 0 ∷ 0 ∷ 0 ∷ 0 ∷ []))
+    -- 6, group 0: 0, 0, 1170559, 0, 0
+    ∷ ((0 ∷ 44 ∷ 1 ∷ 6 ∷ 0 ∷ 0 ∷ []) ++ (0 ∷ 0 ∷ 0 ∷ 0 ∷ 0 ∷ 0 ∷ 0 ∷ 0 ∷ []) ++ (0 ∷ 0 ∷ 0 ∷ 0 ∷ 0 ∷ 0 ∷ 0 ∷ 0 ∷ [])
+    ++ (0 ∷ 0 ∷ 0 ∷ 0 ∷ 0 ∷ 17 ∷ 220 ∷ 127 ∷ []) ++ (0 ∷ 0 ∷ 0 ∷ 0 ∷ 0 ∷ 0 ∷ 0 ∷ 0 ∷ []) ++ (0 ∷ 0 ∷ 0 ∷ 0 ∷ 0 ∷ 0 ∷ 0 ∷ 0 ∷ []))
+    -- 4, group 258: 0, 28637, 0, 1576470, 0
+    ∷ ((0 ∷ 44 ∷ 1 ∷ 4 ∷ 1 ∷ 2 ∷ []) ++ (0 ∷ 0 ∷ 0 ∷ 0 ∷ 0 ∷ 0 ∷ 0 ∷ 0 ∷ []) ++ (0 ∷ 0 ∷ 0 ∷ 0 ∷ 0 ∷ 0 ∷ 111 ∷ 221 ∷ [])
+    ++ (0 ∷ 0 ∷ 0 ∷ 0 ∷ 0 ∷ 0 ∷ 0 ∷ 0 ∷ []) ++ (0 ∷ 0 ∷ 0 ∷ 0 ∷ 0 ∷ 24 ∷ 14 ∷ 22 ∷ []) ++ (0 ∷ 0 ∷ 0 ∷ 0 ∷ 0 ∷ 0 ∷ 0 ∷ 0 ∷ []))
+    -- 16, group 258: 3189180, 28637, 0, 1576470, 0
+    ∷ ((0 ∷ 44 ∷ 1 ∷ 16 ∷ 1 ∷ 2 ∷ []) ++ (0 ∷ 0 ∷ 0 ∷ 0 ∷ 0 ∷ 48 ∷ 169 ∷ 188 ∷ []) ++ (0 ∷ 0 ∷ 0 ∷ 0 ∷ 0 ∷ 0 ∷ 111 ∷ 221 ∷ [])
+    ++ (0 ∷ 0 ∷ 0 ∷ 0 ∷ 0 ∷ 0 ∷ 0 ∷ 0 ∷ []) ++ (0 ∷ 0 ∷ 0 ∷ 0 ∷ 0 ∷ 24 ∷ 14 ∷ 22 ∷ []) ++ (0 ∷ 0 ∷ 0 ∷ 0 ∷ 0 ∷ 0 ∷ 0 ∷ 0 ∷ []))
+    -- 5, group 515: 525053, 11489, 0, 1273983, 792417
+    ∷ ((0 ∷ 44 ∷ 1 ∷ 5 ∷ 2 ∷ 3 ∷ []) ++ (0 ∷ 0 ∷ 0 ∷ 0 ∷ 0 ∷ 8 ∷ 2 ∷ 253 ∷ []) ++ (0 ∷ 0 ∷ 0 ∷ 0 ∷ 0 ∷ 0 ∷ 44 ∷ 225 ∷ [])
+    ++ (0 ∷ 0 ∷ 0 ∷ 0 ∷ 0 ∷ 0 ∷ 0 ∷ 0 ∷ []) ++ (0 ∷ 0 ∷ 0 ∷ 0 ∷ 0 ∷ 19 ∷ 112 ∷ 127 ∷ []) ++ (0 ∷ 0 ∷ 0 ∷ 0 ∷ 0 ∷ 12 ∷ 23 ∷ 97 ∷ []))
+    -- 7, group 0: 0, 0, 226233333, 0, 0
+    ∷ ((0 ∷ 44 ∷ 1 ∷ 7 ∷ 0 ∷ 0 ∷ []) ++ (0 ∷ 0 ∷ 0 ∷ 0 ∷ 0 ∷ 0 ∷ 0 ∷ 0 ∷ []) ++ (0 ∷ 0 ∷ 0 ∷ 0 ∷ 0 ∷ 0 ∷ 0 ∷ 0 ∷ [])
+    ++ (0 ∷ 0 ∷ 0 ∷ 0 ∷ 13 ∷ 124 ∷ 11 ∷ 245 ∷ []) ++ (0 ∷ 0 ∷ 0 ∷ 0 ∷ 0 ∷ 0 ∷ 0 ∷ 0 ∷ []) ++ (0 ∷ 0 ∷ 0 ∷ 0 ∷ 0 ∷ 0 ∷ 0 ∷ 0 ∷ []))
+    -- 16, group 515: 525053, 11489, 0, 1273983, 792417
+    ∷ ((0 ∷ 44 ∷ 1 ∷ 16 ∷ 2 ∷ 3 ∷ []) ++ (0 ∷ 0 ∷ 0 ∷ 0 ∷ 0 ∷ 8 ∷ 2 ∷ 253 ∷ []) ++ (0 ∷ 0 ∷ 0 ∷ 0 ∷ 0 ∷ 0 ∷ 44 ∷ 225 ∷ [])
+    ++ (0 ∷ 0 ∷ 0 ∷ 0 ∷ 0 ∷ 0 ∷ 0 ∷ 0 ∷ []) ++ (0 ∷ 0 ∷ 0 ∷ 0 ∷ 0 ∷ 19 ∷ 112 ∷ 127 ∷ []) ++ (0 ∷ 0 ∷ 0 ∷ 0 ∷ 0 ∷ 12 ∷ 23 ∷ 97 ∷ []))
+    -- 8, group 0: 3714233, 40126, 227403892, 2850453, 792417, 324708547
+    ∷ ((0 ∷ 52 ∷ 1 ∷ 8 ∷ 0 ∷ 0 ∷ []) ++ (0 ∷ 0 ∷ 0 ∷ 0 ∷ 0 ∷ 56 ∷ 172 ∷ 185 ∷ []) ++ (0 ∷ 0 ∷ 0 ∷ 0 ∷ 0 ∷ 0 ∷ 156 ∷ 190 ∷ [])
+    ++ (0 ∷ 0 ∷ 0 ∷ 0 ∷ 13 ∷ 141 ∷ 232 ∷ 116 ∷ []) ++ (0 ∷ 0 ∷ 0 ∷ 0 ∷ 0 ∷ 43 ∷ 126 ∷ 149 ∷ []) ++ (0 ∷ 0 ∷ 0 ∷ 0 ∷ 0 ∷ 12 ∷ 23 ∷ 97 ∷ [])
+    ++ (0 ∷ 0 ∷ 0 ∷ 0 ∷ 19 ∷ 90 ∷ 168 ∷ 195 ∷ []))
     ∷ []

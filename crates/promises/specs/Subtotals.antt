@@ -13,7 +13,9 @@ use Rattle.account.specs.declared.Subtotal.{Subtotal}
 use Rattle.account.specs.Sorts.{sortOf, bySort}
 use Rattle.account.specs.Figures.{added, noSubtotal, grouped, groupFigures, figuresOf}
 use Rattle.account.specs.Line.{lineWith}
-use Rattle.account.specs.Judge.{kindOf, valuesOf}
+use Rattle.account.specs.Judge.{kindOf, valuesOf, noRecord}
+use Rattle.book.specs.State.{noRecordYet}
+use Rattle.promises.specs.Headings.{acceptedRecords}
 
 -- the figures of a detail record r under the heading h
 abbrev pub detailOf : Heading → List ℕ → Figures
@@ -56,6 +58,13 @@ groupsOf h s (r ∷ rs) = ends h s r ++ groupsOf (headingAfter h r) (groupAfter 
 unfoldable pub farmOf : Heading → Figures → List (List ℕ) → Figures
 farmOf h f [] = f
 farmOf h f (r ∷ rs) = farmOf (headingAfter h r) (farmAfter h f r) rs
+
+-- the figures of a whole book, and the groups of its records
+abbrev pub farm : List ℕ → Figures
+farm xs = farmOf (noRecord .heading) (noRecord .sums) (acceptedRecords noRecordYet xs)
+
+abbrev pub groups : List ℕ → List Group
+groups xs = groupsOf (noRecord .heading) (noRecord .subtotal) (acceptedRecords noRecordYet xs)
 
 -- one figure of the groups, added up
 unfoldable pub addedUp : (Subtotal → ℕ) → List Group → ℕ

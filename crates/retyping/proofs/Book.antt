@@ -24,10 +24,10 @@ use Rattle.book.specs.Front.{Front, unfinished, badLength, whole, need, front}
 use Rattle.book.proofs.RecordLaws.{record-whole}
 use Rattle.book.specs.WholeRecords.{beginsWith, recordsBy, recordsOf}
 use Rattle.typed_book.specs.Text.{typedText, bytesTyped}
-use Rattle.make_record.proofs.Answers.{Ready}
 use Rattle.retyping.specs.Typed.{lineTyped, textTyped, Accepted, AllAccepted, SameBytes}
 use Rattle.retyping.specs.Book.{acceptedOf, acceptedIn, lengthBy, wholeLength, readOf, isReady, accepts}
 use Rattle.retyping.specs.Book.{Retyping, oneTyped, retypedBy}
+use Rattle.make_record.specs.Write.{Ready}
 use Rattle.retyping.proofs.Steps.{Lies, lies, state-at, one-is, one-more, one-stops}
 use Rattle.retyping.proofs.SameBytes.{retyped}
 

@@ -5,3 +5,4 @@ pub mod Record
 pub mod SameBytes
 pub mod Steps
 pub mod Book
+pub mod OneAnswer

@@ -20,9 +20,9 @@ use Rattle.codec.proofs.BigEndian.{Bytes}
 use Rattle.account.specs.Judge.{WholeRecord, kindOf, valuesOf, judge}
 use Rattle.book.specs.declared.State.{State}
 use Rattle.book.specs.State.{holding}
-use Rattle.make_record.specs.Write.{write}
+use Rattle.make_record.specs.Write.{write, Ready}
 use Rattle.make_record.specs.declared.Answer.the-variants as answers
-use Rattle.make_record.proofs.Answers.{Ready, written-so}
+use Rattle.make_record.proofs.Answers.{written-so}
 use Rattle.make_record.proofs.RoundTrip.{written-again}
 use Rattle.typed_line.specs.declared.Entry.{Entry}
 use Rattle.typed_line.specs.declared.Said.the-variants as said

@@ -17,13 +17,13 @@ use Rattle.account.specs.Range.{AccountInRange}
 use Rattle.account.proofs.Keeps.{in-range-none, in-range-judge}
 use Rattle.book.specs.State.{holding, noRecordYet}
 use Rattle.book.proofs.RangeLaws.{range-idle}
-use Rattle.make_record.proofs.Answers.{Ready}
 use Rattle.typed_line.specs.Line.{entry, lineOf}
 use Rattle.typed_book.specs.declared.Typist.{Typist}
 use Rattle.typed_book.specs.declared.Fate.the-variants.{Nothing, Wrote}
 use Rattle.typed_book.specs.Typist.{beginning, Turn, turn, writtenAs}
 use Rattle.typed_book.specs.Text.{lineTurn, Typed, after, typedBy, typedText, bytesTyped}
 use Rattle.retyping.specs.Typed.{lineTyped, textTyped, Accepted, AllAccepted, accountBehind, SameBytes}
+use Rattle.make_record.specs.Write.{Ready}
 use Rattle.retyping.proofs.Record.{typedLine, Clean, clean-on, record-again, line-whole, line-one}
 
 -- the lines of a text whose first line is a

@@ -31,11 +31,11 @@ use Rattle.book.specs.Call.{Call, call, fedOf}
 use Rattle.book.proofs.FrontLaws.{good-length}
 use Rattle.book.proofs.RangeLaws.{range-parts}
 use Rattle.book.proofs.RecordLaws.{record-whole, record-in}
-use Rattle.make_record.proofs.Answers.{Ready}
 use Rattle.make_record.proofs.Listed.{elements, listed}
 use Rattle.make_record.proofs.ReaderLaws.{call-one}
 use Rattle.retyping.specs.declared.Retyped.{Retyped}
 use Rattle.retyping.specs.Typed.{lineTyped}
+use Rattle.make_record.specs.Write.{Ready}
 use Rattle.retyping.proofs.Tables.{name-short, fields-some, fields-few}
 use Rattle.retyping.specs.Book.{lengthBy, wholeLength, readOf, isReady, accepts, Retyping, typedIf, oneTyped}
 use Rattle.retyping.specs.Book.{andThen, nothingYet, retypedBy, Retypes, Typable, inTwelve, refusedText, endText}

@@ -2,3 +2,5 @@ pub mod Laws
 pub mod Positive
 pub mod Nearest
 mod Wrong
+pub mod NotNumbers
+pub mod OneAnswer

@@ -6,24 +6,13 @@ use native.Mathlib.Nat.{mul-comm, mul-assoc, mul-sub, add-mul, mul-le-mul-right,
 use native.Mathlib.Omega.{arith}
 use mathlib.Core.Bool.{Bool, true, false, not, _&&_}
 use lib.IntN.{ℤ, pos, negsuc}
-use lib.Dec.{T, leb, ltb, eqb, leb→le, ltb→lt, nltb→le}
+use lib.Dec.{T, leb, ltb, eqb, ltb→lt, nltb→le}
 use lib.Pow.{pow-add, pow-mono}
 use lib.Ieee.{Float, nan, inf, fin, binary64, up, down, round, ofBits, fits}
 use lib.Ieee.Fits.{and-l, and-r}
-use lib.Ieee.Positive.{den}
 use lib.Ieee.Scale.{finite}
 use Rattle.slip.specs.Slip.{double}
-
--- the distance of two numbers
-abbrev gap : ℕ → ℕ → ℕ
-gap a b = (a - b) + (b - a)
-
--- |y - 5565 / 100| is far y / (100 * den y), for a finite y
-abbrev far : Float → ℕ
-far nan = 0
-far (inf s) = 0
-far (fin false n d) = gap (100 * (n * up d)) (5565 * down d)
-far (fin true n d) = 100 * (n * up d) + 5565 * down d
+use Rattle.slip.specs.Nearest.{gap, NoFarther}
 
 -- a double has fewer than 2 ^ 53 as its digits
 digits : (s : Bool) (n : ℕ) (e : ℤ) → T (fits binary64 (fin s n e)) → n < 2 ^ 53
@@ -88,10 +77,6 @@ split a b = go (ltb a b) (ltb→lt a b) (nltb→le a b)
     go : (t : Bool) → (T t → a < b) → (T (not t) → b ≤ a) → (a < b) ⊎ (b ≤ a)
     go true h k = inl (h tt)
     go false h k = inr (k tt)
-
--- of two finite values x and y, x is as near to 5565 / 100 as y, or nearer
-abbrev pub NoFarther : Float → Float → Type 0
-NoFarther x y = far x * den y ≤ far y * den x
 
 -- 55.65's double, by its bits: the constant of the code
 pub divisor-bits : double 5565 100 ≡ ofBits binary64 0x404b_d333_3333_3333

@@ -97,3 +97,9 @@ whatIf r c =
 pub record Answers (r : Ration) (c : Change) (s : Slip) : Type 0 where
   pub exact : s ≡ whatIf r c
   pub number : T (not (isNan (s .kg)))
+
+-- the number that a change bears
+abbrev pub numberOf : Change → Float
+numberOf (Feed factor) = factor
+numberOf (Ym ym) = ym
+numberOf (Head factor) = factor

@@ -2,3 +2,4 @@ mod Asking
 mod Examples
 mod Showing
 mod Tellings
+pub mod OneAnswer

@@ -3,3 +3,4 @@ pub mod Kept
 pub mod Pieces
 pub mod SameLines
 mod Steps
+pub mod OneAnswer

@@ -1,4 +1,4 @@
--- One answer: type_part, type_last, say_verdict and status ask nothing of their callers, and two answers that meet a contract are equal. The
+-- One answer: new, type_part, type_last, say_verdict and status ask nothing of their callers, and two answers that meet a contract are equal. The
 -- contracts are those of the source itself: Learnt is what a caller learns from a function's `ensures`, Asked what its `requires` ask.
 -- Assumes nothing.
 use Prim.Native.Nat.{ℕ}
@@ -10,6 +10,9 @@ use denote.Triple.Clauses.{AtExit}
 use Rattle.printing.proofs.Examples.{one-put}
 use Rattle.typed_book.specs.declared.Lined.{Lined}
 use Rattle.typed_book.specs.declared.Typed.{Typed}
+use Rattle.typed_book.specs.declared.Typist.{Typist}
+use Rattle.typed_book.proofs.Typist.new.Kinds as beginning
+use Rattle.typed_book.proofs.Typist.new.Reads as beginning-contract
 use Rattle.typed_book.proofs.type_part.Kinds as part
 use Rattle.typed_book.proofs.type_part.Reads as part-contract
 use Rattle.typed_book.proofs.type_last.Kinds as last
@@ -18,6 +21,9 @@ use Rattle.typed_book.proofs.remarks.say_verdict.Kinds as verdict
 use Rattle.typed_book.proofs.remarks.say_verdict.Reads as verdict-contract
 use Rattle.typed_book.proofs.remarks.status.Kinds as digit
 use Rattle.typed_book.proofs.remarks.status.Reads as digit-contract
+
+pub new-asks-nothing : (κs : Lfts 0) (args : Dens κs beginning.ps) → beginning-contract.Asked κs args
+new-asks-nothing κs args = tt
 
 pub type-part-asks-nothing : (κs : Lfts 4) (args : Dens κs part.ps) → part-contract.Asked κs args
 type-part-asks-nothing κs args = tt
@@ -30,6 +36,11 @@ say-verdict-asks-nothing κs args = tt
 
 pub status-asks-nothing : (κs : Lfts 0) (args : Dens κs digit.ps) → digit-contract.Asked κs args
 status-asks-nothing κs args = tt
+
+-- Two typists that meet new's contract are equal.
+pub one-new : (κs : Lfts 0) (args : Dens κs beginning.ps) (f g : Typist) (e e′ : AtExit (endedOf 0 beginning.ps beginning.r) κs)
+    → beginning-contract.Learnt κs args f e → beginning-contract.Learnt κs args g e′ → f ≡ g
+one-new κs args f g e e′ p q = p ∙ sym q
 
 -- Two statuses that meet status's contract are equal.
 pub one-status : (κs : Lfts 0) (args : Dens κs digit.ps) (f g : ℕ) (e e′ : AtExit (endedOf 0 digit.ps digit.r) κs)

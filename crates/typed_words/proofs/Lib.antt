@@ -6,3 +6,4 @@ mod Names
 mod Quotient
 mod Same
 mod Values
+pub mod OneAnswer

@@ -5,8 +5,8 @@ use borrow.Author.Needs.{needs}
 use borrow.Author.Tests.{not-true, not-false}
 use Rattle.codec.specs.Table.{Of}
 use Rattle.book.specs.State.{inRange}
-use Rattle.make_record.specs.Write.{writtenOf}
-use Rattle.make_record.proofs.Answers.{Ready, ready, kind-in, of-kind, by-13, by-own, by-22, by-3, by-4, by-reader, by-16, wrote-so}
+use Rattle.make_record.specs.Write.{writtenOf, Ready}
+use Rattle.make_record.proofs.Answers.{ready, kind-in, of-kind, by-13, by-own, by-22, by-3, by-4, by-reader, by-16, wrote-so}
 use Rattle.make_record.proofs.answered.Statement.{statement}
 use Rattle.make_record.proofs.answered.Tie as tie
 

@@ -1,0 +1,70 @@
+-- One answer: two answers that meet the contract of a public function are equal: what is said, and the buffer at the end (the first parameter,
+-- out). Those that say something ask that it begins inside the buffer; the one that answers a number asks nothing. The contracts are those of the
+-- source itself: Learnt is what a caller learns from a function's `ensures`, Asked what its `requires` ask.
+-- Assumes nothing.
+use Prim.Native.Nat.{ℕ}
+use mathlib.Core.Path.{_≡_, sym, _∙_}
+use contract.Lifetimes.{Lfts}
+use borrow.Fn.Kinds.{Dens, endedOf}
+use denote.Ref.{now}
+use denote.Triple.Clauses.{AtExit}
+use Rattle.printing.proofs.Examples.{one-put}
+use Rattle.names.proofs.decimals.Kinds as places
+use Rattle.names.proofs.decimals.Reads as places-contract
+use Rattle.names.proofs.say_class.Kinds as class
+use Rattle.names.proofs.say_class.Reads as class-contract
+use Rattle.names.proofs.say_expected.Kinds as expected
+use Rattle.names.proofs.say_expected.Reads as expected-contract
+use Rattle.names.proofs.say_field.Kinds as field
+use Rattle.names.proofs.say_field.Reads as field-contract
+use Rattle.names.proofs.say_fields.Kinds as fields
+use Rattle.names.proofs.say_fields.Reads as fields-contract
+use Rattle.names.proofs.say_kind.Kinds as kind
+use Rattle.names.proofs.say_kind.Reads as kind-contract
+use Rattle.names.proofs.say_sentence.Kinds as sentence
+use Rattle.names.proofs.say_sentence.Reads as sentence-contract
+use Rattle.names.proofs.say_shown.Kinds as shown
+use Rattle.names.proofs.say_shown.Reads as shown-contract
+
+pub decimals-asks-nothing : (κs : Lfts 0) (args : Dens κs places.ps) → places-contract.Asked κs args
+decimals-asks-nothing κs args = tt
+
+-- How many decimals a field may have.
+pub one-decimals : (κs : Lfts 0) (args : Dens κs places.ps) (f g : ℕ) (e e′ : AtExit (endedOf 0 places.ps places.r) κs)
+    → places-contract.Learnt κs args f e → places-contract.Learnt κs args g e′ → f ≡ g
+one-decimals κs args f g e e′ p q = p .0 ∙ sym (q .0)
+
+-- A kind's name.
+pub one-say-kind : (κs : Lfts 1) (args : Dens κs kind.ps) (f g : ℕ) (e e′ : AtExit (endedOf 1 kind.ps kind.r) κs)
+    → kind-contract.Learnt κs args f e → kind-contract.Learnt κs args g e′ → (f ≡ g) × (now (e .0) ≡ now (e′ .0))
+one-say-kind κs args f g e e′ p q = one-put (p .put) (q .put)
+
+-- A field's name.
+pub one-say-field : (κs : Lfts 1) (args : Dens κs field.ps) (f g : ℕ) (e e′ : AtExit (endedOf 1 field.ps field.r) κs)
+    → field-contract.Learnt κs args f e → field-contract.Learnt κs args g e′ → (f ≡ g) × (now (e .0) ≡ now (e′ .0))
+one-say-field κs args f g e e′ p q = one-put (p .put) (q .put)
+
+-- The names of a kind's fields.
+pub one-say-fields : (κs : Lfts 1) (args : Dens κs fields.ps) (f g : ℕ) (e e′ : AtExit (endedOf 1 fields.ps fields.r) κs)
+    → fields-contract.Learnt κs args f e → fields-contract.Learnt κs args g e′ → (f ≡ g) × (now (e .0) ≡ now (e′ .0))
+one-say-fields κs args f g e e′ p q = one-put (p .put) (q .put)
+
+-- What a field takes.
+pub one-say-expected : (κs : Lfts 1) (args : Dens κs expected.ps) (f g : ℕ) (e e′ : AtExit (endedOf 1 expected.ps expected.r) κs)
+    → expected-contract.Learnt κs args f e → expected-contract.Learnt κs args g e′ → (f ≡ g) × (now (e .0) ≡ now (e′ .0))
+one-say-expected κs args f g e e′ p q = one-put (p .put) (q .put)
+
+-- A class's name.
+pub one-say-class : (κs : Lfts 1) (args : Dens κs class.ps) (f g : ℕ) (e e′ : AtExit (endedOf 1 class.ps class.r) κs)
+    → class-contract.Learnt κs args f e → class-contract.Learnt κs args g e′ → (f ≡ g) × (now (e .0) ≡ now (e′ .0))
+one-say-class κs args f g e e′ p q = one-put (p .put) (q .put)
+
+-- A refusal's sentence.
+pub one-say-sentence : (κs : Lfts 1) (args : Dens κs sentence.ps) (f g : ℕ) (e e′ : AtExit (endedOf 1 sentence.ps sentence.r) κs)
+    → sentence-contract.Learnt κs args f e → sentence-contract.Learnt κs args g e′ → (f ≡ g) × (now (e .0) ≡ now (e′ .0))
+one-say-sentence κs args f g e e′ p q = one-put (p .put) (q .put)
+
+-- A word as it was typed.
+pub one-say-shown : (κs : Lfts 2) (args : Dens κs shown.ps) (f g : ℕ) (e e′ : AtExit (endedOf 2 shown.ps shown.r) κs)
+    → shown-contract.Learnt κs args f e → shown-contract.Learnt κs args g e′ → (f ≡ g) × (now (e .0) ≡ now (e′ .0))
+one-say-shown κs args f g e e′ p q = one-put (p .put) (q .put)
