@@ -12,6 +12,7 @@ mod kind;
 mod lister;
 mod parts;
 mod plain;
+mod programs;
 mod record;
 mod slip;
 mod slips;
@@ -37,6 +38,9 @@ const USAGE: &str = "usage:
   second desk SEED COUNT             books for the C host, with what they should give
   second typed                       reads a typed text, writes its book and says what the writer says
   second text SEED INDEX             a typed text by chance
+  second book SEED INDEX             a book by chance
+  second listed                      reads a book, prints and says what the lister does
+  second retyped                     reads a book, prints and says what retype does
 ";
 
 fn main() {
@@ -51,6 +55,9 @@ fn main() {
         ["desk", seed, count] => desk_books(seed, count),
         ["typed"] => enter_typed(),
         ["text", seed, index] => some_text(seed, index),
+        ["book", seed, index] => some_book(seed, index),
+        ["listed"] => tell(programs::listed),
+        ["retyped"] => tell(programs::retyped),
         _ => Err(USAGE.to_string()),
     };
     if let Err(fault) = done {
@@ -134,4 +141,22 @@ fn enter_typed() -> Result<(), String> {
 fn some_text(seed: &str, index: &str) -> Result<(), String> {
     let (seed, index) = (whole_number(seed)?, whole_number(index)?);
     write_bytes(&texts::text(seed, index))
+}
+
+fn some_book(seed: &str, index: &str) -> Result<(), String> {
+    let (seed, index) = (whole_number(seed)?, whole_number(index)?);
+    write_bytes(&programs::book(seed, index))
+}
+
+/// What a program makes of the book on standard input, with its status.
+fn tell(program: fn(&[u8]) -> programs::Told) -> Result<(), String> {
+    let mut book = Vec::new();
+    io::stdin().read_to_end(&mut book).map_err(|e| e.to_string())?;
+    let told = program(&book);
+    write_bytes(told.printed.as_bytes())?;
+    eprint!("{}", told.said);
+    if !told.right {
+        std::process::exit(1);
+    }
+    Ok(())
 }
