@@ -24,7 +24,8 @@ use Rattle.benchdesk.specs.Bench.{Bench, codeOf, andThen, last, benchBy,
 pub take-least : (p : ℕ) (xs : List ℕ) → take (min p (length xs)) xs ≡ take p xs
 take-least p xs =
     ⊎-elim (λ (h : p < length xs). let e : min p (length xs) ≡ p = omega arith in rw e refl)
-    (λ (h : length xs ≤ p). let e : min p (length xs) ≡ length xs = omega arith in rw e (take-all (length xs) xs (omega arith) ∙ sym (take-all p xs h)))
+    (λ (h : length xs ≤ p). let e : min p (length xs) ≡ length xs = omega arith in
+    rw e (take-all (length xs) xs (omega arith) ∙ sym (take-all p xs h)))
     (lt-or-ge p (length xs))
 
 -- a call over them
@@ -71,7 +72,8 @@ abbrev pub Gives : List ℕ → List ℕ → ℕ → List ℕ → ℕ → Type 0
 Gives book lines₀ part lines r = (r ≡ numberOf (benched book part (length lines₀))) × (lines ≡ laidBy (benched book part (length lines₀)) lines₀)
 
 -- by the bench that it is
-gives-by : (book lines₀ : List ℕ) (part : ℕ) (lines : List ℕ) (r code w : ℕ) (bytes : List ℕ) → benched book part (length lines₀) ≡ record { code = code; bytes = bytes }
+gives-by : (book lines₀ : List ℕ) (part : ℕ) (lines : List ℕ) (r code w : ℕ) (bytes : List ℕ)
+    → benched book part (length lines₀) ≡ record { code = code; bytes = bytes }
     → length bytes ≡ w → lines ≡ bytes ++ drop w lines₀ → r ≡ code * 4294967296 + w % 4294967296 → Gives book lines₀ part lines r
 gives-by book lines₀ part lines r code w bytes e l d m = rw (e, l) (m, d)
 
@@ -93,7 +95,9 @@ module _ {book lines₀ : List ℕ} {part : ℕ} {lines : List ℕ} {s : State} 
   -- one call, with its lines in the part of the buffer from w on, which is lent and given back
   module _ (more : 0 < n) {f : Fed} {sub : List ℕ}
       (ans : f ≡ fedOf (call s (take part (take (length book - i) (drop i book))) (length (take (length lines - w) (drop w lines)))))
-      (buf : sub ≡ laid (call s (take part (take (length book - i) (drop i book))) (length (take (length lines - w) (drop w lines)))) (take (length lines - w) (drop w lines)))
+      (buf : sub
+      ≡ laid (call s (take part (take (length book - i) (drop i book))) (length (take (length lines - w) (drop w lines))))
+      (take (length lines - w) (drop w lines)))
       (counts : (f .taken ≤ length (take (length book - i) (drop i book))) × (f .written ≤ length (take (length lines - w) (drop w lines)))) where
     abbrev c : Call
     c = call s (take part (drop i book)) (length lines₀ - w)
@@ -114,7 +118,8 @@ module _ {book lines₀ : List ℕ} {part : ℕ} {lines : List ℕ} {s : State} 
     back : putMid w (length lines - w) lines sub ≡ take w lines ++ sub
     back =
         let h = g .fits in
-        let e : drop (length lines - w) (drop w lines) ≡ [] = drop-of-length-le (drop w lines) {i = length lines - w} (rw length-drop (omega arith)) in
+        let e : drop (length lines - w) (drop w lines) ≡ [] =
+        drop-of-length-le (drop w lines) {i = length lines - w} (rw length-drop (omega arith)) in
         rw (e, append-nil)
 
     taken-is : f .taken ≡ c .taken
@@ -141,14 +146,15 @@ module _ {book lines₀ : List ℕ} {part : ℕ} {lines : List ℕ} {s : State} 
 
     pub long-on : length (putMid w (length lines - w) lines sub) ≡ length lines₀
     long-on =
-        rw laid-on
-        (omega (arith, length-append (g .so ++ c .bytes) (drop (w + f .written) lines₀), wrote-on, length-drop (w + f .written) lines₀, g .long, written-inside))
+        let behind = length-drop (w + f .written) lines₀ in
+        rw laid-on (omega (arith, length-append (g .so ++ c .bytes) (drop (w + f .written) lines₀), wrote-on, behind, g .long, written-inside))
 
     test-is : (code : ℕ) → code ≡ codeOf (f .answer) → not (eqb code 17) || eqb (i + f .taken) (length book) ≡ last c (drop i book)
     test-is code e =
         ap (λ (k : ℕ). not (eqb k 17) || eqb (i + f .taken) (length book)) (e ∙ ap (λ (d : Fed). codeOf (d .answer)) answer)
         ∙ ap (λ (b : Bool). not (eqb (codeOf (c .answer)) 17) || b)
-        (all-taken i (f .taken) (length book) (g .inside) ∙ ap (λ (k : ℕ). eqb k (length book - i)) taken-is ∙ ap (λ (k : ℕ). eqb (c .taken) k) (sym (length-drop i book)))
+        (all-taken i (f .taken) (length book) (g .inside) ∙ ap (λ (k : ℕ). eqb k (length book - i)) taken-is
+        ∙ ap (λ (k : ℕ). eqb (c .taken) k) (sym (length-drop i book)))
 
     step : benched book part (length lines₀)
         ≡ andThen (g .so) (pick (last c (drop i book)) (record { code = codeOf (c .answer); bytes = c .bytes })
@@ -169,7 +175,8 @@ module _ {book lines₀ : List ℕ} {part : ℕ} {lines : List ℕ} {s : State} 
     going-on code e t =
         let b : last c (drop i book) ≡ false = sym (test-is code e) ∙ t in
         let q : length lines₀ - w - length (c .bytes) ≡ length lines₀ - (w + f .written) = omega (arith, written-is) in
-        let d : drop (c .taken) (drop i book) ≡ drop (i + f .taken) book = ap (λ (k : ℕ). drop k (drop i book)) (sym taken-is) ∙ drop-drop (f .taken) i book in
+        let d : drop (c .taken) (drop i book) ≡ drop (i + f .taken) book =
+        ap (λ (k : ℕ). drop k (drop i book)) (sym taken-is) ∙ drop-drop (f .taken) i book in
         let st : c .state ≡ f .state = sym (ap (λ (d : Fed). d .state) answer) in
         record {
           inside = taken-inside;

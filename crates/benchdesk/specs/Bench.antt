@@ -36,7 +36,8 @@ benchBy (suc n) s xs part room =
     pick (last (call s (take part xs) room) xs)
     (record { code = codeOf (call s (take part xs) room .answer); bytes = call s (take part xs) room .bytes })
     (andThen (call s (take part xs) room .bytes)
-    (benchBy n (call s (take part xs) room .state) (drop (call s (take part xs) room .taken) xs) part (room - length (call s (take part xs) room .bytes))))
+    (benchBy n (call s (take part xs) room .state) (drop (call s (take part xs) room .taken) xs) part
+    (room - length (call s (take part xs) room .bytes))))
 
 -- a whole book
 abbrev pub benched : List ℕ → ℕ → ℕ → Bench

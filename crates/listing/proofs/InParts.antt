@@ -76,7 +76,8 @@ not-close k s e f q = ⊎-elim (λ (g : s ≡ ofGroup). no-sort (rw q at (f ∙ 
     no-sort′ e = let z : _≡_ {A = ℕ} 0 1 = cc in absurd (omega arith)
 
 subtotals-whole : (a : Account) → Wholes (subtotals a)
-subtotals-whole a = of-choice Wholes (eqb (a .heading .group) 0) (λ e. tt) (λ e. (line-whole 16 _ _ _ _ _ _ (omega arith) (λ q. omega (arith, q)), tt))
+subtotals-whole a =
+    of-choice Wholes (eqb (a .heading .group) 0) (λ e. tt) (λ e. (line-whole 16 _ _ _ _ _ _ (omega arith) (λ q. omega (arith, q)), tt))
 
 accepted-whole : (a : Account) (k : ℕ) (v : List ℕ) → leb 1 k && leb k 8 ≡ true → Wholes (accepted a k v .lines)
 unfolding accepted
@@ -140,7 +141,8 @@ unfolding textOf
 lines-on [] ys w = refl
 lines-on (l ∷ ls) ys w =
     ap linesText (append-assoc l (joined ls) ys) ∙ text-on l (joined ls ++ ys) (w .0)
-    ∙ ap (λ (t : List ℕ). numbersLine (lineNumbers l) ++ t) (lines-on ls ys (w .1)) ∙ sym (append-assoc (numbersLine (lineNumbers l)) (textOf ls) (linesText ys))
+    ∙ ap (λ (t : List ℕ). numbersLine (lineNumbers l) ++ t) (lines-on ls ys (w .1))
+    ∙ sym (append-assoc (numbersLine (lineNumbers l)) (textOf ls) (linesText ys))
 
 lines-all : (ls : List (List ℕ)) → Wholes ls → linesText (joined ls) ≡ textOf ls
 lines-all ls w =

@@ -120,7 +120,8 @@ room-fits n r k e d = rw (d, e) (of-choice (λ (k : ℕ). 4 * k ≤ n) (ltb n 65
 
 -- ---- one call over a part
 
-pub lists : (s : State) (part before : List ℕ) {out out′ after : List ℕ} {f : Fed} {w room : ℕ} → length before ≡ room → f ≡ fedOf (call s part (length before))
+pub lists : (s : State) (part before : List ℕ) {out out′ after : List ℕ} {f : Fed} {w room : ℕ} → length before ≡ room
+    → f ≡ fedOf (call s part (length before))
     → after ≡ laid (call s part (length before)) before → Put out out′ 0 (linesText (take (f .written) after)) w
     → Lists (call s part room) out out′ (record { state = f .state; taken = f .taken; written = w })
 lists s part before {after = after} {f = f} l e d p =
@@ -129,5 +130,6 @@ lists s part before {after = after} {f = f} l e d p =
     rw (← l) (record { state = ap (λ (g : Fed). g .state) e; taken = ap (λ (g : Fed). g .taken) e; text = rw t at p })
 
 -- with a line buffer of that length
-pub lists-at : (s : State) (part : List ℕ) {out out′ : List ℕ} {r : Listed} (k room : ℕ) → k ≡ room → Lists (call s part k) out out′ r → Lists (call s part room) out out′ r
+pub lists-at : (s : State) (part : List ℕ) {out out′ : List ℕ} {r : Listed} (k room : ℕ) → k ≡ room
+    → Lists (call s part k) out out′ r → Lists (call s part room) out out′ r
 lists-at s part {out} {out′} {r} k room e l = subst (λ (n : ℕ). Lists (call s part n) out out′ r) e l

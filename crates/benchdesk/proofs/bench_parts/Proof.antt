@@ -56,13 +56,14 @@ bench-parts-spec =
     (λ c.
     let p = c .before .before .before .before .before .before .before .before .before .before in
     let a = p .feed-part .ensures in
-    going-stops (head p .loop .inv) (p .before .before .before .loop-test .taken) (a .0) (a .1 .0) (a .1 .1) _ (c .before .before .code-of .ensures .0) (c .before .if1 .taken)
-    (c .number .ensures))
+    going-stops (head p .loop .inv) (p .before .before .before .loop-test .taken) (a .0) (a .1 .0) (a .1 .1) _
+    (c .before .before .code-of .ensures .0) (c .before .if1 .taken) (c .number .ensures))
     (λ c. search needs)
     (λ c.
     let p = c .before .before .before .before .before .before .before .before .before in
     let a = p .feed-part .ensures in
-    going-on (head p .loop .inv) (p .before .before .before .loop-test .taken) (a .0) (a .1 .0) (a .1 .1) _ (c .before .code-of .ensures .0) (c .if1 .left))
+    going-on (head p .loop .inv) (p .before .before .before .loop-test .taken) (a .0) (a .1 .0) (a .1 .1) _
+    (c .before .code-of .ensures .0) (c .if1 .left))
     (λ c κs. omega arith)
     (λ c. c .before .before .loop .inv .long)
     (λ c. going-ends (c .before .before .loop .inv) (omega (arith, c .before .loop-test .left)) (c .number2 .ensures)))

@@ -23,4 +23,5 @@ list-spec =
     let l = c .before .before .before in
     let r = l .before .before .before in
     let n = length (r .before .before .before .args .out .now) in
-    (lists-at _ _ _ _ (length-take-le _ _ (room-most n _ (r .line-room .ensures)) ∙ r .line-room .ensures) (l .list-by .ensures .0), l .list-by .ensures .1)))
+    let e = length-take-le _ _ (room-most n _ (r .line-room .ensures)) ∙ r .line-room .ensures in
+    (lists-at _ _ _ _ e (l .list-by .ensures .0), l .list-by .ensures .1)))

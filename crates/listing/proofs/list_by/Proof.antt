@@ -17,10 +17,12 @@ list-by-spec =
     (λ c. sym (length-take-le _ _ (search needs)))
     (λ c κs.
     let f = c .before .before .before .before in
-    omega (arith, length-take (f .feed .result .written) (f .feed .last .1 .1 .0), f .feed .ensures .1 .1 .1, f .before .before .before .before .before .pre))
+    let t = length-take (f .feed .result .written) (f .feed .last .1 .1 .0) in
+    omega (arith, t, f .feed .ensures .1 .1 .1, f .before .before .before .before .before .pre))
     (λ c. search needs)
     (λ c. search needs)
     (λ c.
     let p = c .before .before .before in
     let f = p .before .before .before .before .before in
-    (lists _ _ (f .before .before .before .before .before .args .lines .now) refl (f .feed .ensures .0) (f .feed .ensures .1 .0) (p .put-lines .ensures), f .feed .ensures .1 .1 .0)))
+    let lines = f .before .before .before .before .before .args .lines .now in
+    (lists _ _ lines refl (f .feed .ensures .0) (f .feed .ensures .1 .0) (p .put-lines .ensures), f .feed .ensures .1 .1 .0)))
