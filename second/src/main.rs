@@ -13,6 +13,7 @@ mod kind;
 mod lister;
 mod parts;
 mod plain;
+mod programs;
 mod record;
 mod salvage;
 mod slip;
@@ -41,6 +42,9 @@ const USAGE: &str = "usage:
   second text SEED INDEX             a typed text by chance
   second salvage                     reads a damaged book, writes the clean one and says what was dropped
   second damaged SEED INDEX          a damaged book by chance
+  second book SEED INDEX             a book by chance
+  second listed                      reads a book, prints and says what the lister does
+  second retyped                     reads a book, prints and says what retype does
 ";
 
 fn main() {
@@ -57,6 +61,9 @@ fn main() {
         ["text", seed, index] => some_text(seed, index),
         ["salvage"] => save_damaged(),
         ["damaged", seed, index] => some_damaged(seed, index),
+        ["book", seed, index] => some_book(seed, index),
+        ["listed"] => tell(programs::listed),
+        ["retyped"] => tell(programs::retyped),
         _ => Err(USAGE.to_string()),
     };
     if let Err(fault) = done {
@@ -158,4 +165,22 @@ fn save_damaged() -> Result<(), String> {
 fn some_damaged(seed: &str, index: &str) -> Result<(), String> {
     let (seed, index) = (whole_number(seed)?, whole_number(index)?);
     write_bytes(&damages::damaged(seed, index))
+}
+
+fn some_book(seed: &str, index: &str) -> Result<(), String> {
+    let (seed, index) = (whole_number(seed)?, whole_number(index)?);
+    write_bytes(&programs::book(seed, index))
+}
+
+/// What a program makes of the book on standard input, with its status.
+fn tell(program: fn(&[u8]) -> programs::Told) -> Result<(), String> {
+    let mut book = Vec::new();
+    io::stdin().read_to_end(&mut book).map_err(|e| e.to_string())?;
+    let told = program(&book);
+    write_bytes(told.printed.as_bytes())?;
+    eprint!("{}", told.said);
+    if !told.right {
+        std::process::exit(1);
+    }
+    Ok(())
 }

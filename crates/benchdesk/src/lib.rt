@@ -3,10 +3,14 @@ use base::least;
 use book::Answer;
 use book::Fed;
 use book::State;
-ghost use Prim.Native.Nat.{_≤_};
-ghost use lib.ListN.{length};
+ghost use mathlib.Core.Path.{_≡_};
+ghost use Prim.Native.Nat.{_+_, _*_, _%_, _≤_};
+ghost use lib.ListN.{length, take};
+ghost use Rattle.book.specs.Call.{call, fedOf, laid};
+ghost use Rattle.benchdesk.specs.Bench.{codeOf, benched, numberOf, laidBy};
 
 fn code_of(answer: Answer) -> u64
+    ensures { λ r. ⌜ r ≡ codeOf answer ⌝ }
     ensures { λ r. ⌜ r ≤ 255 ⌝ }
 {
     match answer {
@@ -19,6 +23,8 @@ fn code_of(answer: Answer) -> u64
 
 // The first bytes of rest, part of them at most.
 fn feed_part(state: State, rest: &[u8], part: usize, out: &mut [u8]) -> Fed
+    ensures { λ r. ⌜ r ≡ fedOf (call state (take part (now (rest .entry))) (length (now (out .entry)))) ⌝ }
+    ensures { λ r. ⌜ now (out .exit) ≡ laid (call state (take part (now (rest .entry))) (length (now (out .entry)))) (now (out .entry)) ⌝ }
     ensures { λ r. ⌜ (r .taken ≤ length (now (rest .entry))) × (r .written ≤ length (now (out .entry))) ⌝ }
 {
     let n = least(part, rest.len());
@@ -27,6 +33,7 @@ fn feed_part(state: State, rest: &[u8], part: usize, out: &mut [u8]) -> Fed
 
 fn number(code: u64, w: usize) -> u64
     requires { ⌜ code ≤ 255 ⌝ }
+    ensures { λ r. ⌜ r ≡ code * 4294967296 + w % 4294967296 ⌝ }
 {
     code * 4294967296 + w as u64 % 4294967296
 }
@@ -34,7 +41,10 @@ fn number(code: u64, w: usize) -> u64
 // Code times 2^32, plus the bytes written: as herd_desk, but for 18, since nothing is offered after the close. The parts of the state go from call to
 // call as locals of their own, so that the compiler keeps no second state in memory.
 #[no_mangle]
-pub extern "C" fn bench_parts(book: &[u8], lines: &mut [u8], part: usize) -> u64 {
+pub extern "C" fn bench_parts(book: &[u8], lines: &mut [u8], part: usize) -> u64
+    ensures number { λ r. ⌜ r ≡ numberOf (benched (now (book .entry)) part (length (now (lines .entry)))) ⌝ }
+    ensures lines { λ r. ⌜ now (lines .exit) ≡ laidBy (benched (now (book .entry)) part (length (now (lines .entry)))) (now (lines .entry)) ⌝ }
+{
     let start = State::new();
     let mut account = start.account;
     let mut held = start.held;

@@ -3,8 +3,6 @@ use book::State;
 use libc::STDERR_FILENO;
 use libc::STDIN_FILENO;
 use libc::STDOUT_FILENO;
-ghost use Prim.Native.Nat.{_≤_};
-ghost use lib.ListN.{length};
 
 // Where a caller that gives an argument, the word `status`, wants the status byte.
 const STATUS_FILENO: i32 = 3;
@@ -37,9 +35,7 @@ fn unwritten(mut w: Work) -> Work {
 
 // Lists a part, with one write for each call of the book; a part of 2,048 bytes never fills the line buffer, so that is one.
 // A proved loop has to end: the calls count down from a number that no part uses up, since each takes a byte.
-fn list_part(from: Work, part: &[u8], text: &mut [u8]) -> Work
-    requires { ⌜ 65536 ≤ length (now text) ⌝ }
-{
+fn list_part(from: Work, part: &[u8], text: &mut [u8]) -> Work {
     let mut w = from;
     let mut i = 0;
     let mut calls = part.len();
@@ -72,17 +68,12 @@ fn begin(mut w: Work, part: &[u8]) -> Work {
 // Behind the book's end nothing more is read.
 fn go_on(mut w: Work) -> Work {
     let state = w.state;
-    let account = state.account;
-    if account.stage > 1 {
-        w.more = false;
-    }
+    w.more = w.more & listing::goes_on(state.account);
     w
 }
 
 // Reads once. At the end of the input, behind the book's end, or where a read or a write fails, there is no more.
-fn turn(mut w: Work, text: &mut [u8]) -> Work
-    requires { ⌜ 65536 ≤ length (now text) ⌝ }
-{
+fn turn(mut w: Work, text: &mut [u8]) -> Work {
     let mut buf = [0u8; 2048];
     let got = libc::read(STDIN_FILENO, &mut buf);
     if got < 0 {
@@ -99,9 +90,7 @@ fn turn(mut w: Work, text: &mut [u8]) -> Work
 }
 
 // Nothing says that the input ends: the turns count down from a number that no run uses up.
-fn run(from: Work, text: &mut [u8]) -> Work
-    requires { ⌜ 65536 ≤ length (now text) ⌝ }
-{
+fn run(from: Work, text: &mut [u8]) -> Work {
     let mut w = from;
     let mut turns = u64::MAX;
     while turns > 0 {
@@ -114,18 +103,10 @@ fn run(from: Work, text: &mut [u8]) -> Work
     w
 }
 
-// The last word. Where a read or a write failed there is none: the book was not seen whole, or its lines were not.
-fn end(w: Work, text: &mut [u8]) -> Work
-    requires { ⌜ 65536 ≤ length (now text) ⌝ }
-{
-    if !w.read {
-        return w;
-    }
-    if !w.written {
-        return w;
-    }
+// The last word, where all was read and written.
+fn end(w: Work, text: &mut [u8]) -> Work {
     let state = w.state;
-    let n = listing::put_end(text, 0, state.account);
+    let n = listing::put_last(text, state.account, w.read, w.written);
     if !send(&text[..n]) {
         return unwritten(w);
     }

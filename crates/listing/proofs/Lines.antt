@@ -1,10 +1,10 @@
 -- Laws of the lister's text: the text of lines by the one at their front.
 use Prim.Native.Nat.{ℕ, zero, suc, _+_, _*_, _≤_, _<_}
-use mathlib.Core.Path.{_≡_, refl, ap, sym, _∙_}
+use mathlib.Core.Path.{_≡_, refl, ap, sym, subst, _∙_}
 use mathlib.Core.List.{List, [], _∷_, _++_}
 use mathlib.Core.Bool.{Bool, false}
 use native.Mathlib.Omega.{arith}
-use borrow.Author.Tests.{ltb-false, lt-ltb, le-ltb, eq-eqb, ne-eqb}
+use borrow.Author.Tests.{ltb-true, ltb-false, lt-ltb, le-ltb, eq-eqb, ne-eqb}
 use lib.ListN.{length, getD, take, drop, length-drop}
 use lib.Seq.{drop-drop, take-append-seam}
 use lib.Dec.{ltb}
@@ -17,7 +17,8 @@ use Rattle.book.specs.declared.Fed.{Fed}
 use Rattle.book.specs.Call.{call, fedOf, laid}
 use Rattle.printing.specs.Decimal.{numbersLine, Put}
 use Rattle.printing.proofs.Puts.{none, put-length, and-then}
-use Rattle.listing.specs.Listing.{lineNumbers, textBy, linesText, closedWord, unfinishedWord, refusedWord, endText, Lists}
+use Rattle.listing.specs.declared.Listed.{Listed}
+use Rattle.listing.specs.Listing.{lineNumbers, textBy, linesText, closedWord, unfinishedWord, refusedWord, endText, lineRoom, Lists}
 
 pub size-least : (xs : List ℕ) → lineSize ≤ frontSize xs
 size-least xs = of-choice (λ (n : ℕ). lineSize ≤ n) (isTotal xs) (λ e. omega arith) (λ e. omega arith)
@@ -109,12 +110,26 @@ module _ (a : Account) where
     unfolding endText
     end-refused e = rw (ne-eqb _ _ other, eq-eqb _ _ e)
 
+-- ---- the lines' room
+
+pub room-most : (n r : ℕ) → r ≡ lineRoom n → r ≤ 16384
+room-most n r e = rw e (of-choice (λ (k : ℕ). k ≤ 16384) (ltb n 65536) (λ e. let h = ltb-true n 65536 e in omega arith) (λ e. omega arith))
+
+pub room-fits : (n r k : ℕ) → r ≡ lineRoom n → k ≡ r → 4 * k ≤ n
+room-fits n r k e d = rw (d, e) (of-choice (λ (k : ℕ). 4 * k ≤ n) (ltb n 65536) (λ e. omega arith) (λ e. let h = ltb-false n 65536 e in omega arith))
+
 -- ---- one call over a part
 
-pub lists : (s : State) (part before : List ℕ) {out out′ after : List ℕ} {f : Fed} {w room : ℕ} → length before ≡ room → f ≡ fedOf (call s part (length before))
+pub lists : (s : State) (part before : List ℕ) {out out′ after : List ℕ} {f : Fed} {w room : ℕ} → length before ≡ room
+    → f ≡ fedOf (call s part (length before))
     → after ≡ laid (call s part (length before)) before → Put out out′ 0 (linesText (take (f .written) after)) w
     → Lists (call s part room) out out′ (record { state = f .state; taken = f .taken; written = w })
 lists s part before {after = after} {f = f} l e d p =
     let c = call s part (length before) in
     let t : take (f .written) after ≡ c .bytes = rw (e, d) (take-append-seam (c .bytes) (drop (length (c .bytes)) before)) in
     rw (← l) (record { state = ap (λ (g : Fed). g .state) e; taken = ap (λ (g : Fed). g .taken) e; text = rw t at p })
+
+-- with a line buffer of that length
+pub lists-at : (s : State) (part : List ℕ) {out out′ : List ℕ} {r : Listed} (k room : ℕ) → k ≡ room
+    → Lists (call s part k) out out′ r → Lists (call s part room) out out′ r
+lists-at s part {out} {out′} {r} k room e l = subst (λ (n : ℕ). Lists (call s part n) out out′ r) e l

@@ -1,16 +1,21 @@
 -- Document 01, "Figures to meet": "The lister reads a book on standard input and prints a text line per line record: kind, group, the five
 -- figures, and for kind 8 CO2e; then `closed`, `unfinished`, or `refused` with code, records, field, one space between."
-use Prim.Native.Nat.{ℕ, zero, suc, _≤_}
+use Prim.Native.Nat.{ℕ, zero, suc, _/_, _≤_}
 use mathlib.Core.Path.{_≡_}
 use mathlib.Core.List.{List, [], _∷_, _++_}
-use lib.ListN.{length, drop}
-use lib.Dec.{ltb, eqb}
+use mathlib.Core.Bool.{Bool, _&&_}
+use lib.ListN.{length, take, drop}
+use lib.Dec.{ltb, leb, eqb}
 use Rattle.base.specs.Choice.{pick}
 use Rattle.codec.specs.Codec.{valuesAt, frontSize, frontFields}
 use Rattle.printing.specs.Ascii.{ascii}
 use Rattle.printing.specs.Decimal.{numbersLine, Put}
 use Rattle.account.specs.declared.Account.{Account}
-use Rattle.book.specs.Call.{Call}
+use Rattle.book.specs.declared.State.{State}
+use Rattle.book.specs.State.{noRecordYet}
+use Rattle.book.specs.Run.{run}
+use Rattle.book.specs.Call.{Call, call}
+use Rattle.book.specs.Way.{Part}
 use Rattle.listing.specs.declared.Listed.{Listed}
 
 -- what is printed of the line record at the front: all its values but the first two, which are its length and its version
@@ -42,6 +47,42 @@ endText a =
     pick (eqb (a .stage) 2) closedWord
     (pick (eqb (a .stage) 3) (refusedWord ++ numbersLine (a .refusal .code ∷ a .refusal .accepted ∷ a .refusal .field ∷ []))
     unfinishedWord)
+
+-- ---- a whole book
+
+-- the text lines of line records, one after the other
+unfoldable pub textOf : List (List ℕ) → List ℕ
+textOf [] = []
+textOf (l ∷ ls) = numbersLine (lineNumbers l) ++ textOf ls
+
+-- what is printed for a run from a state: the text of each line that rule 2 gives, then the last word
+abbrev pub listingFrom : State → List ℕ → List ℕ
+listingFrom s xs = textOf (run s xs .lines) ++ endText (run s xs .state .account)
+
+-- what is printed for a book
+abbrev pub listingOf : List ℕ → List ℕ
+listingOf xs = listingFrom noRecordYet xs
+
+-- ---- a book in parts
+
+-- what calls print, one for each part: the text of each one's lines, and the last word by the state that they reach
+unfoldable pub printed : State → List ℕ → List Part → List ℕ
+printed s xs [] = endText (s .account)
+printed s xs (p ∷ ps) =
+    linesText (call s (take (p .offered) xs) (p .room) .bytes)
+    ++ printed (call s (take (p .offered) xs) (p .room) .state) (drop (call s (take (p .offered) xs) (p .room) .taken) xs) ps
+
+-- the lines' room where their text has n bytes: four for each of theirs
+abbrev pub lineRoom : ℕ → ℕ
+lineRoom n = pick (ltb n 65536) (n / 4) 16384
+
+-- more of the input is wanted while the book is open
+abbrev pub goesOn : Account → Bool
+goesOn a = ltb (a .stage) 2
+
+-- the last word, where everything was read and written and the buffer has room for any
+abbrev pub lastText : Account → Bool → Bool → ℕ → List ℕ
+lastText a read written room = pick ((read && written) && leb 72 room) (endText a) []
 
 -- r is what a call gives, with its lines as text at the front of the buffer
 pub record Lists (c : Call) (out out′ : List ℕ) (r : Listed) : Type 0 where

@@ -19,7 +19,7 @@ ghost use Rattle.codec.specs.Codec.{frontSize};
 ghost use Rattle.printing.specs.Decimal.{Put, numbersLine};
 ghost use Rattle.printing.specs.Said.{Said};
 ghost use Rattle.book.specs.Call.{call};
-ghost use Rattle.listing.specs.Listing.{lineNumbers, linesText, endText, Lists};
+ghost use Rattle.listing.specs.Listing.{lineNumbers, linesText, endText, lineRoom, goesOn, lastText, Lists};
 ghost use Rattle.listing.specs.Remarks.{isTyped, beginsTyped, looksTyped, whyText, hintText, remarkText, statusByte};
 
 // What one call over a part of a book makes: the new state, the bytes taken, and the bytes of text.
@@ -46,7 +46,7 @@ fn put_line(out: &mut [u8], at: usize, s: &[u8]) -> usize
 }
 
 // A text line per line record, from the start of out: at most four bytes for each byte of the lines.
-pub fn put_lines(out: &mut [u8], lines: &[u8]) -> usize
+fn put_lines(out: &mut [u8], lines: &[u8]) -> usize
     requires { ⌜ 4 * length (now lines) ≤ length (now out) ⌝ }
     ensures { λ r. ⌜ Put (now (out .entry)) (now (out .exit)) 0 (linesText (now (lines .entry))) r ⌝ }
 {
@@ -67,8 +67,8 @@ pub fn put_lines(out: &mut [u8], lines: &[u8]) -> usize
     at
 }
 
-// The last word.
-pub fn put_end(out: &mut [u8], at: usize, account: Account) -> usize
+// The word of the last line.
+fn put_end(out: &mut [u8], at: usize, account: Account) -> usize
     requires { ⌜ at + 72 ≤ length (now out) ⌝ }
     ensures { λ r. ⌜ Put (now (out .entry)) (now (out .exit)) at (endText account) r ⌝ }
 {
@@ -88,14 +88,13 @@ pub fn put_end(out: &mut [u8], at: usize, account: Account) -> usize
     put_numbers(out, end, &numbers)
 }
 
-// One call over a part of a book, its lines as text from the start of out.
-pub fn list(state: State, part: &[u8], out: &mut [u8]) -> Listed
-    requires { ⌜ 65536 ≤ length (now out) ⌝ }
-    ensures { λ r. ⌜ Lists (call state (now (part .entry)) 16384) (now (out .entry)) (now (out .exit)) r ⌝ }
+// One call over a part of a book with this line buffer, its lines as text from the start of out.
+fn list_by(state: State, part: &[u8], lines: &mut [u8], out: &mut [u8]) -> Listed
+    requires { ⌜ 4 * length (now lines) ≤ length (now out) ⌝ }
+    ensures { λ r. ⌜ Lists (call state (now (part .entry)) (length (now (lines .entry)))) (now (out .entry)) (now (out .exit)) r ⌝ }
     ensures { λ r. ⌜ r .taken ≤ length (now (part .entry)) ⌝ }
 {
-    let mut lines = [0u8; 16384];
-    let fed = state.feed(part, &mut lines);
+    let fed = state.feed(part, lines);
     let n = fed.written;
     let written = put_lines(out, &lines[..n]);
     let next = fed.state;
@@ -104,6 +103,44 @@ pub fn list(state: State, part: &[u8], out: &mut [u8]) -> Listed
         taken: fed.taken,
         written,
     }
+}
+
+// The lines' room in a call: their text takes at most four bytes for each of theirs.
+fn line_room(room: usize) -> usize
+    ensures { λ r. ⌜ r ≡ lineRoom room ⌝ }
+{
+    if room < 65536 {
+        return room / 4;
+    }
+    16384
+}
+
+// One call over a part of a book, its lines as text from the start of out.
+pub fn list(state: State, part: &[u8], out: &mut [u8]) -> Listed
+    ensures { λ r. ⌜ Lists (call state (now (part .entry)) (lineRoom (length (now (out .entry))))) (now (out .entry)) (now (out .exit)) r ⌝ }
+    ensures { λ r. ⌜ r .taken ≤ length (now (part .entry)) ⌝ }
+{
+    let mut lines = [0u8; 16384];
+    let n = line_room(out.len());
+    list_by(state, part, &mut lines[..n], out)
+}
+
+// Whether more of the input is wanted: behind the book's end nothing is.
+pub fn goes_on(account: Account) -> bool
+    ensures { λ r. ⌜ r ≡ goesOn account ⌝ }
+{
+    account.stage < 2
+}
+
+// The last word, from the start of out. Where a read or a write failed there is none: the book was not seen whole, or its lines were not; nor where
+// the buffer may be too short for it.
+pub fn put_last(out: &mut [u8], account: Account, read: bool, written: bool) -> usize
+    ensures { λ r. ⌜ Put (now (out .entry)) (now (out .exit)) 0 (lastText account read written (length (now (out .entry)))) r ⌝ }
+{
+    if read & written & (72 <= out.len()) {
+        return put_end(out, 0, account);
+    }
+    0
 }
 
 // A tab, a line's end, a printed character, or the first byte of a byte order mark.

@@ -4,6 +4,7 @@ mod cases;
 mod figures;
 mod lines;
 mod parts;
+mod programs;
 mod refusals;
 mod salvage;
 mod slips;

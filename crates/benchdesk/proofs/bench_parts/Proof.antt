@@ -1,29 +1,26 @@
+-- Calls one after the other. Assumes nothing.
 use Prim.Native.Nat.{_+_, _-_, _≤_}
-use lib.ListN.{length, drop, length-drop}
-use lib.Seq.{length-take-le}
+use lib.ListN.{length}
 use mathlib.Core.Path.{_≡_}
 use native.Mathlib.Omega.{arith}
 use borrow.Author.Needs.{needs}
+use Rattle.benchdesk.proofs.Calls.{Going, going-none, going-ends, taken-inside, written-inside, long-on, going-stops, going-on}
 use Rattle.benchdesk.proofs.bench_parts.Statement.{statement}
 use Rattle.benchdesk.proofs.bench_parts.Tie as tie
 
 abbrev Inv-loop : tie.InvT-loop
-Inv-loop book lines₀ part account₀ held₀ count₀ i₀ w₀ calls₀ lines account held count i w calls = (i ≤ length book) × (w ≤ length lines) × (length lines ≡ length lines₀)
+Inv-loop book lines₀ part account₀ held₀ count₀ i₀ w₀ calls₀ lines account held count i w calls =
+    Going book lines₀ part lines (record { account = account; held = held; count = count }) i w calls
 
 abbrev μ-loop : tie.MeasureT-loop
 μ-loop book lines₀ part account₀ held₀ count₀ i₀ w₀ calls₀ lines account held count i w calls = calls
 
--- what a call took and wrote lies in what was left
-ahead : (c : tie.After-feed-part Inv-loop μ-loop)
-    → (c .before .before .before .before .loop .i + c .feed-part .result .taken ≤ length (c .before .before .before .before .before .before .before .before .before .before .args .book .now)) × (c .before .before .before .before .loop .w + c .feed-part .result .written ≤ length (c .before .before .before .before .loop .lines))
-ahead c =
-    let l = c .before .before .before .before in
-    let book = c .before .before .before .before .before .before .before .before .before .before .args .book .now in
-    let d = length-drop (l .loop .i) book in
-    let t = length-take-le (length book - l .loop .i) (drop (l .loop .i) book) (omega arith) in
-    let e = length-drop (l .loop .w) (l .loop .lines) in
-    let u = length-take-le (length (l .loop .lines) - l .loop .w) (drop (l .loop .w) (l .loop .lines)) (omega arith) in
-    (omega (arith, c .feed-part .ensures .0), omega (arith, c .feed-part .ensures .1))
+-- the places of the loop's head and of the entry, from that after a call
+abbrev head : tie.After-feed-part Inv-loop μ-loop → tie.At-loop Inv-loop μ-loop
+head c = c .before .before .before .before
+
+abbrev entry : tie.After-feed-part Inv-loop μ-loop → tie.Start Inv-loop μ-loop
+entry c = head c .before .before .before .before .before .before
 
 pub bench-parts-spec : {M : Type 1} → statement M
 bench-parts-spec =
@@ -31,24 +28,42 @@ bench-parts-spec =
     (tie.spec
     Inv-loop
     μ-loop
-    (λ c κs. search needs)
+    (λ c κs. tt)
+    (λ c. going-none _ _ _ _ (c .before .before .new .ensures))
+    (λ c. search needs)
+    (λ c. c .before .loop .inv .inside)
     (λ c. search needs)
     (λ c. search needs)
+    (λ c. c .before .before .loop .inv .fits)
     (λ c. search needs)
     (λ c. search needs)
+    (λ c κs. tt)
+    (λ c.
+    let p = c .before .before .before .before .before .before in
+    let a = p .feed-part .ensures in
+    omega (arith, taken-inside (head p .loop .inv) (p .before .before .before .loop-test .taken) (a .0) (a .1 .0) (a .1 .1), entry p .good))
+    (λ c.
+    let p = c .before .before .before .before .before .before .before in
+    let a = p .feed-part .ensures in
+    let g = head p .loop .inv in
+    omega (arith, written-inside g (p .before .before .before .loop-test .taken) (a .0) (a .1 .0) (a .1 .1), g .long, entry p .good))
+    (λ c κs. tt)
+    (λ c κs. c .before .code-of .ensures .1)
+    (λ c.
+    let p = c .before .before .before .before .before .before .before .before .before .before in
+    let a = p .feed-part .ensures in
+    long-on (head p .loop .inv) (p .before .before .before .loop-test .taken) (a .0) (a .1 .0) (a .1 .1))
+    (λ c.
+    let p = c .before .before .before .before .before .before .before .before .before .before in
+    let a = p .feed-part .ensures in
+    going-stops (head p .loop .inv) (p .before .before .before .loop-test .taken) (a .0) (a .1 .0) (a .1 .1) _
+    (c .before .before .code-of .ensures .0) (c .before .if1 .taken) (c .number .ensures))
     (λ c. search needs)
-    (λ c. search needs)
-    (λ c. search needs)
-    (λ c. search needs)
-    (λ c κs. search needs)
-    (λ c. omega (arith, ahead (c .before .before .before .before .before .before) .0, c .before .before .before .before .before .before .before .before .before .before .before .before .before .before .before .before .good))
-    (λ c. omega (arith, ahead (c .before .before .before .before .before .before .before) .1, c .before .before .before .before .before .before .before .before .before .before .before .loop .inv .2, c .before .before .before .before .before .before .before .before .before .before .before .before .before .before .before .before .before .good))
-    (λ c κs. search needs)
-    (λ c κs. search needs)
-    (λ c. search (needs, c .before .before .before .before .before .before .before .before .before .before .before .before .before .before .loop .inv .2))
-    (λ c. search needs)
-    (λ c. search needs)
-    (λ c. let a = ahead (c .before .before .before .before .before .before .before .before .before) in search (needs, a .0, a .1, c .before .before .before .before .before .before .before .before .before .before .before .before .before .loop .inv .2))
-    (λ c κs. search needs)
-    (λ c. search needs)
-    (λ c. search needs))
+    (λ c.
+    let p = c .before .before .before .before .before .before .before .before .before in
+    let a = p .feed-part .ensures in
+    going-on (head p .loop .inv) (p .before .before .before .loop-test .taken) (a .0) (a .1 .0) (a .1 .1) _
+    (c .before .code-of .ensures .0) (c .if1 .left))
+    (λ c κs. omega arith)
+    (λ c. c .before .before .loop .inv .long)
+    (λ c. going-ends (c .before .before .loop .inv) (omega (arith, c .before .loop-test .left)) (c .number2 .ensures)))

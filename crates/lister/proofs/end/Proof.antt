@@ -10,11 +10,9 @@ pub end-spec : {M : Type 1} → statement M
 end-spec =
     tie.close
     (tie.spec
-    (λ c. search needs)
-    (λ c. search needs)
     (λ c κs. search needs)
     (λ c. search needs)
-    (λ c. let p = c .before .before .before .put-end .ensures in sym (length-take-le _ _ (omega (arith, p .room, put-length p))))
+    (λ c. let p = c .before .before .before .put-last .ensures in sym (length-take-le _ _ (omega (arith, p .room, put-length p))))
     (λ c κs. search needs)
     (λ c κs. search needs)
     (λ c. search needs)

@@ -1,10 +1,9 @@
-use Prim.Native.Nat.{ℕ}
-use mathlib.Core.Path.{sym}
-use native.Mathlib.Omega.{arith}
+-- A call with a line buffer whose text has room. Assumes nothing.
+use mathlib.Core.Path.{sym, _∙_}
 use borrow.Author.Needs.{needs}
-use lib.ListN.{length-take, replicate, length-replicate}
+use lib.ListN.{length}
 use lib.Seq.{length-take-le}
-use Rattle.listing.proofs.Lines.{lists}
+use Rattle.listing.proofs.Lines.{room-most, room-fits, lists-at}
 use Rattle.listing.proofs.list.Statement.{statement}
 use Rattle.listing.proofs.list.Tie as tie
 
@@ -12,15 +11,17 @@ pub list-spec : {M : Type 1} → statement M
 list-spec =
     tie.close
     (tie.spec
-    (λ c. search needs)
-    (λ c κs. search needs)
-    (λ c. search needs)
-    (λ c. sym (length-take-le _ _ (search needs)))
+    (λ c κs. tt)
+    (λ c. room-most (length (c .before .before .before .args .out .now)) _ (c .line-room .ensures))
+    (λ c. sym (length-take-le _ _ (room-most (length (c .before .before .before .before .args .out .now)) _ (c .before .line-room .ensures))))
     (λ c κs.
-    let f = c .before .before .before in
-    omega (arith, length-take (f .feed .result .written) (f .feed .last .1 .1 .0), f .feed .ensures .1 .1 .1, f .before .before .before .before .pre))
+    let r = c .before .before in
+    let n = length (r .before .before .before .args .out .now) in
+    room-fits n (r .line-room .result) _ (r .line-room .ensures) (length-take-le _ _ (room-most n _ (r .line-room .ensures))))
     (λ c. search needs)
     (λ c.
-    let p = c .before .before .before in
-    let f = p .before .before .before .before in
-    (lists _ _ (replicate 16384 0) (length-replicate {A = ℕ} 16384 0) (f .feed .ensures .0) (f .feed .ensures .1 .0) (p .put-lines .ensures), f .feed .ensures .1 .1 .0)))
+    let l = c .before .before .before in
+    let r = l .before .before .before in
+    let n = length (r .before .before .before .args .out .now) in
+    let e = length-take-le _ _ (room-most n _ (r .line-room .ensures)) ∙ r .line-room .ensures in
+    (lists-at _ _ _ _ e (l .list-by .ensures .0), l .list-by .ensures .1)))

@@ -1,5 +1,11 @@
+-- By the test. Assumes nothing.
+use Rattle.listing.proofs.Telling.{all-right, not-right}
 use Rattle.listing.proofs.status.Statement.{statement}
 use Rattle.listing.proofs.status.Tie as tie
 
 pub status-spec : {M : Type 1} → statement M
-status-spec = tie.close (tie.spec (λ c. rw (c .if1 .taken)) (λ c. rw (c .if1 .left)))
+status-spec =
+    tie.close
+    (tie.spec
+    (λ c. let a = c .before .before .args in all-right (a .account) (a .read) (a .written) (c .if1 .taken))
+    (λ c. let a = c .before .before .args in not-right (a .account) (a .read) (a .written) (c .if1 .left)))

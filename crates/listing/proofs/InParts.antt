@@ -1,0 +1,192 @@
+-- Theorem: however a book is cut into parts and whatever room its lines have, what the calls print together is the listing of the whole book.
+-- Assumes nothing.
+use Prim.Native.Nat.{ℕ, zero, suc, _%_, _+_, _≤_, _<_}
+use native.Mathlib.Omega.{arith}
+use mathlib.Core.Path.{_≡_, refl, sym, ap, _∙_}
+use mathlib.Core.Bool.{Bool, true, false, _&&_}
+use mathlib.Core.Logic.{_⊎_, inl, inr, ⊎-elim}
+use mathlib.Core.List.{List, [], _∷_, _++_, append-assoc, append-nil}
+use borrow.Author.Tests.{eqb-true}
+use lib.ListN.{length, getD, take, drop, length-append, List·getD-append}
+use lib.Seq.{drop-append-seam}
+use lib.Dec.{eqb, ltb, leb}
+use Rattle.base.specs.Choice.{pick}
+use Rattle.base.proofs.Tests.{of-choice}
+use Rattle.codec.specs.Table.{lineFields, totalFields, size, lineSize, totalSize, isTotal}
+use Rattle.codec.specs.Codec.{be, bytesOf, lineBytes, totalBytes, valuesAt, frontSize, frontFields}
+use Rattle.codec.proofs.Rows.{sizes}
+use Rattle.codec.proofs.Round.{line-length, total-length}
+use Rattle.codec.proofs.Values.{values-same}
+use Rattle.account.specs.declared.Account.{Account}
+use Rattle.account.specs.Sorts.{Sort, ofGroup, ofFarm, closes, sortOf}
+use Rattle.account.specs.Line.{subtotals, totalOf, joined}
+use Rattle.account.specs.Judge.{kindOf, valuesOf, first, refusals, Step, accepted, judge}
+use Rattle.account.proofs.Sorts.{by-sort, kind-most}
+use Rattle.book.specs.declared.State.{State}
+use Rattle.book.specs.Front.{Front, unfinished, badLength, whole, need, front}
+use Rattle.book.specs.State.{InRange, inRange, noRecordYet}
+use Rattle.book.specs.Run.{Run, byFront, bookBy, book, run, Outcome, outcome}
+use Rattle.book.specs.Call.{Call, call}
+use Rattle.book.specs.Way.{Part, way, Ended}
+use Rattle.promises.proofs.Headings.{kind-in}
+use Rattle.promises.proofs.RuleThree.{rule-three}
+use Rattle.promises.proofs.StaysInRange.{new-in-range}
+use Rattle.printing.specs.Decimal.{numbersLine}
+use Rattle.listing.specs.Listing.{lineNumbers, linesText, endText, textOf, listingFrom, listingOf, printed}
+use Rattle.listing.proofs.Lines.{size-least, text-none, text-some, size-total, numbers-total, size-detail, numbers-detail}
+
+-- ---- a line is as long as its kind says
+
+abbrev Whole : List ℕ → Type 0
+Whole l = frontSize l ≡ length l
+
+abbrev Wholes : List (List ℕ) → Type 0
+Wholes [] = Unit {0}
+Wholes (l ∷ ls) = Whole l × Wholes ls
+
+wholes-append : (ls ms : List (List ℕ)) → Wholes ls → Wholes ms → Wholes (ls ++ ms)
+wholes-append [] ms v w = w
+wholes-append (l ∷ ls) ms v w = (v .0, wholes-append ls ms (v .1) w)
+
+line-kind : (k g a b c d e : ℕ) → getD (lineBytes k g a b c d e) 3 0 ≡ k % 256
+unfolding lineBytes lineFields bytesOf be
+line-kind k g a b c d e = refl
+
+total-kind : (a b c d e f : ℕ) → getD (totalBytes a b c d e f) 3 0 ≡ 8
+unfolding totalBytes totalFields bytesOf be
+total-kind a b c d e f = refl
+
+line-whole : (k g a b c d e : ℕ) → k < 256 → (k ≡ 8 → ⊥) → Whole (lineBytes k g a b c d e)
+line-whole k g a b c d e h n =
+    size-detail (lineBytes k g a b c d e) (λ q. n (omega (arith, q, line-kind k g a b c d e))) ∙ sym (line-length k g a b c d e)
+
+total-whole : (a b c d e f : ℕ) → Whole (totalBytes a b c d e f)
+total-whole a b c d e f = size-total (totalBytes a b c d e f) (total-kind a b c d e f) ∙ sym (total-length a b c d e f)
+
+-- ---- the lines of a run are whole
+
+not-close : (k : ℕ) (s : Sort) → (s ≡ ofGroup) ⊎ (s ≡ ofFarm) → sortOf k ≡ s → k ≡ 8 → ⊥
+unfolding sortOf
+not-close k s e f q = ⊎-elim (λ (g : s ≡ ofGroup). no-sort (rw q at (f ∙ g))) (λ (g : s ≡ ofFarm). no-sort′ (rw q at (f ∙ g))) e
+  where
+    no-sort : closes ≡ ofGroup → ⊥
+    no-sort e = let z : _≡_ {A = ℕ} 0 1 = cc in absurd (omega arith)
+
+    no-sort′ : closes ≡ ofFarm → ⊥
+    no-sort′ e = let z : _≡_ {A = ℕ} 0 1 = cc in absurd (omega arith)
+
+subtotals-whole : (a : Account) → Wholes (subtotals a)
+subtotals-whole a =
+    of-choice Wholes (eqb (a .heading .group) 0) (λ e. tt) (λ e. (line-whole 16 _ _ _ _ _ _ (omega arith) (λ q. omega (arith, q)), tt))
+
+accepted-whole : (a : Account) (k : ℕ) (v : List ℕ) → leb 1 k && leb k 8 ≡ true → Wholes (accepted a k v .lines)
+unfolding accepted
+accepted-whole a k v h =
+    by-sort (λ (j : Step). Wholes (j .lines)) (sortOf k) (λ e. tt) (λ e. subtotals-whole a)
+    (λ e. (line-whole k _ _ _ _ _ _ (omega (arith, kind-most k h)) (not-close k ofGroup (inl refl) e), tt))
+    (λ e. (line-whole k _ _ _ _ _ _ (omega (arith, kind-most k h)) (not-close k ofFarm (inr refl) e), tt))
+    (λ e. wholes-append (subtotals a) (totalOf a ∷ []) (subtotals-whole a) (total-whole _ _ _ _ _ _, tt))
+
+judge-whole : (a : Account) (r : List ℕ) → Wholes (judge a r .lines)
+unfolding judge
+judge-whole a r =
+    of-choice (λ (j : Step). Wholes (j .lines)) (eqb (first (refusals a r)) 0)
+    (λ e. accepted-whole a (kindOf r) (valuesOf r) (kind-in a r (eqb-true _ _ e))) (λ e. tt)
+
+front-whole : (f : Front) (a : Account) (xs : List ℕ) (behind : Run) → Wholes (behind .lines) → Wholes (byFront f a xs behind .lines)
+front-whole unfinished a xs behind w = tt
+front-whole badLength a xs behind w = tt
+front-whole whole a xs behind w = wholes-append (judge a (take (need xs) xs) .lines) (behind .lines) (judge-whole a (take (need xs) xs)) w
+
+book-whole : (n : ℕ) (a : Account) (xs : List ℕ) → Wholes (bookBy n a xs .lines)
+unfolding bookBy
+book-whole zero a xs = tt
+book-whole (suc n) a xs =
+    of-choice (λ (r : Run). Wholes (r .lines)) (ltb (a .stage) 2)
+    (λ e. front-whole (front xs) a xs _ (book-whole n (judge a (take (need xs) xs) .account) (drop (need xs) xs))) (λ e. tt)
+
+run-whole : (s : State) (xs : List ℕ) → Wholes (run s xs .lines)
+unfolding run book
+run-whole s xs = book-whole _ (s .account) _
+
+-- ---- the text of whole lines, one behind the other
+
+module _ (l ys : List ℕ) (w : Whole l) where
+  front-byte : (k : ℕ) → k < frontSize l → getD (l ++ ys) k 0 ≡ getD l k 0
+  front-byte k h = List·getD-append l ys 0 k (omega (arith, w))
+
+  same-kind : getD (l ++ ys) 3 0 ≡ getD l 3 0
+  same-kind = front-byte 3 (omega (arith, size-least l))
+
+  same-size : frontSize (l ++ ys) ≡ length l
+  same-size = ap (λ (k : ℕ). pick (eqb k 8) totalSize lineSize) same-kind ∙ w
+
+  same-numbers : lineNumbers (l ++ ys) ≡ lineNumbers l
+  unfolding lineNumbers
+  same-numbers =
+      ap (λ (k : ℕ). drop 2 (valuesAt (pick (eqb k 8) totalFields lineFields) (l ++ ys) 0)) same-kind
+      ∙ ap (drop 2) (values-same (frontFields l) (l ++ ys) l 0 0 (λ k h. front-byte (0 + k) (omega (arith, h, fields-size (isTotal l)))))
+    where
+      fields-size : (b : Bool) → size (pick b totalFields lineFields) ≡ pick b totalSize lineSize
+      fields-size true = sizes .1
+      fields-size false = sizes .0
+
+  text-on : linesText (l ++ ys) ≡ numbersLine (lineNumbers l) ++ linesText ys
+  text-on =
+      text-some (l ++ ys) (rw same-size (omega (arith, length-append l ys)))
+      ∙ rw (same-numbers, same-size, drop-append-seam l ys) refl
+
+lines-on : (ls : List (List ℕ)) (ys : List ℕ) → Wholes ls → linesText (joined ls ++ ys) ≡ textOf ls ++ linesText ys
+unfolding textOf
+lines-on [] ys w = refl
+lines-on (l ∷ ls) ys w =
+    ap linesText (append-assoc l (joined ls) ys) ∙ text-on l (joined ls ++ ys) (w .0)
+    ∙ ap (λ (t : List ℕ). numbersLine (lineNumbers l) ++ t) (lines-on ls ys (w .1))
+    ∙ sym (append-assoc (numbersLine (lineNumbers l)) (textOf ls) (linesText ys))
+
+lines-all : (ls : List (List ℕ)) → Wholes ls → linesText (joined ls) ≡ textOf ls
+lines-all ls w =
+    ap linesText (sym (append-nil (joined ls))) ∙ lines-on ls [] w
+    ∙ ap (λ (t : List ℕ). textOf ls ++ t) (text-none [] (omega (arith, size-least []))) ∙ append-nil (textOf ls)
+
+-- ---- calls
+
+-- the bytes of a call are whole lines
+record OfLines (xs : List ℕ) : Type 0 where
+  lines : List (List ℕ)
+  joins : xs ≡ joined lines
+  wholes : Wholes lines
+
+call-lines : (s : State) (xs : List ℕ) (room : ℕ) → OfLines (call s xs room .bytes)
+unfolding call
+call-lines s xs room =
+    of-choice (λ (c : Call). OfLines (c .bytes)) (inRange s)
+    (λ e. record { lines = run s _ .lines; joins = refl; wholes = run-whole s _ }) (λ e. record { lines = []; joins = refl; wholes = tt })
+
+texts-on : (xs ys : List ℕ) → OfLines xs → linesText (xs ++ ys) ≡ linesText xs ++ linesText ys
+texts-on xs ys o =
+    rw (o .joins) (lines-on (o .lines) ys (o .wholes) ∙ ap (λ (t : List ℕ). t ++ linesText ys) (sym (lines-all (o .lines) (o .wholes))))
+
+-- what the calls print is the text of all their lines, and the last word
+printed-way : (s : State) (xs : List ℕ) (ps : List Part) → printed s xs ps ≡ linesText (way s xs ps .bytes) ++ endText (way s xs ps .state .account)
+unfolding printed way
+printed-way s xs [] = rw (text-none [] (omega (arith, size-least []))) refl
+printed-way s xs (p ∷ ps) =
+    let c = call s (take (p .offered) xs) (p .room) in
+    let o = way (c .state) (drop (c .taken) xs) ps in
+    ap (λ (t : List ℕ). linesText (c .bytes) ++ t) (printed-way (c .state) (drop (c .taken) xs) ps)
+    ∙ sym (append-assoc (linesText (c .bytes)) (linesText (o .bytes)) (endText (o .state .account)))
+    ∙ ap (λ (t : List ℕ). t ++ endText (o .state .account)) (sym (texts-on (c .bytes) (o .bytes) (call-lines s _ _)))
+
+-- ---- the theorems
+
+-- A series of calls from a state in range that is at its end prints what is printed for the uncut run.
+pub printed-in-parts : (s : State) (xs : List ℕ) (ps : List Part) → InRange s → Ended (way s xs ps) → printed s xs ps ≡ listingFrom s xs
+printed-in-parts s xs ps v e =
+    printed-way s xs ps
+    ∙ ap (λ (o : Outcome). linesText (o .bytes) ++ endText (o .state .account)) (rule-three s xs ps v e)
+    ∙ ap (λ (t : List ℕ). t ++ endText (run s xs .state .account)) (lines-all (run s xs .lines) (run-whole s xs))
+
+-- However a book is cut, the parts put together print its listing.
+pub listed-in-parts : (xs : List ℕ) (ps : List Part) → Ended (way noRecordYet xs ps) → printed noRecordYet xs ps ≡ listingOf xs
+listed-in-parts xs ps e = printed-in-parts noRecordYet xs ps new-in-range e

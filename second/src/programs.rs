@@ -1,0 +1,114 @@
+//! What the programs lister and retype make of a whole book, and books to try them on.
+
+use crate::books::closed_run;
+use crate::desk::{long_book, many_groups, some_book};
+use crate::dice::Dice;
+use crate::feed::{feed, Answer};
+use crate::lister::list;
+use crate::record::{number, values_of};
+use crate::state::{State, MOST_RECORDS};
+use crate::texts::text;
+use crate::words::kind_name;
+
+/// A number and its sentence a line, as C is told them.
+const SENTENCES: &str = include_str!("../../host/words.txt");
+
+const HINT: &str = "this looks like a typed book: bin/writer makes a book of it\n";
+
+/// Standard output, standard error, and whether the exit status is 0.
+pub struct Told {
+    pub printed: String,
+    pub said: String,
+    pub right: bool,
+}
+
+fn sentence(code: u8) -> &'static str {
+    let number = format!("{code} ");
+    let line = SENTENCES.lines().find_map(|line| line.strip_prefix(&number));
+    line.expect("every number has its sentence")
+}
+
+/// A book is closed by its close alone: bytes after it are ignored.
+pub fn listed(book: &[u8]) -> Told {
+    let answer = read(&State::default(), book).answer;
+    let said = match answer {
+        Answer::Refused(r) => {
+            let typed = r.code == 1 && r.record == 0 && book.first().is_some_and(begins_text);
+            let hint = if typed { HINT } else { "" };
+            format!("refused {}: {}\n{hint}", r.code, sentence(r.code))
+        }
+        _ => String::new(),
+    };
+    Told { printed: list(book), said, right: answer == Answer::Closed }
+}
+
+/// Printed characters, blanks, line ends, and the first byte of a byte order mark.
+fn begins_text(byte: &u8) -> bool {
+    matches!(byte, b'\t' | b'\n' | b'\r' | b' '..=b'~' | 0xef)
+}
+
+/// The line to type for each record up to the first that is refused; the last word is said, to a person.
+pub fn retyped(book: &[u8]) -> Told {
+    let mut told = Told { printed: String::new(), said: String::new(), right: false };
+    let mut state = State::default();
+    let mut rest = book;
+    loop {
+        let record = first_record(rest);
+        let reply = read(&state, record);
+        (state, rest) = (reply.state, &rest[reply.taken..]);
+        match reply.answer {
+            Answer::Refused(r) => {
+                let why = sentence(r.code);
+                told.said = format!("refused {} {} {}: {why}\n", r.code, r.record, r.field);
+                return told;
+            }
+            _ if record.is_empty() || state.held_count > 0 => {
+                told.said = "unfinished\n".to_string();
+                return told;
+            }
+            Answer::Closed => {
+                told.printed += &typed_line(record);
+                told.right = rest.is_empty();
+                if !told.right {
+                    told.said = format!("{}\n", sentence(18));
+                }
+                return told;
+            }
+            _ => told.printed += &typed_line(record),
+        }
+    }
+}
+
+fn read(state: &State, bytes: &[u8]) -> crate::feed::Reply {
+    feed(state, bytes, 54 * usize::from(MOST_RECORDS))
+}
+
+/// As many bytes as the first two say, or all where they are not there.
+fn first_record(bytes: &[u8]) -> &[u8] {
+    let size = bytes.get(..2).map_or(2, |length| 2 + number(length) as usize);
+    &bytes[..size.min(bytes.len())]
+}
+
+/// The kind's name and its values in the book's units.
+fn typed_line(record: &[u8]) -> String {
+    let mut line = kind_name(u64::from(record[3])).to_string();
+    for value in values_of(record[3], record) {
+        line += &format!(" {value}");
+    }
+    line + "\n"
+}
+
+/// The book of this seed and index: short ones of every sort, one refused by each number, long ones with and without bytes behind them, typed texts.
+pub fn book(seed: u64, index: u64) -> Vec<u8> {
+    let mut dice = Dice::of_case(seed, index);
+    match index {
+        15 => long_book(4_094),
+        16 => long_book(4_095),
+        17 => many_groups(4_094),
+        18 => closed_run(&mut dice, &State::default(), 4_000),
+        19 => [closed_run(&mut dice, &State::default(), 4_000), vec![0; 120_000]].concat(),
+        20 => long_book(4_094)[..20_000].to_vec(),
+        21..=24 => text(seed, index),
+        _ => some_book(&mut dice, index),
+    }
+}

@@ -1,0 +1,45 @@
+//! What the lister and retype print and say of the sample, of nothing, of a typed text, and of a book with bytes behind it.
+
+use crate::plain::sample;
+use crate::programs::{listed, retyped};
+
+const SAMPLE_TYPED: &str = "farm 7 2010 1
+heading 12 1 40
+enteric 31 30000 650
+energy 1 125 70000
+enteric 28 30000 650
+close 5
+";
+
+#[test]
+fn the_sample_is_typed_as_its_records_are() {
+    let told = retyped(&sample());
+    assert_eq!((told.printed.as_str(), told.said.as_str(), told.right), (SAMPLE_TYPED, "", true));
+    let told = listed(&sample());
+    assert!(told.printed.ends_with("closed\n") && told.said.is_empty() && told.right);
+}
+
+#[test]
+fn bytes_behind_the_close_are_told_by_retype_alone() {
+    let book = [sample(), vec![0]].concat();
+    let told = retyped(&book);
+    assert_eq!((told.said.as_str(), told.right), ("bytes stand behind the close\n", false));
+    assert!(listed(&book).right);
+}
+
+#[test]
+fn a_typed_text_is_refused_with_a_hint() {
+    let told = listed(SAMPLE_TYPED.as_bytes());
+    assert_eq!(told.printed, "refused 1 0 0\n");
+    assert!(told.said.ends_with("bin/writer makes a book of it\n") && !told.right);
+    let told = retyped(SAMPLE_TYPED.as_bytes());
+    assert_eq!(told.said, "refused 1 0 0: a length that no record has: it is 4 to 26\n");
+}
+
+#[test]
+fn no_bytes_and_half_a_record_are_unfinished() {
+    for book in [&sample()[..0], &sample()[..1], &sample()[..15]] {
+        assert_eq!(retyped(book).said, "unfinished\n");
+        assert_eq!(listed(book).printed, "unfinished\n");
+    }
+}
