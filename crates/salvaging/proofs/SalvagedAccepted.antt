@@ -119,7 +119,8 @@ saved-so f bookRoom listRoom l =
     go : (b : Bool) → farmAmong (f .kept) ≡ b → (b′ : Bool)
         → pick (not b) (refusing 19) (pick b′ (refusing 16) (saving (bookOf (f .kept)) (listOf (f .dropped)))) .answer ≡ Saved l
         → (b ≡ true)
-        × (pick (not b) (refusing 19) (pick b′ (refusing 16) (saving (bookOf (f .kept)) (listOf (f .dropped)))) ≡ saving (bookOf (f .kept)) (listOf (f .dropped)))
+        × (pick (not b) (refusing 19) (pick b′ (refusing 16) (saving (bookOf (f .kept)) (listOf (f .dropped))))
+        ≡ saving (bookOf (f .kept)) (listOf (f .dropped)))
     go true e true x = let z : _≡_ {A = ℕ} 0 1 = cc in absurd (omega arith)
     go true e false x = (refl, refl)
     go false e b′ x = let z : _≡_ {A = ℕ} 0 1 = cc in absurd (omega arith)
