@@ -18,7 +18,7 @@ use Rattle.account.specs.Range.{AccountInRange}
 use Rattle.account.specs.Sorts.{opens, heads, ofGroup, ofFarm, closes, sortOf}
 use Rattle.account.specs.Judge.{versionOf, kindOf, valuesOf, closed, headingServes, inPlace, first, refusals, Step, accepted, judge}
 use Rattle.account.proofs.Sorts.{by-sort}
-use Rattle.account.proofs.First.{Clear, first-clear}
+use Rattle.account.proofs.Refusals.{not-refused}
 use Rattle.account.proofs.Keeps.{in-range-judge}
 use Rattle.salvaging.specs.declared.Reading.{Reading}
 use Rattle.salvaging.specs.Salvage.{wouldGet, oneOf, ofGroupKind, drops, droppedBy, ends, after}
@@ -68,27 +68,21 @@ code-is a r f h =
     of-choice (λ (j : Step). j .account .refusal .code ≡ wouldGet a r) (eqb (wouldGet a r) 0)
     (λ e. grown a (kindOf r) (valuesOf r) .refusal ∙ f .unrefused (λ z. omega arith) .code ∙ sym (eqb-true _ _ e)) (λ e. refl)
 
--- where it is 0, no refusal's test holds
-clear : (a : Account) (r : List ℕ) → wouldGet a r ≡ 0 → Clear (refusals a r)
-clear a r =
-    first-clear (refusals a r)
-    (omega arith, (omega arith, (omega arith, (omega arith, (omega arith, (omega arith, (omega arith, (omega arith, (omega arith, (omega arith, (omega arith, tt)))))))))))
-
 pub below-4096 : (a : Account) (r : List ℕ) → wouldGet a r ≡ 0 → a .records < 4096
-below-4096 a r e = leb-false _ _ (clear a r e .1 .1 .1 .0 (omega arith))
+below-4096 a r e = leb-false _ _ (not-refused a r e .values .room)
 
 -- a close has the right count
 pub right-count : (a : Account) (r : List ℕ) → wouldGet a r ≡ 0 → kindOf r ≡ 8 → getD (valuesOf r) 0 0 ≡ a .records
 right-count a r e k =
-    let t = clear a r e .1 .1 .1 .1 .1 .1 .1 .1 .1 .1 .0 (omega arith) in
+    let t = not-refused a r e .values .count in
     eqb-true _ _ (not-false _ (and-no (eqb (kindOf r) 8) (not (eqb (getD (valuesOf r) 0 0) (a .records))) t (eq-eqb _ _ k)))
 
 -- version and length are right
 pub right-version : (a : Account) (r : List ℕ) → wouldGet a r ≡ 0 → versionOf r ≡ 1
-right-version a r e = eqb-true _ _ (not-false _ (clear a r e .0 (omega arith)))
+right-version a r e = eqb-true _ _ (not-false _ (not-refused a r e .version))
 
 pub right-size : (a : Account) (r : List ℕ) → wouldGet a r ≡ 0 → valAt r 0 2 ≡ lengthOf (kindOf r)
-right-size a r e = eqb-true _ _ (not-false _ (clear a r e .1 .1 .0 (omega arith)))
+right-size a r e = eqb-true _ _ (not-false _ (not-refused a r e .long))
 
 -- where it is not 0, the book is refused
 pub refuses : (a : Account) (r : List ℕ) → (wouldGet a r ≡ 0 → ⊥) → judge a r .account .stage ≡ 3
@@ -103,7 +97,7 @@ closes-book a r e k = rw (accepts a r e, k)
 -- the first record is a farm record
 pub first-farm : (a : Account) (r : List ℕ) → wouldGet a r ≡ 0 → a .records ≡ 0 → kindOf r ≡ 1
 unfolding inPlace
-first-farm a r e z = go (eqb (kindOf r) 1) refl (not-false _ (clear a r e .1 .1 .1 .1 .0 (omega arith)))
+first-farm a r e z = go (eqb (kindOf r) 1) refl (not-false _ (not-refused a r e .values .place))
   where
     go : (b : Bool) → eqb (kindOf r) 1 ≡ b
         → pick b (eqb (a .records) 0) (headingServes (a .heading .class) (kindOf r) && not (eqb (a .records) 0)) ≡ true → kindOf r ≡ 1
