@@ -23,6 +23,7 @@ mod states;
 mod texts;
 mod trial;
 mod typed;
+mod why;
 mod words;
 mod writer;
 mod writes;
@@ -45,6 +46,8 @@ const USAGE: &str = "usage:
   second book SEED INDEX             a book by chance
   second listed                      reads a book, prints and says what the lister does
   second retyped                     reads a book, prints and says what retype does
+  second why                         reads a book, says why it is refused
+  second doubtful SEED INDEX         a book by chance to ask that of
 ";
 
 fn main() {
@@ -64,6 +67,8 @@ fn main() {
         ["book", seed, index] => some_book(seed, index),
         ["listed"] => tell(programs::listed),
         ["retyped"] => tell(programs::retyped),
+        ["why"] => say_why(),
+        ["doubtful", seed, index] => some_doubtful(seed, index),
         _ => Err(USAGE.to_string()),
     };
     if let Err(fault) = done {
@@ -183,4 +188,20 @@ fn tell(program: fn(&[u8]) -> programs::Told) -> Result<(), String> {
         std::process::exit(1);
     }
     Ok(())
+}
+
+fn say_why() -> Result<(), String> {
+    let mut book = Vec::new();
+    io::stdin().read_to_end(&mut book).map_err(|e| e.to_string())?;
+    let (said, accepted) = why::why(&book);
+    write_bytes(said.as_bytes())?;
+    if !accepted {
+        std::process::exit(1);
+    }
+    Ok(())
+}
+
+fn some_doubtful(seed: &str, index: &str) -> Result<(), String> {
+    let (seed, index) = (whole_number(seed)?, whole_number(index)?);
+    write_bytes(&why::doubtful(seed, index))
 }

@@ -35,7 +35,7 @@ pub fn listed(book: &[u8]) -> Told {
         Answer::Refused(r) => {
             let typed = r.code == 1 && r.record == 0 && book.first().is_some_and(begins_text);
             let hint = if typed { HINT } else { "" };
-            format!("refused {}: {}\n{hint}", r.code, sentence(r.code))
+            format!("refused {}: {}; bin/why tells more\n{hint}", r.code, sentence(r.code))
         }
         _ => String::new(),
     };

@@ -4,6 +4,7 @@ pub mod First
 pub mod Ranges
 pub mod Told
 pub mod Refusals
+pub mod Compares
 pub mod Written
 pub mod Clauses
 mod Shortcuts

@@ -3,4 +3,5 @@ pub mod Figures
 pub mod Line
 pub mod Range
 pub mod Judge
+pub mod Compared
 pub mod Told

@@ -21,7 +21,8 @@ use Rattle.account.specs.declared.Account.{Account}
 use Rattle.account.specs.Sorts.{Sort, ofGroup, ofFarm, closes, sortOf}
 use Rattle.account.specs.Line.{subtotals, totalOf, joined}
 use Rattle.account.specs.Judge.{kindOf, valuesOf, first, refusals, Step, accepted, judge}
-use Rattle.account.proofs.Sorts.{by-sort, kind-most}
+use Rattle.codec.proofs.EachKind.{kind-most}
+use Rattle.account.proofs.Sorts.{by-sort}
 use Rattle.book.specs.declared.State.{State}
 use Rattle.book.specs.Front.{Front, unfinished, badLength, whole, need, front}
 use Rattle.book.specs.State.{InRange, inRange, noRecordYet}

@@ -22,10 +22,11 @@ beginsTyped (b ∷ bs) = isTyped b
 abbrev pub looksTyped : Account → Bool → Bool
 looksTyped a begins = ((eqb (a .stage) 3 && eqb (a .refusal .code) 1) && eqb (a .refusal .accepted) 0) && begins
 
--- a refusal's number with its sentence
+-- a refusal's number with its sentence, and who knows more
 unfoldable pub whyText : Account → List ℕ
 whyText a =
-    pick (eqb (a .stage) 3) (ascii "refused " ++ (decimal (a .refusal .code) ++ (ascii ": " ++ (sentence (a .refusal .code) ++ ascii "\n")))) []
+    pick (eqb (a .stage) 3) (ascii "refused " ++ (decimal (a .refusal .code) ++ (ascii ": " ++ (sentence (a .refusal .code) ++ ascii "; bin/why tells more\n"))))
+    []
 
 abbrev pub hintText : Account → Bool → List ℕ
 hintText a begins = pick (looksTyped a begins) (ascii "this looks like a typed book: bin/writer makes a book of it\n") []

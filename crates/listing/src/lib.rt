@@ -181,7 +181,7 @@ fn say_why(out: &mut [u8], account: Account) -> usize
     let number = say_number(out, word, code);
     let colon = say(out, number, b": ");
     let sentence = names::say_sentence(out, colon, code);
-    say(out, sentence, b"\n")
+    say(out, sentence, b"; bin/why tells more\n")
 }
 
 fn say_hint(out: &mut [u8], at: usize, account: Account, begins: bool) -> usize

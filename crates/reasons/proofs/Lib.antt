@@ -1,0 +1,7 @@
+pub mod Limits
+pub mod FaultLaws
+pub mod ValueLaws
+pub mod RecordLists
+pub mod WayLaws
+pub mod Truths
+mod Witnesses

@@ -1,0 +1,115 @@
+-- Books of which each sort of answer is given: computed from the definitions. 5 wants 4,096 records, and is tried with the program alone.
+-- Assumes nothing.
+use Prim.Native.Nat.{ℕ}
+use mathlib.Core.Path.{_≡_, refl}
+use mathlib.Core.List.{List, [], _∷_, _++_}
+use mathlib.Core.Bool.{Bool, true, false}
+use Rattle.codec.specs.Table.{table, size}
+use Rattle.codec.specs.Codec.{valAt, valuesAt, firstBad}
+use Rattle.grams.specs.Cattle.{belowZero}
+use Rattle.account.specs.Sorts.{sortOf}
+use Rattle.account.specs.Line.{joined}
+use Rattle.account.specs.Judge.{inPlace, first, accepted, judge}
+use Rattle.account.specs.Compared.{valuesCompared, compared}
+use Rattle.book.specs.Front.{front}
+use Rattle.book.specs.WholeRecords.{recordsBy, recordsOf}
+use Rattle.book.specs.Run.{bookBy, book, run}
+use Rattle.reasons.specs.declared.Verdict.{Verdict}
+use Rattle.reasons.specs.declared.Verdict.the-variants.{Accepted, Missing, NextLength, Refused}
+use Rattle.reasons.specs.Why.{whyBy, whyOf}
+
+abbrev farm : List ℕ
+farm = 0 ∷ 9 ∷ 1 ∷ 1 ∷ 0 ∷ 0 ∷ 0 ∷ 7 ∷ 7 ∷ 218 ∷ 1 ∷ []
+
+-- a heading of that version, kind byte, group and class
+abbrev heading : ℕ → ℕ → ℕ → ℕ → List ℕ
+heading version kind group class = 0 ∷ 7 ∷ version ∷ kind ∷ 0 ∷ group ∷ class ∷ 0 ∷ 40 ∷ []
+
+-- a ration of so many days
+abbrev ration : ℕ → List ℕ
+ration days = 0 ∷ 10 ∷ 1 ∷ 3 ∷ 0 ∷ days ∷ 0 ∷ 0 ∷ 117 ∷ 48 ∷ 2 ∷ 138 ∷ []
+
+abbrev close : ℕ → List ℕ
+close count = 0 ∷ 4 ∷ 1 ∷ 8 ∷ 0 ∷ count ∷ []
+
+-- a heading, and a book that begins with a farm and a heading
+abbrev headed : List (List ℕ) → List ℕ
+headed rs = joined (farm ∷ heading 1 2 12 1 ∷ rs)
+
+-- refused by that number, in the record with that number, whose bytes and field are those, of that kind, comparing those numbers
+abbrev told : ℕ → ℕ → ℕ → ℕ → ℕ → ℕ → ℕ → ℕ → Verdict
+told code number from to field kind value limit =
+    Refused (record { code = code; number = number; first = from; last = to; field = field; kind = kind; some = true; value = value; limit = limit })
+
+pub right-accepted : whyOf (joined (farm ∷ close 1 ∷ [])) ≡ Accepted
+unfolding whyOf whyBy run book bookBy front valAt first judge accepted sortOf table size valuesAt firstBad inPlace
+right-accepted = refl
+
+pub cut-missing : whyOf (farm ++ (0 ∷ 4 ∷ 1 ∷ [])) ≡ Missing 3
+unfolding whyOf whyBy run book bookBy front valAt first judge accepted sortOf table size valuesAt firstBad inPlace
+cut-missing = refl
+
+pub cut-length : (whyOf farm ≡ NextLength) × (whyOf (farm ++ (0 ∷ [])) ≡ NextLength) × (whyOf [] ≡ NextLength)
+unfolding whyOf whyBy run book bookBy front valAt first judge accepted sortOf table size valuesAt firstBad inPlace
+cut-length = (refl, refl, refl)
+
+pub broken-1 : (whyOf (farm ++ (0 ∷ 3 ∷ [])) ≡ told 1 1 11 12 0 0 3 4) × (whyOf (farm ++ (0 ∷ 27 ∷ 5 ∷ [])) ≡ told 1 1 11 12 0 0 27 26)
+unfolding whyOf whyBy run book bookBy front valAt first judge accepted sortOf table size valuesAt firstBad inPlace recordsOf recordsBy compared
+broken-1 = (refl, refl)
+
+pub broken-2 : whyOf (joined (farm ∷ heading 3 2 12 1 ∷ [])) ≡ told 2 1 11 19 0 2 3 1
+unfolding whyOf whyBy run book bookBy front valAt first judge accepted sortOf table size valuesAt firstBad inPlace recordsOf recordsBy compared
+broken-2 = refl
+
+pub broken-3 : (whyOf (joined (farm ∷ heading 1 0 12 1 ∷ [])) ≡ told 3 1 11 19 0 0 0 1) × (whyOf (joined (farm ∷ heading 1 9 12 1 ∷ [])) ≡ told 3 1 11 19 0 9 9 8)
+unfolding whyOf whyBy run book bookBy front valAt first judge accepted sortOf table size valuesAt firstBad inPlace recordsOf recordsBy compared
+broken-3 = (refl, refl)
+
+pub broken-4 : whyOf (joined (farm ∷ heading 1 3 12 1 ∷ [])) ≡ told 4 1 11 19 0 3 7 10
+unfolding whyOf whyBy run book bookBy front valAt first judge accepted sortOf table size valuesAt firstBad inPlace recordsOf recordsBy compared
+broken-4 = refl
+
+-- the lower and the upper end of the days
+pub broken-7 : (whyOf (headed (ration 0 ∷ [])) ≡ told 7 2 20 31 1 3 0 1)
+    × (whyOf (joined (farm ∷ heading 1 2 12 9 ∷ [])) ≡ told 7 1 11 19 2 2 9 4)
+unfolding whyOf whyBy run book bookBy front valAt first judge accepted sortOf table size valuesAt firstBad inPlace recordsOf recordsBy compared
+    valuesCompared
+broken-7 = (refl, refl)
+
+pub broken-8 : whyOf (headed (heading 1 2 12 1 ∷ [])) ≡ told 8 2 20 28 0 2 12 12
+unfolding whyOf whyBy run book bookBy front valAt first judge accepted sortOf table size valuesAt firstBad inPlace recordsOf recordsBy compared
+    valuesCompared
+broken-8 = refl
+
+pub broken-9 : whyOf (headed (ration 200 ∷ ration 167 ∷ [])) ≡ told 9 3 32 43 0 3 367 366
+unfolding whyOf whyBy run book bookBy front valAt first judge accepted sortOf table size valuesAt firstBad inPlace recordsOf recordsBy compared
+    valuesCompared
+broken-9 = refl
+
+pub broken-12 : whyOf (headed (close 5 ∷ [])) ≡ told 12 2 20 25 0 8 5 2
+unfolding whyOf whyBy run book bookBy front valAt first judge accepted sortOf table size valuesAt firstBad inPlace recordsOf recordsBy compared
+    valuesCompared
+broken-12 = refl
+
+-- no numbers: out of its place
+pub broken-6 : whyOf (joined (farm ∷ ration 31 ∷ []))
+    ≡ Refused (record { code = 6; number = 1; first = 11; last = 22; field = 0; kind = 3; some = false; value = 0; limit = 0 })
+unfolding whyOf whyBy run book bookBy front valAt first judge accepted sortOf table size valuesAt firstBad inPlace recordsOf recordsBy compared
+    valuesCompared
+broken-6 = refl
+
+-- cattle nitrogen: days, feed, protein, milk, milk protein, gain (two bytes each), then the shares
+abbrev cattle : ℕ → ℕ → List ℕ
+cattle gain solid =
+    0 ∷ 20 ∷ 1 ∷ 4 ∷ 0 ∷ 30 ∷ 0 ∷ 0 ∷ 0 ∷ 0 ∷ 0 ∷ 0 ∷ 0 ∷ 0 ∷ 0 ∷ gain ∷ 0 ∷ solid ∷ 39 ∷ 15 ∷ 0 ∷ 0 ∷ []
+
+pub broken-10 : whyOf (headed (cattle 0 2 ∷ [])) ≡ told 10 2 20 41 0 4 10001 10000
+unfolding whyOf whyBy run book bookBy front valAt first judge accepted sortOf table size valuesAt firstBad inPlace recordsOf recordsBy compared
+    valuesCompared
+broken-10 = refl
+
+pub broken-11 : whyOf (headed (cattle 1 1 ∷ []))
+    ≡ Refused (record { code = 11; number = 2; first = 20; last = 41; field = 0; kind = 4; some = false; value = 0; limit = 0 })
+unfolding whyOf whyBy run book bookBy front valAt first judge accepted sortOf table size valuesAt firstBad inPlace recordsOf recordsBy compared
+    valuesCompared belowZero
+broken-11 = refl

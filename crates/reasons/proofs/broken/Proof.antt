@@ -1,0 +1,14 @@
+use native.Mathlib.Omega.{arith}
+use borrow.Author.Needs.{needs}
+use Rattle.reasons.proofs.broken.Statement.{statement}
+use Rattle.reasons.proofs.broken.Tie as tie
+
+pub broken-spec : {M : Type 1} → statement M
+broken-spec =
+    tie.close
+    (tie.spec
+    (λ c κs. search needs)
+    (λ c. search needs)
+    (λ c. let w = c .before .before .pre .0 .whole in omega (arith, w .long, w .low))
+    (λ c. let w = c .before .before .before .pre .0 .whole in omega (arith, w .long, w .low))
+    (λ c. rw (c .before .compared .ensures)))

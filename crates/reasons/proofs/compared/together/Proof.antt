@@ -1,0 +1,39 @@
+use native.Mathlib.Omega.{arith}
+use borrow.Author.Needs.{needs}
+use Rattle.account.specs.Judge.{valuesOf}
+use Rattle.reasons.proofs.ValueLaws.{shares-small, parts-small, shares-told, parts-told, other-part}
+use Rattle.reasons.proofs.compared.together.Statement.{statement}
+use Rattle.reasons.proofs.compared.together.Tie as tie
+
+pub together-spec : {M : Type 1} → statement M
+together-spec =
+    tie.close
+    (tie.spec
+    (λ c κs. search needs)
+    (λ c κs. search needs)
+    (λ c.
+    let s = c .before .before .before .before in
+    let m = shares-small (valuesOf (s .args .r .now)) (c .before .before .if1 .taken) (s .pre .2) in
+    omega (arith, c .value-at2 .ensures, c .before .value-at .ensures, m .0, m .1))
+    (λ c κs. search needs)
+    (λ c.
+    let s = c .before .before .before .before .before in
+    let m = shares-small (valuesOf (s .args .r .now)) (c .before .before .before .if1 .taken) (s .pre .2) in
+    omega (arith, c .value-at3 .ensures, c .before .value-at2 .ensures, c .before .before .value-at .ensures, m .0, m .1, m .2))
+    (λ c κs. tt)
+    (λ c.
+    let v = c .before in
+    let s = v .before .before .before .before .before in
+    shares-told (valuesOf (s .args .r .now)) (v .before .before .before .if1 .taken) (v .before .before .value-at .ensures) (v .before .value-at2 .ensures) (v .value-at3 .ensures)
+    (c .both .ensures))
+    (λ c κs. search needs)
+    (λ c κs. search needs)
+    (λ c.
+    let s = c .before .before .before .before in
+    let m = parts-small (valuesOf (s .args .r .now)) (other-part (s .pre .3) (c .before .before .if1 .left)) (s .pre .2) in
+    omega (arith, c .value-at5 .ensures, c .before .value-at4 .ensures, m .0, m .1))
+    (λ c κs. tt)
+    (λ c.
+    let v = c .before in
+    let s = v .before .before .before .before in
+    parts-told (valuesOf (s .args .r .now)) (v .before .before .if1 .left) (v .before .value-at4 .ensures) (v .value-at5 .ensures) (c .both2 .ensures)))

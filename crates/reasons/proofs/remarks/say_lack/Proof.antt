@@ -1,0 +1,24 @@
+use borrow.Author.Needs.{needs}
+use Rattle.printing.proofs.Sayings.{_⟫_}
+use Rattle.reasons.specs.Remarks.{lackText}
+use Rattle.reasons.proofs.remarks.say_lack.Statement.{statement}
+use Rattle.reasons.proofs.remarks.say_lack.Tie as tie
+
+pub say-lack-spec : {M : Type 1} → statement M
+unfolding lackText
+say-lack-spec =
+    tie.close
+    (tie.spec
+    (λ c. search needs)
+    (λ c κs. search needs)
+    (λ c κs. search needs)
+    (λ c. search needs)
+    (λ c κs. search needs)
+    (λ c. (
+    c .before .before .before .before .before .before .before .before .before .before .before .say .ensures
+    ⟫ c .before .before .before .before .before .before .before .say-number .ensures
+    ⟫ c .before .before .say2 .ensures) .long)
+    (λ c.
+    c .before .before .before .before .before .before .before .before .before .before .before .say .ensures
+    ⟫ c .before .before .before .before .before .before .before .say-number .ensures
+    ⟫ c .before .before .say2 .ensures))

@@ -1,0 +1,10 @@
+use borrow.Author.Needs.{needs}
+use Rattle.reasons.proofs.remarks.subject.Statement.{statement}
+use Rattle.reasons.proofs.remarks.subject.Tie as tie
+
+pub subject-spec : {M : Type 1} → statement M
+subject-spec =
+    tie.close
+    (tie.spec
+    (λ c. rw (c .if1 .taken))
+    (λ c. rw (c .if1 .left)))

@@ -1,0 +1,51 @@
+-- The contracts of the inner functions, in parts. A reader of the promises can pass this file over: no public contract cites it.
+-- Assumes nothing.
+use Prim.Native.Nat.{ℕ, _+_, _≤_, _<_}
+use mathlib.Core.Path.{_≡_}
+use mathlib.Core.List.{List}
+use mathlib.Core.Logic.{_⊎_}
+use lib.ListN.{length, take}
+use lib.Dec.{eqb}
+use Rattle.base.specs.Choice.{pick}
+use Rattle.codec.specs.Table.{lastKind, lengthOf}
+use Rattle.account.specs.declared.Account.{Account}
+use Rattle.account.specs.Judge.{WholeRecord, kindOf, valuesOf, RefusedBy}
+use Rattle.account.specs.Compared.{Compared, badField}
+use Rattle.book.specs.Front.{Front, unfinished, badLength, whole}
+use Rattle.reasons.specs.declared.Verdict.{Verdict}
+use Rattle.reasons.specs.declared.Verdict.the-variants.{Accepted, Missing, NextLength, Refused}
+use Rattle.reasons.specs.declared.compared.Numbers.{Numbers}
+use Rattle.reasons.specs.Why.{reason, unfinishedBy}
+
+-- what is compared, as the code has it
+abbrev pub told : Compared → Numbers
+told x = record { some = x .some; value = x .value; limit = x .limit }
+
+-- r is a record whose kind is one of the book's, with the length of its kind
+pub record Sized (r : List ℕ) : Type 0 where
+  pub least : 1 ≤ kindOf r
+  pub most : kindOf r ≤ lastKind
+  pub long : length r ≡ lengthOf (kindOf r) + 2
+
+-- a kind whose shares or parts are compared
+abbrev pub Parted : ℕ → Type 0
+Parted k = (k ≡ 4) ⊎ (k ≡ 5)
+
+-- the whole record r is refused by the number code, with that field
+pub record Faulty (a : Account) (r : List ℕ) (code field : ℕ) : Type 0 where
+  pub whole : WholeRecord r
+  pub broken : RefusedBy code a r
+  pub some : 2 ≤ code
+  pub most : code ≤ 12
+  pub position : field ≡ pick (eqb code 7) (badField (kindOf r) (valuesOf r)) 0
+
+-- the answer where no whole record stands at the front of rest, which begins at the byte at, behind the account a
+abbrev pub unread : Front → Account → ℕ → List ℕ → Verdict
+unread unfinished a at rest = unfinishedBy rest
+unread badLength a at rest = Refused (reason 1 (a .records) 0 at a (take 2 rest))
+unread whole a at rest = NextLength
+
+-- the answer where the record r, at the byte at behind the account a, leaves a book that has ended with the account next
+abbrev pub ended : Account → ℕ → List ℕ → Account → Verdict
+ended a at r next =
+    pick (eqb (next .stage) 2) Accepted (Refused (reason (next .refusal .code) (a .records) (next .refusal .field) at a r))

@@ -1,0 +1,4 @@
+pub mod Why
+pub mod Promised
+pub mod Inner
+pub mod Remarks

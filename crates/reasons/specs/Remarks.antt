@@ -1,0 +1,108 @@
+-- What is told of a book: a line for machines, and one for people with the names of records and fields. And the byte of the exit status.
+-- Assumes nothing.
+use Prim.Native.Nat.{ℕ, _-_}
+use mathlib.Core.List.{List, [], _++_}
+use mathlib.Core.Bool.{Bool, true, false, _&&_, _||_}
+use lib.Dec.{ltb, leb, eqb}
+use Rattle.base.specs.Choice.{pick}
+use Rattle.printing.specs.Ascii.{ascii}
+use Rattle.printing.specs.Decimal.{decimal}
+use Rattle.typed_words.specs.Words.{nthPart}
+use Rattle.names.specs.Names.{kindName, fieldName, sentence}
+use Rattle.reasons.specs.declared.Reason.{Reason}
+use Rattle.reasons.specs.declared.Verdict.{Verdict}
+use Rattle.reasons.specs.declared.Verdict.the-variants.{Accepted, Missing, NextLength, Refused}
+
+-- ---- the line for machines
+
+abbrev pub placeText : ℕ → ℕ → ℕ → List ℕ
+placeText number first last =
+    ascii " record " ++ (decimal number ++ (ascii " bytes " ++ (decimal first ++ (ascii " to " ++ decimal last))))
+
+abbrev pub positionText : ℕ → List ℕ
+positionText field = pick (eqb field 0) [] (ascii " field " ++ decimal field)
+
+abbrev pub numbersText : Bool → ℕ → ℕ → List ℕ
+numbersText some value limit = pick some (ascii " value " ++ (decimal value ++ (ascii " limit " ++ decimal limit))) []
+
+unfoldable pub refusedText : Reason → List ℕ
+refusedText w =
+    ascii "refused "
+    ++ (decimal (w .code)
+    ++ (placeText (w .number) (w .first) (w .last) ++ (positionText (w .field) ++ (numbersText (w .some) (w .value) (w .limit) ++ ascii "\n"))))
+
+unfoldable pub missingText : ℕ → List ℕ
+missingText n = ascii "unfinished: " ++ (decimal n ++ ascii " bytes missing\n")
+
+abbrev pub machineText : Verdict → List ℕ
+machineText Accepted = ascii "accepted\n"
+machineText (Missing n) = missingText n
+machineText NextLength = ascii "unfinished: the next length is not known\n"
+machineText (Refused w) = refusedText w
+
+-- ---- the line for people
+
+-- the kind's name, where the book has the kind
+abbrev pub nameText : ℕ → List ℕ
+nameText kind = pick (leb 1 kind && leb kind 8) (ascii " (" ++ (kindName kind ++ ascii ")")) []
+
+unfoldable pub whereText : ℕ → ℕ → ℕ → ℕ → List ℕ
+whereText number kind first last =
+    ascii "record " ++ (decimal number ++ (nameText kind ++ (ascii ", bytes " ++ (decimal first ++ (ascii " to " ++ decimal last)))))
+
+-- what the value is of, by the number of the rule; a pig's parts have a line of their own
+unfoldable pub subjectTable : List ℕ
+subjectTable =
+    ascii "\n the length\n the version\n the kind\n the length\n\n\n\n the group\n the sum of days with this record\n the sum of the shares\n\n"
+    ++ ascii " the count\n the sum of the volatilised and leached parts"
+
+abbrev pub subjectText : ℕ → ℕ → ℕ → List ℕ
+subjectText code kind field =
+    pick (eqb code 7) (fieldName kind (field - 1)) (nthPart 10 (pick (eqb code 10 && eqb kind 5) 13 code) subjectTable)
+
+-- how the value has to stand to the limit
+abbrev pub exactly : ℕ → ℕ → Bool
+exactly code kind = eqb code 2 || eqb code 4 || eqb code 12 || (eqb code 10 && eqb kind 4)
+
+abbrev pub relationText : ℕ → ℕ → ℕ → ℕ → List ℕ
+relationText code kind value limit =
+    pick (eqb code 8) (ascii "above ")
+    (pick (exactly code kind) []
+    (pick (ltb value limit) (ascii "at least ") (ascii "at most ")))
+
+unfoldable pub comparedText : Reason → List ℕ
+comparedText w =
+    subjectText (w .code) (w .kind) (w .field)
+    ++ (ascii " is "
+    ++ (decimal (w .value) ++ (ascii "; it must be " ++ (relationText (w .code) (w .kind) (w .value) (w .limit) ++ decimal (w .limit)))))
+
+-- the rule's sentence where no numbers are compared
+abbrev pub faultText : Reason → List ℕ
+faultText w = pick (w .some) (comparedText w) (ascii " " ++ sentence (w .code))
+
+unfoldable pub reasonText : Reason → List ℕ
+reasonText w = whereText (w .number) (w .kind) (w .first) (w .last) ++ (ascii ":" ++ (faultText w ++ ascii "\n"))
+
+unfoldable pub lackText : ℕ → List ℕ
+lackText n = ascii "the book ends inside a record, which needs " ++ (decimal n ++ ascii " more\n")
+
+abbrev pub peopleText : Verdict → List ℕ
+peopleText Accepted = ascii "the book is right and closed\n"
+peopleText (Missing n) = lackText n
+peopleText NextLength = ascii "the book ends before its close, where another record would begin\n"
+peopleText (Refused w) = reasonText w
+
+-- ---- both
+
+abbrev pub whyText : Verdict → List ℕ
+whyText v = machineText v ++ peopleText v
+
+abbrev pub isAccepted : Verdict → Bool
+isAccepted Accepted = true
+isAccepted (Missing n) = false
+isAccepted NextLength = false
+isAccepted (Refused w) = false
+
+-- `0` where the book is accepted, and all was read and written, else `1`
+abbrev pub statusByte : Bool → Bool → ℕ
+statusByte accepted written = pick (accepted && written) 48 49

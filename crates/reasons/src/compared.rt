@@ -1,0 +1,132 @@
+// The value and the limit: what the test of a rule compares.
+use crate::values::highest;
+use crate::values::lowest;
+use crate::values::value_at;
+use account::Account;
+use account::Days;
+use codec::LAST_KIND;
+use codec::kinds::bytes_of;
+use codec::numbers::be8;
+use codec::numbers::be16;
+ghost use mathlib.Core.Path.{_≡_};
+ghost use Prim.Native.Nat.{_≤_};
+ghost use lib.Dec.{eqb};
+ghost use Rattle.base.specs.Choice.{pick};
+ghost use Rattle.codec.specs.Table.{lengthOf, lastKind};
+ghost use Rattle.account.specs.Judge.{kindOf, valuesOf};
+ghost use Rattle.account.specs.Compared.{noNumbers, numbers, outside, badField, rangeOf, valueAt, daysWith, sharesOf, partsOf, valuesCompared, compared};
+ghost use Rattle.reasons.specs.Inner.{told, Sized, Parted, Faulty};
+
+// The two numbers that are compared, where there are any.
+pub(crate) struct Numbers {
+    pub some: bool,
+    pub value: u64,
+    pub limit: u64,
+}
+
+fn none() -> Numbers
+    ensures { λ r. ⌜ r ≡ told noNumbers ⌝ }
+{
+    Numbers {
+        some: false,
+        value: 0,
+        limit: 0,
+    }
+}
+
+fn both(value: u64, limit: u64) -> Numbers
+    ensures { λ r. ⌜ r ≡ told (numbers value limit) ⌝ }
+{
+    Numbers {
+        some: true,
+        value: value,
+        limit: limit,
+    }
+}
+
+// A value outside of lowest to highest, and the end that it crossed.
+pub(crate) fn outside(lowest: u64, highest: u64, value: u64) -> Numbers
+    ensures { λ r. ⌜ r ≡ told (outside lowest highest value) ⌝ }
+{
+    if value < lowest {
+        return both(value, lowest);
+    }
+    both(value, highest)
+}
+
+// The length of a record of that kind.
+fn length_of(kind: u8) -> u64
+    requires { ⌜ (1 ≤ kind) × (kind ≤ lastKind) ⌝ }
+    ensures { λ r. ⌜ r ≡ lengthOf kind ⌝ }
+{
+    (bytes_of(kind as u64) - 2) as u64
+}
+
+// The value of the field at that position, and the end of its range that it crossed.
+fn out_of_range(r: &[u8], kind: u8, position: u8) -> Numbers
+    requires { ⌜ Sized (now r) × (kind ≡ kindOf (now r)) × (1 ≤ position) × (position ≤ 12) ⌝ }
+    ensures { λ n. ⌜ n ≡ told (outside (rangeOf kind position .1) (rangeOf kind position .2) (valueAt (valuesOf (now (r .entry))) position)) ⌝ }
+{
+    let value = value_at(r, kind, position as usize - 1);
+    outside(lowest(kind, position), highest(kind, position), value)
+}
+
+// The days of a kind, 3, 4 or 5, with so many more.
+fn days_with(days: Days, kind: u8, more: u64) -> u64
+    requires { ⌜ more ≤ 366 ⌝ }
+    ensures { λ r. ⌜ r ≡ daysWith days kind more ⌝ }
+{
+    if kind == 3 {
+        return days.enteric as u64 + more;
+    }
+    if kind == 4 {
+        return days.nitrogen as u64 + more;
+    }
+    days.pig as u64 + more
+}
+
+// A cattle record's shares together, or a pig record's parts.
+fn together(r: &[u8], kind: u8) -> Numbers
+    requires { ⌜ Sized (now r) × (kind ≡ kindOf (now r)) × (badField kind (valuesOf (now r)) ≡ 0) × Parted kind ⌝ }
+    ensures { λ n. ⌜ n ≡ told (pick (eqb kind 4) (numbers (sharesOf (valuesOf (now (r .entry)))) 10000) (numbers (partsOf (valuesOf (now (r .entry)))) 1000)) ⌝ }
+{
+    if kind == 4 {
+        return both(
+            value_at(r, kind, 6) + value_at(r, kind, 7) + value_at(r, kind, 8),
+            10000,
+        );
+    }
+    both(value_at(r, kind, 8) + value_at(r, kind, 10), 1000)
+}
+
+// The numbers from 5 on: what is compared of the values.
+fn of_values(a: Account, r: &[u8], code: u8, field: u8) -> Numbers
+    requires { ⌜ Faulty a (now r) code field × (5 ≤ code) ⌝ }
+    ensures { λ n. ⌜ n ≡ told (valuesCompared code a (kindOf (now (r .entry))) (valuesOf (now (r .entry)))) ⌝ }
+{
+    let kind = r[3];
+    let heading = a.heading;
+    let days = a.days;
+    let first = value_at(r, kind, 0);
+    match code {
+        7 => out_of_range(r, kind, field),
+        8 => both(first, heading.group as u64),
+        9 => both(days_with(days, kind, first), 366),
+        10 => together(r, kind),
+        12 => both(first, a.records as u64),
+        _ => none(),
+    }
+}
+
+// What the number that refuses the record r compares.
+pub(crate) fn compared(a: Account, r: &[u8], code: u8, field: u8) -> Numbers
+    requires { ⌜ Faulty a (now r) code field ⌝ }
+    ensures { λ n. ⌜ n ≡ told (compared code a (now (r .entry))) ⌝ }
+{
+    match code {
+        2 => both(be8(r, 2), 1),
+        3 => outside(1, LAST_KIND, be8(r, 3)),
+        4 => both(be16(r, 0), length_of(r[3])),
+        _ => of_values(a, r, code, field),
+    }
+}

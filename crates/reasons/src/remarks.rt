@@ -1,0 +1,259 @@
+// What is told of a book: a line for machines, a line for people, and the status.
+use crate::Reason;
+use crate::Verdict;
+use names::say_field;
+use names::say_kind;
+use names::say_sentence;
+use printing::say;
+use printing::say_number;
+use typed_words::part;
+ghost use mathlib.Core.Path.{_≡_};
+ghost use mathlib.Core.Bool.{_&&_};
+ghost use Prim.Native.Nat.{_-_, _≤_};
+ghost use lib.Dec.{eqb};
+ghost use lib.ListN.{length};
+ghost use Rattle.base.specs.Choice.{pick};
+ghost use Rattle.printing.specs.Said.{Said};
+ghost use Rattle.reasons.specs.Remarks.{placeText, positionText, numbersText, refusedText, missingText, machineText, nameText, whereText};
+ghost use Rattle.reasons.specs.Remarks.{subjectText, exactly, relationText, comparedText, faultText, reasonText, lackText, peopleText};
+ghost use Rattle.reasons.specs.Remarks.{isAccepted, statusByte};
+
+fn say_place(out: &mut [u8], at: usize, number: u64, first: u64, last: u64) -> usize
+    requires { ⌜ at ≤ length (now out) ⌝ }
+    ensures { λ r. ⌜ Said (now (out .entry)) (now (out .exit)) at (placeText number first last) r ⌝ }
+{
+    let a = say(out, at, b" record ");
+    let b = say_number(out, a, number);
+    let c = say(out, b, b" bytes ");
+    let d = say_number(out, c, first);
+    let e = say(out, d, b" to ");
+    say_number(out, e, last)
+}
+
+fn say_position(out: &mut [u8], at: usize, field: u64) -> usize
+    requires { ⌜ at ≤ length (now out) ⌝ }
+    ensures { λ r. ⌜ Said (now (out .entry)) (now (out .exit)) at (positionText field) r ⌝ }
+{
+    if field == 0 {
+        return at;
+    }
+    let a = say(out, at, b" field ");
+    say_number(out, a, field)
+}
+
+fn say_numbers(out: &mut [u8], at: usize, some: bool, value: u64, limit: u64) -> usize
+    requires { ⌜ at ≤ length (now out) ⌝ }
+    ensures { λ r. ⌜ Said (now (out .entry)) (now (out .exit)) at (numbersText some value limit) r ⌝ }
+{
+    if !some {
+        return at;
+    }
+    let a = say(out, at, b" value ");
+    let b = say_number(out, a, value);
+    let c = say(out, b, b" limit ");
+    say_number(out, c, limit)
+}
+
+fn say_refused(out: &mut [u8], w: Reason) -> usize
+    ensures { λ r. ⌜ Said (now (out .entry)) (now (out .exit)) 0 (refusedText w) r ⌝ }
+{
+    let a = say(out, 0, b"refused ");
+    let b = say_number(out, a, w.code as u64);
+    let c = say_place(out, b, w.number as u64, w.first as u64, w.last as u64);
+    let d = say_position(out, c, w.field as u64);
+    let e = say_numbers(out, d, w.some, w.value, w.limit);
+    say(out, e, b"\n")
+}
+
+fn say_missing(out: &mut [u8], n: u64) -> usize
+    ensures { λ r. ⌜ Said (now (out .entry)) (now (out .exit)) 0 (missingText n) r ⌝ }
+{
+    let a = say(out, 0, b"unfinished: ");
+    let b = say_number(out, a, n);
+    say(out, b, b" bytes missing\n")
+}
+
+// The line for machines, from the start of out.
+pub fn say_first(out: &mut [u8], v: Verdict) -> usize
+    ensures { λ r. ⌜ Said (now (out .entry)) (now (out .exit)) 0 (machineText v) r ⌝ }
+{
+    match v {
+        Verdict::Accepted => say(out, 0, b"accepted\n"),
+        Verdict::Missing(n) => say_missing(out, n as u64),
+        Verdict::NextLength => say(out, 0, b"unfinished: the next length is not known\n"),
+        Verdict::Refused(w) => say_refused(out, w),
+    }
+}
+
+// The kind's name in brackets, where the book has the kind.
+fn say_name(out: &mut [u8], at: usize, kind: u64) -> usize
+    requires { ⌜ at ≤ length (now out) ⌝ }
+    ensures { λ r. ⌜ Said (now (out .entry)) (now (out .exit)) at (nameText kind) r ⌝ }
+{
+    if (1 <= kind) & (kind <= 8) {
+        let a = say(out, at, b" (");
+        let b = say_kind(out, a, kind);
+        return say(out, b, b")");
+    }
+    at
+}
+
+fn say_where(out: &mut [u8], number: u64, kind: u64, first: u64, last: u64) -> usize
+    ensures { λ r. ⌜ Said (now (out .entry)) (now (out .exit)) 0 (whereText number kind first last) r ⌝ }
+{
+    let a = say(out, 0, b"record ");
+    let b = say_number(out, a, number);
+    let c = say_name(out, b, kind);
+    let d = say(out, c, b", bytes ");
+    let e = say_number(out, d, first);
+    let f = say(out, e, b" to ");
+    say_number(out, f, last)
+}
+
+// Which line of the subjects: a pig's parts have one of their own.
+fn subject(code: u64, kind: u64) -> usize
+    ensures { λ r. ⌜ r ≡ pick (eqb code 10 && eqb kind 5) 13 code ⌝ }
+{
+    if (code == 10) & (kind == 5) {
+        return 13;
+    }
+    code as usize
+}
+
+// What the value is of.
+fn say_subject(out: &mut [u8], at: usize, code: u64, kind: u64, field: usize) -> usize
+    requires { ⌜ at ≤ length (now out) ⌝ }
+    ensures { λ r. ⌜ Said (now (out .entry)) (now (out .exit)) at (subjectText code kind field) r ⌝ }
+{
+    if code == 7 {
+        return say_field(out, at, kind, less_one(field));
+    }
+    let words = part(
+        b"
+ the length
+ the version
+ the kind
+ the length
+
+
+
+ the group
+ the sum of days with this record
+ the sum of the shares
+
+ the count
+ the sum of the volatilised and leached parts",
+        b'\n',
+        subject(code, kind),
+    );
+    say(out, at, words)
+}
+
+fn less_one(n: usize) -> usize
+    ensures { λ r. ⌜ r ≡ n - 1 ⌝ }
+{
+    if n == 0 { 0 } else { n - 1 }
+}
+
+fn is_exact(code: u64, kind: u64) -> bool
+    ensures { λ r. ⌜ r ≡ exactly code kind ⌝ }
+{
+    (code == 2) | (code == 4) | (code == 12) | ((code == 10) & (kind == 4))
+}
+
+// How the value has to stand to the limit.
+fn say_relation(out: &mut [u8], at: usize, code: u64, kind: u64, value: u64, limit: u64) -> usize
+    requires { ⌜ at ≤ length (now out) ⌝ }
+    ensures { λ r. ⌜ Said (now (out .entry)) (now (out .exit)) at (relationText code kind value limit) r ⌝ }
+{
+    if code == 8 {
+        return say(out, at, b"above ");
+    }
+    if is_exact(code, kind) {
+        return at;
+    }
+    if value < limit {
+        return say(out, at, b"at least ");
+    }
+    say(out, at, b"at most ")
+}
+
+fn say_compared(out: &mut [u8], at: usize, w: Reason) -> usize
+    requires { ⌜ at ≤ length (now out) ⌝ }
+    ensures { λ r. ⌜ Said (now (out .entry)) (now (out .exit)) at (comparedText w) r ⌝ }
+{
+    let a = say_subject(out, at, w.code as u64, w.kind as u64, w.field as usize);
+    let b = say(out, a, b" is ");
+    let c = say_number(out, b, w.value);
+    let d = say(out, c, b"; it must be ");
+    let e = say_relation(out, d, w.code as u64, w.kind as u64, w.value, w.limit);
+    say_number(out, e, w.limit)
+}
+
+fn say_fault(out: &mut [u8], at: usize, w: Reason) -> usize
+    requires { ⌜ at ≤ length (now out) ⌝ }
+    ensures { λ r. ⌜ Said (now (out .entry)) (now (out .exit)) at (faultText w) r ⌝ }
+{
+    if w.some {
+        return say_compared(out, at, w);
+    }
+    let a = say(out, at, b" ");
+    say_sentence(out, a, w.code as u64)
+}
+
+fn say_reason(out: &mut [u8], w: Reason) -> usize
+    ensures { λ r. ⌜ Said (now (out .entry)) (now (out .exit)) 0 (reasonText w) r ⌝ }
+{
+    let a = say_where(
+        out,
+        w.number as u64,
+        w.kind as u64,
+        w.first as u64,
+        w.last as u64,
+    );
+    let b = say(out, a, b":");
+    let c = say_fault(out, b, w);
+    say(out, c, b"\n")
+}
+
+fn say_lack(out: &mut [u8], n: u64) -> usize
+    ensures { λ r. ⌜ Said (now (out .entry)) (now (out .exit)) 0 (lackText n) r ⌝ }
+{
+    let a = say(out, 0, b"the book ends inside a record, which needs ");
+    let b = say_number(out, a, n);
+    say(out, b, b" more\n")
+}
+
+// The line for people, from the start of out.
+pub fn say_second(out: &mut [u8], v: Verdict) -> usize
+    ensures { λ r. ⌜ Said (now (out .entry)) (now (out .exit)) 0 (peopleText v) r ⌝ }
+{
+    match v {
+        Verdict::Accepted => say(out, 0, b"the book is right and closed\n"),
+        Verdict::Missing(n) => say_lack(out, n as u64),
+        Verdict::NextLength => say(
+            out,
+            0,
+            b"the book ends before its close, where another record would begin\n",
+        ),
+        Verdict::Refused(w) => say_reason(out, w),
+    }
+}
+
+pub fn accepted(v: Verdict) -> bool
+    ensures { λ r. ⌜ r ≡ isAccepted v ⌝ }
+{
+    match v {
+        Verdict::Accepted => true,
+        Verdict::Missing(n) => false,
+        Verdict::NextLength => false,
+        Verdict::Refused(w) => false,
+    }
+}
+
+// The status byte: 0 only where the book is accepted and everything was read and written.
+pub fn status(accepted: bool, written: bool) -> u8
+    ensures { λ r. ⌜ r ≡ statusByte accepted written ⌝ }
+{
+    if accepted & written { b'0' } else { b'1' }
+}
