@@ -34,7 +34,7 @@ use Rattle.reasons.specs.declared.Reason.{Reason}
 use Rattle.reasons.specs.declared.Verdict.{Verdict}
 use Rattle.reasons.specs.declared.Verdict.the-variants.{Accepted, Missing, NextLength, Refused}
 use Rattle.reasons.specs.Why.{reason, reasonOf, unfinishedBy, whyBy, whyOf}
-use Rattle.reasons.specs.Promised.{behind, AllAccepted, bytesTold, accountBefore, numbersTold, BrokenLength, BrokenRecord, Truth, begun, MissingExact, Unfinished, IsRefused}
+use Rattle.reasons.specs.Promised.{behind, AllAccepted, bytesTold, accountBefore, numbersTold, BrokenLength, BrokenRecord, Truth, begun, MissingExact, Unfinished}
 use Rattle.reasons.specs.Inner.{unread, ended}
 use Rattle.reasons.proofs.FaultLaws.{faulty, refused-is}
 use Rattle.reasons.proofs.WayLaws.{Way, Ends, at-record, at-rest, every-end, before-is, next-record, some-bytes, why-ended, why-unread}

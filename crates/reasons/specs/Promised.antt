@@ -77,15 +77,9 @@ pub record MissingExact (n : ℕ) (xs : List ℕ) : Type 0 where
   pub enough : (ys : List ℕ) → length ys ≡ n → front (begun xs ++ ys) ≡ whole
   pub fewer : (ys : List ℕ) → length ys < n → front (begun xs ++ ys) ≡ unfinished
 
--- said to be unfinished; said to be refused
+-- said to be unfinished
 abbrev pub Unfinished : Verdict → Type 0
 Unfinished Accepted = ⊥
 Unfinished (Missing n) = Unit {0}
 Unfinished NextLength = Unit {0}
 Unfinished (Refused w) = ⊥
-
-abbrev pub IsRefused : Verdict → Type 0
-IsRefused Accepted = ⊥
-IsRefused (Missing n) = ⊥
-IsRefused NextLength = ⊥
-IsRefused (Refused w) = Unit {0}
