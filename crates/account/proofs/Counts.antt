@@ -8,16 +8,13 @@ use native.Mathlib.Omega.{arith}
 use lib.ListN.{length}
 use lib.Dec.{eqb}
 use Rattle.base.proofs.Tests.{of-choice}
+use Rattle.codec.specs.Table.{linesMost}
 use Rattle.account.specs.declared.Account.{Account}
 use Rattle.account.specs.Sorts.{sortOf}
 use Rattle.account.specs.Line.{joined}
 use Rattle.account.specs.Judge.{kindOf, refusals, first, Step, accepted, judge}
 use Rattle.account.proofs.Sorts.{by-sort}
 use Rattle.account.proofs.Keeps.{judge-short}
-
--- the most bytes of lines that one record gives
-abbrev pub linesMost : ℕ
-linesMost = 100
 
 -- a record gives no lines and is not counted, or is counted
 abbrev Counted : ℕ → Step → Type 0

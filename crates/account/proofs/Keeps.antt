@@ -13,7 +13,7 @@ use Rattle.base.specs.Choice.{pick}
 use Rattle.base.proofs.Tests.{and-l, and-r, not-false, not-true, of-choice}
 use Rattle.codec.proofs.EachKind.{each-kind}
 use Rattle.codec.specs.declared.Field.{Field}
-use Rattle.codec.specs.Table.{table, fields, isKind}
+use Rattle.codec.specs.Table.{table, fields, isKind, lineSize, totalSize, linesMost}
 use Rattle.codec.specs.Codec.{firstBad}
 use Rattle.codec.proofs.Round.{line-length, total-length}
 use Rattle.codec.proofs.Within.{bad-position}
@@ -303,29 +303,29 @@ in-range-judge a r f early =
 -- ---- the length of its lines
 
 abbrev ShortLines : Step → Type 0
-ShortLines s = length (joined (s .lines)) ≤ 100
+ShortLines s = length (joined (s .lines)) ≤ linesMost
 
-one-line : (l : List ℕ) (n : ℕ) → length l ≡ n → n ≤ 100 → length (l ++ []) ≤ 100
+one-line : (l : List ℕ) (n : ℕ) → length l ≡ n → n ≤ linesMost → length (l ++ []) ≤ linesMost
 one-line l n e h = rw (append-nil, e) h
 
--- a subtotal has 46 bytes, the total 54
-ends-short : (a : Account) → (length (joined (subtotals a)) ≤ 100) × (length (joined (subtotals a ++ (totalOf a ∷ []))) ≤ 100)
+-- a subtotal and the total are within the most
+ends-short : (a : Account) → (length (joined (subtotals a)) ≤ linesMost) × (length (joined (subtotals a ++ (totalOf a ∷ []))) ≤ linesMost)
 ends-short a = go (eqb (a .heading .group) 0)
   where
     go : (b : Bool)
-        → (length (joined (pick b [] (lineWith 16 (a .heading .group) (groupFigures (a .subtotal)) ∷ []))) ≤ 100)
-        × (length (joined (pick b [] (lineWith 16 (a .heading .group) (groupFigures (a .subtotal)) ∷ []) ++ (totalOf a ∷ []))) ≤ 100)
-    go true = (omega arith, one-line (totalOf a) 54 (total-length _ _ _ _ _ _) (omega arith))
+        → (length (joined (pick b [] (lineWith 16 (a .heading .group) (groupFigures (a .subtotal)) ∷ []))) ≤ linesMost)
+        × (length (joined (pick b [] (lineWith 16 (a .heading .group) (groupFigures (a .subtotal)) ∷ []) ++ (totalOf a ∷ []))) ≤ linesMost)
+    go true = (omega arith, one-line (totalOf a) totalSize (total-length _ _ _ _ _ _) (omega arith))
     go false = (
-      one-line (lineWith 16 (a .heading .group) (groupFigures (a .subtotal))) 46 (line-length _ _ _ _ _ _ _) (omega arith),
+      one-line (lineWith 16 (a .heading .group) (groupFigures (a .subtotal))) lineSize (line-length _ _ _ _ _ _ _) (omega arith),
       rw (append-nil, both-long _ _ _ _ _ _ _ _ _ _ _ _ _) (omega arith),
     )
 
-pub judge-short : (a : Account) (r : List ℕ) → length (joined (judge a r .lines)) ≤ 100
+pub judge-short : (a : Account) (r : List ℕ) → length (joined (judge a r .lines)) ≤ linesMost
 unfolding judge accepted
 judge-short a r =
     of-choice ShortLines (eqb (first (refusals a r)) 0)
     (λ e. by-sort ShortLines (sortOf (kindOf r)) (λ e. omega arith) (λ e. ends-short a .0)
-    (λ e. one-line (lineOf (a .heading) (kindOf r) (valuesOf r)) 46 (line-length _ _ _ _ _ _ _) (omega arith))
-    (λ e. one-line (lineOf (a .heading) (kindOf r) (valuesOf r)) 46 (line-length _ _ _ _ _ _ _) (omega arith)) (λ e. ends-short a .1))
+    (λ e. one-line (lineOf (a .heading) (kindOf r) (valuesOf r)) lineSize (line-length _ _ _ _ _ _ _) (omega arith))
+    (λ e. one-line (lineOf (a .heading) (kindOf r) (valuesOf r)) lineSize (line-length _ _ _ _ _ _ _) (omega arith)) (λ e. ends-short a .1))
     (λ e. omega arith)

@@ -11,7 +11,7 @@ use lib.ListN.{length, length-append}
 use lib.Dec.{leb, eqb}
 use Rattle.base.specs.Choice.{pick}
 use Rattle.base.proofs.Tests.{not-false}
-use Rattle.codec.specs.Table.{fields, lengthOf, isKind}
+use Rattle.codec.specs.Table.{fields, lengthOf, isKind, lineSize, totalSize, linesMost}
 use Rattle.codec.specs.Codec.{valAt, valuesAt, firstBad, lineBytes, totalBytes}
 use Rattle.codec.proofs.Round.{line-length, total-length}
 use Rattle.grams.specs.Cattle.{belowZero, manureOf, CattleSmall, Nitrogen}
@@ -103,7 +103,7 @@ abbrev pub step : Account → List (List ℕ) → Step
 step a ls = record { account = a; lines = ls }
 
 -- a subtotal and the total
-pub both-long : (kind group a b c d e a′ b′ c′ d′ e′ f′ : ℕ) → length (lineBytes kind group a b c d e ++ totalBytes a′ b′ c′ d′ e′ f′) ≡ 100
+pub both-long : (kind group a b c d e a′ b′ c′ d′ e′ f′ : ℕ) → length (lineBytes kind group a b c d e ++ totalBytes a′ b′ c′ d′ e′ f′) ≡ linesMost
 both-long kind group a b c d e a′ b′ c′ d′ e′ f′ =
     omega (arith, length-append (lineBytes kind group a b c d e) (totalBytes a′ b′ c′ d′ e′ f′), line-length kind group a b c d e, total-length a′ b′ c′ d′ e′ f′)
 
@@ -126,7 +126,7 @@ tells-heading a group class head = go (eqb (a .heading .group) 0)
         → Tells (step (underHeading a group class head) (pick b [] (lineWith 16 (a .heading .group) (groupFigures (a .subtotal)) ∷ [])))
         (record {
           account = underHeading a group class head;
-          line = pick b noLine (record { given = 46; kind = 16; group = a .heading .group; figures = groupFigures (a .subtotal); co2e = noCo2 });
+          line = pick b noLine (record { given = lineSize; kind = 16; group = a .heading .group; figures = groupFigures (a .subtotal); co2e = noCo2 });
         })
     go true = record { account = refl; bytes = refl; long = refl; short = omega arith }
     go false = record { account = refl; bytes = sym (append-nil _); long = line-length _ _ _ _ _ _ _; short = omega arith }
@@ -140,7 +140,7 @@ tells-close a = go (eqb (a .heading .group) 0)
         → Tells (step (closed a) (pick b [] (lineWith 16 (a .heading .group) (groupFigures (a .subtotal)) ∷ []) ++ (totalOf a ∷ [])))
         (record {
           account = closed a;
-          line = record { given = pick b 54 100; kind = 16; group = a .heading .group; figures = groupFigures (a .subtotal); co2e = co2eIn a };
+          line = record { given = pick b totalSize linesMost; kind = 16; group = a .heading .group; figures = groupFigures (a .subtotal); co2e = co2eIn a };
         })
     go true = record { account = refl; bytes = sym (append-nil _); long = total-length _ _ _ _ _ _; short = omega arith }
     go false =
@@ -188,7 +188,7 @@ module _ {room : ℕ} {a : Account} {s : Step} {r : Judged} (t : TellsIn room a 
   pub lines-long : length (joined (s .lines)) ≡ r .line .given
   lines-long = rw same-line (rw (t .tells .bytes) at (t .tells .long))
 
-  pub lines-short : r .line .given ≤ 100
+  pub lines-short : r .line .given ≤ linesMost
   lines-short = rw same-line (t .tells .short)
 
 -- ---- the refusals of values

@@ -7,6 +7,7 @@ use native.Mathlib.Omega.{arith}
 use borrow.Author.Tests.{ne-eqb}
 use lib.ListN.{length, take}
 use lib.Seq.{sets, sets-eq, paste, paste-zero, take-all}
+use Rattle.codec.specs.Table.{lineSize, totalSize, linesMost}
 use Rattle.codec.proofs.Stores.{sets-append}
 use Rattle.codec.proofs.Round.{line-length, total-length}
 use Rattle.account.specs.declared.Judged.{Judged}
@@ -30,25 +31,25 @@ module _ (out : List ℕ) (w : ℕ) (j : Judged) where
   none-written e = rw e (paste-zero out w (bytesOf j))
 
   module _ (h : w + j .line .given ≤ length out) where
-    pub line-written : j .line .given ≡ 46 → sets out w (leading j) ≡ paste out w (bytesOf j) (j .line .given)
+    pub line-written : j .line .given ≡ lineSize → sets out w (leading j) ≡ paste out w (bytesOf j) (j .line .given)
     unfolding bytesOf
-    line-written e = rw e (pasted (leading j) out w 46 (line-length _ _ _ _ _ _ _) (omega arith))
+    line-written e = rw e (pasted (leading j) out w lineSize (line-length _ _ _ _ _ _ _) (omega arith))
 
-    pub total-written : j .line .given ≡ 54 → sets out w (total j) ≡ paste out w (bytesOf j) (j .line .given)
+    pub total-written : j .line .given ≡ totalSize → sets out w (total j) ≡ paste out w (bytesOf j) (j .line .given)
     unfolding bytesOf
-    total-written e = rw e (pasted (total j) out w 54 (total-length _ _ _ _ _ _) (omega arith))
+    total-written e = rw e (pasted (total j) out w totalSize (total-length _ _ _ _ _ _) (omega arith))
 
-    module _ (zero : j .line .given ≡ 0 → ⊥) (other : j .line .given ≡ 46 → ⊥) (third : j .line .given ≡ 54 → ⊥) (long : length (bytesOf j) ≡ j .line .given) where
+    module _ (zero : j .line .given ≡ 0 → ⊥) (other : j .line .given ≡ lineSize → ⊥) (third : j .line .given ≡ totalSize → ⊥) (long : length (bytesOf j) ≡ j .line .given) where
       are-both : bytesOf j ≡ leading j ++ total j
       unfolding bytesOf
-      are-both = rw (ne-eqb _ 0 zero, ne-eqb _ 46 other, ne-eqb _ 54 third)
+      are-both = rw (ne-eqb _ 0 zero, ne-eqb _ lineSize other, ne-eqb _ totalSize third)
 
-      pub both-are : j .line .given ≡ 100
+      pub both-are : j .line .given ≡ linesMost
       both-are = sym long ∙ ap length are-both ∙ both-long _ _ _ _ _ _ _ _ _ _ _ _ _
 
       -- one after the other
-      pub both-written : sets (sets out w (leading j)) (w + 46) (total j) ≡ paste out w (bytesOf j) (j .line .given)
+      pub both-written : sets (sets out w (leading j)) (w + lineSize) (total j) ≡ paste out w (bytesOf j) (j .line .given)
       both-written =
-          let l : length (leading j) ≡ 46 = line-length _ _ _ _ _ _ _ in
+          let l : length (leading j) ≡ lineSize = line-length _ _ _ _ _ _ _ in
           let s : sets (sets out w (leading j)) (w + length (leading j)) (total j) ≡ sets out w (leading j ++ total j) = sym (sets-append (leading j) (total j) out w) in
-          (rw l at s) ∙ rw (are-both, both-are) (pasted (leading j ++ total j) out w 100 (both-long _ _ _ _ _ _ _ _ _ _ _ _ _) (omega (arith, both-are)))
+          (rw l at s) ∙ rw (are-both, both-are) (pasted (leading j ++ total j) out w linesMost (both-long _ _ _ _ _ _ _ _ _ _ _ _ _) (omega (arith, both-are)))

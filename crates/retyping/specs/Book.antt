@@ -9,7 +9,7 @@ use Rattle.base.specs.Choice.{pick}
 use Rattle.printing.specs.Ascii.{ascii}
 use Rattle.printing.specs.Decimal.{joined, Put}
 use Rattle.names.specs.Names.{sentence}
-use Rattle.codec.specs.Table.{lengthOf, lastKind}
+use Rattle.codec.specs.Table.{lengthOf, lastKind, linesMost}
 use Rattle.account.specs.declared.Account.{Account}
 use Rattle.account.specs.declared.Refusal.{Refusal}
 use Rattle.account.specs.Judge.{kindOf, valuesOf, noRecord, judge}
@@ -48,9 +48,9 @@ wholeLength xs = lengthBy (front xs) xs
 abbrev pub piece : ℕ → List ℕ → List ℕ
 piece n xs = pick (eqb n 0) xs (take n xs)
 
--- 100 bytes have room for the lines of any record
+-- linesMost bytes have room for the lines of any record
 abbrev pub readOf : State → ℕ → List ℕ → Call
-readOf s n xs = call s (piece n xs) 100
+readOf s n xs = call s (piece n xs) linesMost
 
 -- in range, open, and holding no bytes
 abbrev pub isReady : State → Bool

@@ -6,6 +6,7 @@ use native.Mathlib.Omega.{arith}
 use borrow.Author.Needs.{needs}
 use lib.ListN.{length}
 use lib.Seq.{sets, length-sets}
+use Rattle.codec.specs.Table.{lineSize, linesMost}
 use Rattle.account.proofs.Written.{total, none-written, line-written, total-written, both-are, both-written}
 use Rattle.account.proofs.line.write.Statement.{statement}
 use Rattle.account.proofs.line.write.Tie as tie
@@ -20,7 +21,7 @@ from-total c = c .before .before .before .before .before .before .before .before
 abbrev from-both : tie.Else3 → tie.Start
 from-both c = c .before .before .before .before .before .before .before .before .before .before .before .before
 
-both : (c : tie.Else3) → from-both c .args .j .line .given ≡ 100
+both : (c : tie.Else3) → from-both c .args .j .line .given ≡ linesMost
 both c =
     let s = from-both c in
     let second = c .before .before .before .before .before in
@@ -52,7 +53,7 @@ returns-4 c =
     let second = b .before .before .before .before .before in
     let s = from-both b in
     c .before .before .put-total2 .ensures
-    ∙ ap (λ (l : List ℕ). sets l (s .args .w + 46) (total (s .args .j))) (c .before .before .before .before .before .before .put-line2 .ensures)
+    ∙ ap (λ (l : List ℕ). sets l (s .args .w + lineSize) (total (s .args .j))) (c .before .before .before .before .before .before .put-line2 .ensures)
     ∙ both-written (s .args .out .now) (s .args .w) (s .args .j) (s .pre .0) (second .before .before .before .if1 .left) (second .if2 .left) (b .if3 .left) (s .pre .1)
 
 pub write-spec : {M : Type 1} → statement M
