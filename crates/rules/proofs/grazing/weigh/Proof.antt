@@ -61,6 +61,7 @@ weigh-spec =
     (λ c. search needs)
     (λ c. search needs)
     (λ c. search needs)
+    (λ c. search needs)
     grazing-requires
     (λ c κs. tt)
     grouped-detail-requires
