@@ -33,6 +33,8 @@ use Rattle.grams.proofs.units.Co2.plus.Kinds as air-sum
 use Rattle.grams.proofs.units.Co2.plus.Reads as air-sum-contract
 use Rattle.grams.proofs.units.Co2.same.Kinds as moved-air
 use Rattle.grams.proofs.units.Co2.same.Reads as moved-air-contract
+use Rattle.grams.proofs.units.Co2.taken_up.Kinds as taken-air
+use Rattle.grams.proofs.units.Co2.taken_up.Reads as taken-air-contract
 use Rattle.grams.proofs.units.Co2.within.Kinds as air-bound
 use Rattle.grams.proofs.units.Co2.within.Reads as air-bound-contract
 use Rattle.grams.proofs.units.Co2.word.Kinds as laid-air
@@ -52,6 +54,9 @@ use Rattle.grams.proofs.units.N2oN.to_n2o.Reads as gas-contract
 
 pub co2-of-asks-nothing : (κs : Lfts 0) (args : Dens κs air.ps) → air-contract.Asked κs args
 co2-of-asks-nothing κs args = tt
+
+pub co2-taken-up-asks-nothing : (κs : Lfts 0) (args : Dens κs taken-air.ps) → taken-air-contract.Asked κs args
+co2-taken-up-asks-nothing κs args = tt
 
 pub co2-same-asks-nothing : (κs : Lfts 0) (args : Dens κs moved-air.ps) → moved-air-contract.Asked κs args
 co2-same-asks-nothing κs args = tt
@@ -75,6 +80,11 @@ n2o-n-of-asks-nothing κs args = tt
 pub one-co2-of : (κs : Lfts 0) (args : Dens κs air.ps) (f g : Co2) (e e′ : AtExit (endedOf 0 air.ps air.r) κs)
     → air-contract.Learnt κs args f e → air-contract.Learnt κs args g e′ → f ≡ g
 one-co2-of κs args f g e e′ p q = p ∙ sym q
+
+-- Grams taken up as CO2.
+pub one-co2-taken-up : (κs : Lfts 0) (args : Dens κs taken-air.ps) (f g : Co2) (e e′ : AtExit (endedOf 0 taken-air.ps taken-air.r) κs)
+    → taken-air-contract.Learnt κs args f e → taken-air-contract.Learnt κs args g e′ → f ≡ g
+one-co2-taken-up κs args f g e e′ p q = p ∙ sym q
 
 -- CO2 moved.
 pub one-co2-same : (κs : Lfts 0) (args : Dens κs moved-air.ps) (f g : Co2) (e e′ : AtExit (endedOf 0 moved-air.ps moved-air.r) κs)
