@@ -12,7 +12,7 @@ use Rattle.base.proofs.Tests.{by-test}
 use Rattle.bytes.specs.Bytes.{indexOf, indexAfter}
 use Rattle.typed_words.specs.Words.{nthPart}
 use Rattle.codec.specs.Table.{table, fields}
-use Rattle.names.specs.Names.{lineOf, decimalsTable, decimalsOf, decimalsAt}
+use Rattle.names.specs.Names.{lineOf, noKind, decimalsTable, decimalsOf, decimalsAt}
 
 pub line-past : (last k : ℕ) (text : List ℕ) → last < k → nthPart 10 last text ≡ lineOf last k text
 line-past last k text h = let e : min k last ≡ last = omega arith in rw e
@@ -51,9 +51,9 @@ small (b ∷ s) t (suc i) = small s (and-r (leb b 53) (upTo5 s) t) i
 abbrev smallLine : ℕ → Bool
 smallLine k = upTo5 (nthPart 10 k decimalsTable)
 
-small-lines : T (allBelow 10 smallLine)
+small-lines : T (allBelow (suc noKind) smallLine)
 unfolding allBelow upTo5 nthPart indexOf indexAfter decimalsTable
 small-lines = tt
 
 pub few-decimals : (k i : ℕ) → decimalsAt k i ≤ 5
-few-decimals k i = small (decimalsOf k) (at-below 10 smallLine small-lines (min k 9) (omega arith)) i
+few-decimals k i = small (decimalsOf k) (at-below (suc noKind) smallLine small-lines (min k noKind) (omega arith)) i

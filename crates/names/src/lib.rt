@@ -9,6 +9,9 @@ ghost use Rattle.codec.specs.Table.{fields};
 ghost use Rattle.printing.specs.Said.{Said};
 ghost use Rattle.names.specs.Names.{lineOf, kindName, fieldNames, fieldName, expected, decimalsAt, className, sentence, printedByte, shown};
 
+// The line of what is no kind.
+const NO_KIND: u64 = codec::LAST_KIND + 1;
+
 // The line k of a text, counted from 0; from the last on all are the same.
 fn line_of(text: &[u8], last: u64, k: u64) -> &[u8]
     ensures { λ r. ⌜ now r ≡ lineOf last k (now (text .entry)) ⌝ }
@@ -34,8 +37,9 @@ pig
 energy
 soil
 close
+tillage
 record",
-        9,
+        NO_KIND,
         kind,
     );
     say(out, at, name)
@@ -55,8 +59,9 @@ fn say_names(out: &mut [u8], at: usize, kind: u64, all: bool, i: usize) -> usize
  days, feed, VS excretion, VS factor, MCF, protein, N factor, direct EF, volatilised part, volatilised EF, leached part, leached EF
  source, amount, factor
  area
- records before it",
-        9,
+ records before it
+ zone, texture, change, years, area",
+        NO_KIND,
         kind,
     );
     if all {
@@ -96,8 +101,10 @@ pub fn say_expected(out: &mut [u8], at: usize, kind: u64, i: usize) -> usize
 0 to 0.10000; 0 to 1.000; 0 to 0.10000; 0 to 1.000; 0 to 0.10000
  1 to 8; 0 to 1000000.0 units; 0 to 10000000 g CO2 per unit
  0 to 100000.00 ha
- 0 to 65535",
-        9,
+ 0 to 65535
+ 1 to 9; 1 to 3 (coarse, medium, fine); 1 to 6 (intensive to reduced, reduced to none, intensive to none, and each back); \
+1 to 100; 0 to 100000.00 ha",
+        NO_KIND,
         kind,
     );
     say(out, at, part(texts, b';', i))
@@ -131,8 +138,9 @@ pub fn decimals(kind: u64, i: usize) -> usize
 024332353535
 010
 2
-0",
-        9,
+0
+00002",
+        NO_KIND,
         kind,
     );
     digit_at(digits, i)
@@ -162,7 +170,7 @@ pub fn say_sentence(out: &mut [u8], at: usize, code: u64) -> usize
         b"closed
 a length that no record has: it is 4 to 26
 the version is not 1
-no such kind of record: kinds are 1 to 8
+no such kind of record: kinds are 1 to 9
 a wrong length or count of values
 the book has 4096 records, and no more go in
 out of its place: a book begins with its one farm record; enteric and cattle stand under a heading of class 1 to 3, pig under one of class 4
