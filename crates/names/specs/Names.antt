@@ -1,5 +1,5 @@
 -- Document 01's kinds, fields, classes and numbers in the words that people are told (document 02, W1: a book that is typed), in one table.
-use Prim.Native.Nat.{ℕ, suc, _-_, min}
+use Prim.Native.Nat.{ℕ, zero, suc, _-_, min}
 use mathlib.Core.Bool.{_&&_}
 use mathlib.Core.List.{List, [], _∷_, _++_}
 use lib.ListN.{getD, take}
@@ -24,6 +24,15 @@ kindTable = ascii "record\nfarm\nheading\nenteric\ncattle\npig\nenergy\nsoil\ncl
 
 abbrev pub kindName : ℕ → List ℕ
 kindName k = lineOf noKind k kindTable
+
+-- the names of n kinds from k on, with a comma before each
+unfoldable pub namesFrom : ℕ → ℕ → List ℕ
+namesFrom zero k = []
+namesFrom (suc n) k = ascii ", " ++ (kindName k ++ namesFrom n (suc k))
+
+-- the names of all kinds, with a comma between
+unfoldable pub kindNames : List ℕ
+kindNames = kindName 1 ++ namesFrom (lastKind - 1) 2
 
 -- the names of a kind's fields, with a comma between
 unfoldable pub fieldTable : List ℕ
