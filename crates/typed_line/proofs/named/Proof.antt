@@ -26,8 +26,12 @@ named-spec =
     (λ c. omega arith)
     (λ c κs. search needs)
     (λ c. omega arith)
-    (λ c. ?)
+    (λ c.
+    let l = c .before .before .before .loop in
+    sym (named-here _ (l .kind) (omega arith) (c .before .is-kind-name .ensures) (c .if1 .taken)) ∙ l .inv .1)
     (λ c. omega arith)
     (λ c. omega arith)
-    (λ c. ?)
+    (λ c.
+    let l = c .before .before .before .loop in
+    (omega arith, sym (named-on _ (l .kind) (omega arith) (c .before .is-kind-name .ensures) (c .if1 .left)) ∙ l .inv .1))
     (λ c. let l = c .before .loop in sym (named-none _ (l .kind) (omega arith)) ∙ l .inv .1))
