@@ -112,13 +112,9 @@ unfolding table
 tillage-in v e =
     let g = good 9 v e in
     record {
-      zone-least = omega arith;
-      zone-most = omega arith;
-      texture-least = omega arith;
-      texture-most = omega arith;
-      change-least = omega arith;
-      change-most = omega arith;
-      years-least = omega arith;
-      years-most = omega arith;
+      zone-in = (omega arith, omega arith);
+      texture-in = (omega arith, omega arith);
+      change-in = (omega arith, omega arith);
+      years-in = (omega arith, omega arith);
       area-in = omega arith;
     }
