@@ -69,8 +69,7 @@ expectedTable =
     ++ ascii " 1 to 8; 0 to 1000000.0 units; 0 to 10000000 g CO2 per unit\n"
     ++ ascii " 0 to 100000.00 ha\n"
     ++ ascii " 0 to 65535\n"
-    ++ ascii " 1 to 9; 1 to 3 (coarse, medium, fine); 1 to 6 (intensive to reduced, reduced to none, intensive to none, and each back)"
-    ++ ascii "; 1 to 100; 0 to 100000.00 ha"
+    ++ ascii " 1 to 9; 1 to 3 (coarse, medium, fine); 1 to 6; 1 to 100; 0 to 100000.00 ha"
 
 abbrev pub expectedTexts : ℕ → List ℕ
 expectedTexts k = lineOf noKind k expectedTable

@@ -133,8 +133,7 @@ pub fn say_expected(out: &mut [u8], at: usize, kind: u64, i: usize) -> usize
  1 to 8; 0 to 1000000.0 units; 0 to 10000000 g CO2 per unit
  0 to 100000.00 ha
  0 to 65535
- 1 to 9; 1 to 3 (coarse, medium, fine); 1 to 6 (intensive to reduced, reduced to none, intensive to none, and each back); \
-1 to 100; 0 to 100000.00 ha",
+ 1 to 9; 1 to 3 (coarse, medium, fine); 1 to 6; 1 to 100; 0 to 100000.00 ha",
         NO_KIND,
         kind,
     );
