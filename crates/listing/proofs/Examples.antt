@@ -1,4 +1,4 @@
--- Worked lines: the credit of 100 square metres in its first year, and a farm whose total is below zero.
+-- Worked lines: the credit of a hectare in its first year, and a farm whose total is below zero.
 use Prim.Native.Nat.{ℕ, _-_, _^_}
 use mathlib.Core.Path.{_≡_, refl}
 use mathlib.Core.List.{List, [], _∷_}

@@ -12,7 +12,7 @@ close-line : numbersLine (8 ∷ 0 ∷ 826954 ∷ 0 ∷ 875000 ∷ 0 ∷ 0 ∷ 18
 unfolding joined spaced decimal digitsBy
 close-line = refl
 
--- the credit of 100 square metres in the first row's first year, and the two ends of a word
+-- the credit of a hectare (W7, first zone, texture, change and year), and the two ends of a word
 credit : signed (signedOf (2 ^ 64 - 135593)) ≡ ascii "-135593"
 unfolding signed decimal digitsBy
 credit = refl
