@@ -21,7 +21,10 @@ use Rattle.names.specs.Names.{
   shown,
 }
 
-kinds-named : (kindName 3 ≡ ascii "enteric") × (kindName 8 ≡ ascii "close") × (kindName 9 ≡ ascii "tillage") × (kindName 0 ≡ ascii "record") × (kindName 300 ≡ ascii "record")
+kinds-named : (kindName 3 ≡ ascii "enteric") × (kindName 8 ≡ ascii "close")
+    × (kindName 9 ≡ ascii "tillage")
+    × (kindName 0 ≡ ascii "record")
+    × (kindName 300 ≡ ascii "record")
 unfolding kindTable nthPart indexOf indexAfter
 kinds-named = (refl, refl, refl, refl, refl)
 
@@ -29,7 +32,10 @@ all-named : kindNames ≡ ascii "farm, heading, enteric, cattle, pig, energy, so
 unfolding kindNames namesFrom kindTable nthPart indexOf indexAfter
 all-named = refl
 
-fields-named : (fieldName 3 1 ≡ ascii " GE") × (fieldName 4 8 ≡ ascii " pasture share") × (fieldName 9 3 ≡ ascii " years") × (fieldName 8 1 ≡ []) × (fieldName 10 0 ≡ [])
+fields-named : (fieldName 3 1 ≡ ascii " GE") × (fieldName 4 8 ≡ ascii " pasture share")
+    × (fieldName 9 3 ≡ ascii " years")
+    × (fieldName 8 1 ≡ [])
+    × (fieldName 10 0 ≡ [])
 unfolding fieldTable nthPart indexOf indexAfter
 fields-named = (refl, refl, refl, refl, refl)
 

@@ -1,6 +1,6 @@
 -- One answer: two answers that meet the contract of a public function are equal: what is said, and the buffer at the end (the first parameter,
--- out). Those that say something ask that it begins inside the buffer; those that answer a number or a test ask nothing. The contracts are those of the
--- source itself: Learnt is what a caller learns from a function's `ensures`, Asked what its `requires` ask.
+-- out). Those that say something ask that it begins inside the buffer; those that answer a number or a test ask nothing. The contracts are those of
+-- the source itself: Learnt is what a caller learns from a function's `ensures`, Asked what its `requires` ask.
 -- Assumes nothing.
 use Prim.Native.Nat.{ℕ}
 use mathlib.Core.Bool.{Bool}

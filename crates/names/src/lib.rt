@@ -11,7 +11,8 @@ ghost use Rattle.codec.specs.Table.{fields};
 ghost use Rattle.printing.specs.Ascii.{ascii};
 ghost use Rattle.printing.specs.Said.{Said};
 ghost use Rattle.typed_words.specs.Words.{sameText, lowered};
-ghost use Rattle.names.specs.Names.{lineOf, kindName, kindNames, fieldNames, fieldName, expected, decimalsAt, className, sentence, printedByte, shown};
+ghost use Rattle.names.specs.Names.{lineOf, kindName, kindNames, fieldNames, fieldName, expected, decimalsAt};
+ghost use Rattle.names.specs.Names.{className, sentence, printedByte, shown};
 
 // The line of what is no kind.
 const NO_KIND: u64 = codec::LAST_KIND + 1;

@@ -122,7 +122,8 @@ faulty-told {a} {r} e b w h s = rw (e, b) (faulty a r h (rw e at s) w)
 fields-few : (k : ℕ) → isKind k ≡ true → length (fields k) ≤ 12
 unfolding table
 fields-few =
-    each-kind (λ (k : ℕ). length (fields k) ≤ 12) (omega arith) (omega arith) (omega arith) (omega arith) (omega arith) (omega arith) (omega arith) (omega arith) (omega arith)
+    each-kind (λ (k : ℕ). length (fields k) ≤ 12) (omega arith) (omega arith) (omega arith) (omega arith) (omega arith) (omega arith) (omega arith)
+    (omega arith) (omega arith)
 
 module _ {a : Account} {r : List ℕ} {code field : ℕ} (f : Faulty a r code field) where
   -- from 4 on its kind is one of the book's, from 5 on its length is the kind's

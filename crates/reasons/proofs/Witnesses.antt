@@ -65,7 +65,8 @@ pub broken-2 : whyOf (joined (farm ∷ heading 3 2 12 1 ∷ [])) ≡ told 2 1 11
 unfolding whyOf whyBy run book bookBy front valAt first judge accepted sortOf table size valuesAt firstBad inPlace recordsOf recordsBy compared
 broken-2 = refl
 
-pub broken-3 : (whyOf (joined (farm ∷ heading 1 0 12 1 ∷ [])) ≡ told 3 1 11 19 0 0 0 1) × (whyOf (joined (farm ∷ heading 1 10 12 1 ∷ [])) ≡ told 3 1 11 19 0 10 10 9)
+pub broken-3 : (whyOf (joined (farm ∷ heading 1 0 12 1 ∷ [])) ≡ told 3 1 11 19 0 0 0 1)
+    × (whyOf (joined (farm ∷ heading 1 10 12 1 ∷ [])) ≡ told 3 1 11 19 0 10 10 9)
 unfolding whyOf whyBy run book bookBy front valAt first judge accepted sortOf table size valuesAt firstBad inPlace recordsOf recordsBy compared
 broken-3 = (refl, refl)
 

@@ -33,13 +33,14 @@ again c =
     let put = c .before .before .put-next in
     let turn = c .before .before .before .before .before .before .loop in
     let values = c .before .before .before .before .before .before .before .before .before .args .values .now in
+    let first = drop-cons values (turn .k) 0 (c .before .before .before .before .before .loop-test .taken) in
     record {
       same = search needs;
       from = search needs;
       to = search needs;
       room = search needs;
       small = search needs;
-      rest = λ zs q p. turn .inv .rest zs q (rw (drop-cons values (turn .k) 0 (c .before .before .before .before .before .loop-test .taken)) (and-then (put .ensures .0) (rw add-one at p)));
+      rest = λ zs q p. turn .inv .rest zs q (rw first (and-then (put .ensures .0) (rw add-one at p)));
     }
 
 returns : tie.Need-returns Inv-loop μ-loop

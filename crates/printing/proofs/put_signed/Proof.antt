@@ -32,7 +32,8 @@ put-signed-spec =
     (λ c κs.
     let minus = c .before .before .before in
     let room = minus .before .before .before .before .pre in
-    amount-fits _ _ _ (omega (arith, minus .before .before .if1 .left)) (omega (arith, room, minus .put-byte .ensures .next, put-length (minus .put-byte .ensures))))
+    let sign = minus .put-byte .ensures in
+    amount-fits _ _ _ (omega (arith, minus .before .before .if1 .left)) (omega (arith, room, sign .next, put-length sign)))
     (λ c. search needs)
     (λ c.
     let amount = c .before .before .put-digits .ensures in
