@@ -1,4 +1,5 @@
--- Document 01, "Figures to meet": P1 to P9, for each the figures that the rules give and those that are printed. Assumes nothing.
+-- Document 01, "Figures to meet": P1 to P9, P2 as document 02, W8, changes it; for each the figures that the rules give and those that are printed.
+-- Assumes nothing.
 use mathlib.Core.Bool.{Bool, true, false}
 use mathlib.Core.List.{List, [], _∷_}
 use Prim.Native.Nat.{ℕ, _+_}
@@ -56,7 +57,7 @@ row given printed = record { given = given; printed = printed }
 abbrev pub cases : List Row
 cases =
     row (entericOf 27824 1 1 1 ∷ []) (0 ∷ [])
-    ∷ row (entericOf 27825 1 1 1 ∷ []) (1 ∷ [])
+    ∷ row (entericOf 27825 1 1 1 ∷ []) (0 ∷ [])
     ∷ row (entericOf 27826 1 1 1 ∷ []) (1 ∷ [])
     ∷ row (entericOf 83475 1 1 1 ∷ []) (2 ∷ [])
     ∷ row (entericOf 30000 650 1 365 ∷ []) (127898 ∷ [])
