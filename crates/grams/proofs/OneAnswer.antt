@@ -27,6 +27,8 @@ use Rattle.grams.proofs.pig.manure.Kinds as pig
 use Rattle.grams.proofs.pig.manure.Reads as pig-contract
 use Rattle.grams.proofs.rounding.round_div.Kinds as division
 use Rattle.grams.proofs.rounding.round_div.Reads as division-contract
+use Rattle.grams.proofs.tillage.tillage.Kinds as ploughed
+use Rattle.grams.proofs.tillage.tillage.Reads as ploughed-contract
 use Rattle.grams.proofs.units.Co2.of.Kinds as air
 use Rattle.grams.proofs.units.Co2.of.Reads as air-contract
 use Rattle.grams.proofs.units.Co2.plus.Kinds as air-sum
@@ -165,6 +167,11 @@ one-energy κs args f g e e′ p q = p .exact ∙ sym (q .exact)
 pub one-soil : (κs : Lfts 0) (args : Dens κs ground.ps) (f g : Co2) (e e′ : AtExit (endedOf 0 ground.ps ground.r) κs)
     → ground-contract.Learnt κs args f e → ground-contract.Learnt κs args g e′ → f ≡ g
 one-soil κs args f g e e′ p q = p .exact ∙ sym (q .exact)
+
+-- Tillage CO2.
+pub one-tillage : (κs : Lfts 0) (args : Dens κs ploughed.ps) (f g : Co2) (e e′ : AtExit (endedOf 0 ploughed.ps ploughed.r) κs)
+    → ploughed-contract.Learnt κs args f e → ploughed-contract.Learnt κs args g e′ → f ≡ g
+one-tillage κs args f g e e′ p q = p .exact ∙ sym (q .exact)
 
 -- CO2e.
 pub one-co2e : (κs : Lfts 0) (args : Dens κs warmed.ps) (f g : Co2) (e e′ : AtExit (endedOf 0 warmed.ps warmed.r) κs)

@@ -13,9 +13,9 @@ use lib.ListN.{length, getD, take}
 use lib.Seq.{take-all, take-length}
 use Rattle.base.proofs.Tests.{and-l, and-r, lt-or-ge}
 use Rattle.codec.specs.Table.{table, fields, size, lengthOf, Of, lastKind, isKind}
-use Rattle.codec.specs.Codec.{be, valuesAt, bytesOf, recordBytes}
+use Rattle.codec.specs.Codec.{be, valuesAt, bytesOf, recordBytes, Fit}
 use Rattle.codec.proofs.BigEndian.{one-byte}
-use Rattle.codec.proofs.Rows.{Fit, length-most}
+use Rattle.codec.proofs.Rows.{length-most}
 use Rattle.codec.proofs.Round.{values-back, record-length, record-whole}
 use Rattle.account.specs.declared.Account.{Account}
 use Rattle.account.specs.Judge.{WholeRecord, judge, weigh}

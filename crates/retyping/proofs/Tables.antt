@@ -17,8 +17,8 @@ use Rattle.typed_words.specs.Amounts.{aWhole}
 use Rattle.names.specs.Names.{kindTable, kindName}
 use Rattle.codec.specs.declared.Field.{Field}
 use Rattle.codec.specs.Table.{table, fields, lastKind}
-use Rattle.codec.specs.Codec.{bytesHold, valuesAt}
-use Rattle.codec.proofs.BigEndian.{Bytes, valAt-lt}
+use Rattle.codec.specs.Codec.{bytesHold, valuesAt, Bytes}
+use Rattle.codec.proofs.BigEndian.{valAt-lt}
 use Rattle.typed_line.specs.Line.{names, placeFrom, kindOf}
 use Rattle.retyping.proofs.Words.{Word}
 use Rattle.retyping.proofs.Decimals.{Small}

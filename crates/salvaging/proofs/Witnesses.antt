@@ -6,8 +6,8 @@ use mathlib.Core.Path.{_≡_, refl}
 use mathlib.Core.List.{List, [], _∷_, _++_}
 use native.Mathlib.Omega.{arith}
 use Rattle.codec.specs.Table.{table, size}
-use Rattle.codec.specs.Codec.{valAt, be, valuesAt, bytesOf, firstBad, recordBytes}
-use Rattle.codec.proofs.BigEndian.{Bytes, bytes-append}
+use Rattle.codec.specs.Codec.{valAt, be, valuesAt, bytesOf, firstBad, recordBytes, Bytes}
+use Rattle.codec.proofs.BigEndian.{bytes-append}
 use Rattle.codec.proofs.Round.{record-whole}
 use Rattle.account.specs.Sorts.{sortOf}
 use Rattle.account.specs.Judge.{inPlace, first, accepted, judge}
