@@ -1,5 +1,5 @@
--- Document 01, "Figures to meet": P1 to P9 (P2 as document 02, W8, changes it), and worked values of a change of tillage (W7); for each the figures
--- that the rules give and those that are printed.
+-- Document 01, "Figures to meet": P1 to P9 (P2 as document 02, W8, changes it), and worked values of a change of tillage (W7) and of grazing (W10);
+-- for each the figures that the rules give and those that are printed.
 -- Assumes nothing.
 use mathlib.Core.Bool.{Bool, true, false}
 use mathlib.Core.List.{List, [], _∷_}
