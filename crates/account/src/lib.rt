@@ -20,12 +20,13 @@ pub struct Heading {
     pub head: u16,
 }
 
-// What the records under the heading have used of the year: days for each of kinds 3, 4 and 5, and the fraction of the yearly intake that was grazed.
+// What the records under the heading have used of the year: days for each of kinds 3, 4 and 5, and the fraction of the yearly intake that was
+// grazed. Four numbers of two bytes would be moved as one word, and taken apart at each record.
 pub struct Days {
     pub enteric: u16,
     pub nitrogen: u16,
     pub pig: u16,
-    pub grazed: u16,
+    pub grazed: u32,
 }
 
 // Grams: a line's figures, and the sums over all lines.
