@@ -1,7 +1,7 @@
 /* The proved reader against the plain one, on the same books, in one process.
 
    bench time ROUNDS DETAILS PART..    checks that both agree, then takes their times in turns and prints the best of each
-   bench count DETAILS BOOK PART       runs each once on one book (m or 3..7), for an instruction count
+   bench count DETAILS BOOK PART       runs each once on one book (m, 3..7 or 9), for an instruction count
    bench stack DETAILS                 prints the stack that each uses
 
    A book is read in parts of PART bytes; 0 stands for the whole book at once, by herd_desk itself. */
@@ -53,7 +53,7 @@ static void put(struct book *b, unsigned width, uint64_t value) {
 }
 
 static void start_record(struct book *b, unsigned kind) {
-    static const uint8_t lengths[9] = {0, 9, 7, 10, 20, 26, 11, 6, 4};
+    static const uint8_t lengths[10] = {0, 9, 7, 10, 20, 26, 11, 6, 4, 11};
     put(b, 2, lengths[kind]);
     put(b, 1, 1);
     put(b, 1, kind);
@@ -95,6 +95,12 @@ static void put_detail(struct book *b, unsigned kind) {
         put(b, 1, 1 + below(8));
         put(b, 4, below(10000001));
         put(b, 4, below(10000001));
+    } else if (kind == 9) {
+        put(b, 1, 1 + below(9));
+        put(b, 1, 1 + below(3));
+        put(b, 1, 1 + below(6));
+        put(b, 2, 1 + below(100));
+        put(b, 4, below(10000001));
     } else {
         put(b, 4, below(10000001));
     }
@@ -107,7 +113,7 @@ static void put_heading(struct book *b, unsigned group, unsigned class) {
     put(b, 2, below(20001));
 }
 
-/* Groups of ten records under a heading: one kind alone, or where `kind` is 0 each that the heading allows. */
+/* Groups of ten records under a heading: one kind alone, or where `kind` is 0 kinds 3 to 7 as the heading allows; kind 9 has a book of its own. */
 static struct book make_book(const char *name, unsigned kind, unsigned details) {
     struct book b = {name, malloc(LARGE), 0, 0};
     unsigned class = 1;
@@ -233,14 +239,14 @@ static void print_stacks(const struct book *book) {
 }
 
 static struct book book_named(const char *name, unsigned details) {
-    static const char *names[] = {"mixed", "", "", "kind 3", "kind 4", "kind 5", "kind 6", "kind 7"};
-    unsigned kind = name[0] == 'm' ? 0 : (unsigned)(name[0] - '0') & 7;
+    static const char *names[] = {"mixed", "", "", "kind 3", "kind 4", "kind 5", "kind 6", "kind 7", "", "kind 9"};
+    unsigned kind = name[0] >= '3' && name[0] <= '9' && name[0] != '8' ? (unsigned)(name[0] - '0') : 0;
     return make_book(names[kind], kind, details);
 }
 
 /* Every book in each of the parts, whose words end with NULL. */
 static void time_all(int rounds, unsigned details, char **parts) {
-    for (const char *name = "m34567"; *name; name++) {
+    for (const char *name = "m345679"; *name; name++) {
         struct book book = book_named(name, details);
         for (char **part = parts; *part; part++) {
             compare_times(&book, (size_t)atoi(*part), rounds);

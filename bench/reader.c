@@ -10,7 +10,7 @@ enum { MOST_RECORDS = 4096, DETAIL_LINE = 46, TOTAL_LINE = 54, SUBTOTAL = 16 };
 #define FAULT(code) (code)
 #define OUT_OF_RANGE(field) (7 | (field) << 8)
 
-static const uint8_t lengths[9] = {0, 9, 7, 10, 20, 26, 11, 6, 4};
+static const uint8_t lengths[10] = {0, 9, 7, 10, 20, 26, 11, 6, 4, 11};
 
 static uint64_t be16(const uint8_t *p) {
     return (uint64_t)p[0] << 8 | p[1];
@@ -159,7 +159,7 @@ static int energy(const uint8_t *p, struct figures *f) {
     if (factor > 10000000) {
         return OUT_OF_RANGE(3);
     }
-    f->co2 = rounded(amount * factor, 10);
+    f->co2 = (int64_t)rounded(amount * factor, 10);
     return 0;
 }
 
@@ -168,7 +168,85 @@ static int soil(const uint8_t *p, struct figures *f) {
     if (area > 10000000) {
         return OUT_OF_RANGE(1);
     }
-    f->co2 = rounded(area * 550000, 3);
+    f->co2 = (int64_t)rounded(area * 550000, 3);
+    return 0;
+}
+
+/* Table A4-4 by zone, texture and change: lumCmax in g per square metre, k in ten-thousandths. */
+static const struct {
+    int16_t lum_c_max;
+    uint16_t k;
+} changes[9][3][6] = {
+    /* Boreal Shield West */
+    {{{143, 262}, {441, 284}, {584, 306}, {-143, 262}, {-441, 284}, {-584, 306}},
+     {{217, 253}, {478, 282}, {695, 311}, {-217, 253}, {-478, 282}, {-695, 311}},
+     {{155, 258}, {398, 331}, {553, 403}, {-155, 258}, {-398, 331}, {-553, 403}}},
+    /* Atlantic Maritime */
+    {{{232, 282}, {25, 252}, {257, 222}, {-232, 282}, {-25, 252}, {-257, 222}},
+     {{246, 227}, {241, 219}, {486, 211}, {-246, 227}, {-241, 219}, {-486, 211}},
+     {{349, 285}, {184, 291}, {533, 298}, {-349, 285}, {-184, 291}, {-533, 298}}},
+    /* Boreal Plains */
+    {{{221, 270}, {450, 283}, {671, 296}, {-221, 270}, {-450, 283}, {-671, 296}},
+     {{233, 219}, {464, 238}, {698, 258}, {-233, 219}, {-464, 238}, {-698, 258}},
+     {{163, 180}, {467, 231}, {630, 283}, {-163, 180}, {-467, 231}, {-630, 283}}},
+    /* Boreal Shield East */
+    {{{277, 295}, {665, 268}, {941, 242}, {-277, 295}, {-665, 268}, {-941, 242}},
+     {{238, 266}, {311, 230}, {549, 193}, {-238, 266}, {-311, 230}, {-549, 193}},
+     {{206, 228}, {235, 178}, {441, 127}, {-206, 228}, {-235, 178}, {-441, 127}}},
+    /* Mixedwood Plains */
+    {{{181, 307}, {435, 300}, {616, 293}, {-181, 307}, {-435, 300}, {-616, 293}},
+     {{173, 262}, {264, 256}, {437, 250}, {-173, 262}, {-264, 256}, {-437, 250}},
+     {{197, 208}, {207, 216}, {404, 223}, {-197, 208}, {-207, 216}, {-404, 223}}},
+    /* Semiarid Prairies */
+    {{{183, 226}, {316, 239}, {499, 252}, {-183, 226}, {-316, 239}, {-499, 252}},
+     {{233, 193}, {261, 230}, {495, 266}, {-233, 193}, {-261, 230}, {-495, 266}},
+     {{268, 149}, {193, 194}, {462, 240}, {-268, 149}, {-193, 194}, {-462, 240}}},
+    /* Montane Cordillera */
+    {{{51, 141}, {289, 138}, {340, 135}, {-51, 141}, {-289, 138}, {-340, 135}},
+     {{446, 163}, {115, 159}, {561, 155}, {-446, 163}, {-115, 159}, {-561, 155}},
+     {{31, 73}, {581, 101}, {613, 129}, {-31, 73}, {-581, 101}, {-613, 129}}},
+    /* Pacific Maritime */
+    {{{105, 175}, {638, 153}, {743, 132}, {-105, 175}, {-638, 153}, {-743, 132}},
+     {{763, 120}, {807, 131}, {1570, 143}, {-763, 120}, {-1256, 219}, {-1570, 143}},
+     {{533, 91}, {778, 106}, {1311, 121}, {-533, 91}, {-441, 310}, {-1311, 121}}},
+    /* Subhumid Prairies */
+    {{{256, 230}, {411, 266}, {667, 302}, {-256, 230}, {-411, 266}, {-667, 302}},
+     {{331, 271}, {320, 287}, {651, 302}, {-331, 271}, {-320, 287}, {-651, 302}},
+     {{196, 203}, {189, 230}, {385, 257}, {-196, 203}, {-189, 230}, {-385, 257}}},
+};
+
+#define ONE 1000000000000u
+
+/* e^-x in units of 1/ONE for x in ten-thousandths: the series up to x^20 by Horner, each division rounded down. */
+static uint64_t fading(uint64_t x) {
+    uint64_t e = ONE;
+    for (unsigned i = 20; i > 0; i--) {
+        uint64_t less = e * x / (10000 * i);
+        e = less < ONE ? ONE - less : 0;
+    }
+    return e;
+}
+
+/* A carbon rate is first rounded to mg per square metre, then the CO2 on the area to grams; both as amounts, the sign comes last. */
+static int tillage(const uint8_t *p, struct figures *f) {
+    static const uint8_t highest[3] = {9, 3, 6};
+    uint64_t years = be16(p + 3), area = be32(p + 5);
+    for (int i = 0; i < 3; i++) {
+        if (p[i] < 1 || p[i] > highest[i]) {
+            return OUT_OF_RANGE(i + 1);
+        }
+    }
+    if (years < 1 || years > 100) {
+        return OUT_OF_RANGE(4);
+    }
+    if (area > 10000000) {
+        return OUT_OF_RANGE(5);
+    }
+    int lum = changes[p[0] - 1][p[1] - 1][p[2] - 1].lum_c_max;
+    uint64_t k = changes[p[0] - 1][p[1] - 1][p[2] - 1].k;
+    uint64_t mg = rounded((uint64_t)(lum < 0 ? -lum : lum) * (fading(k * (years - 1)) - fading(k * years)), 1000000000);
+    int64_t grams = (int64_t)rounded(mg * area * 11, 30);
+    f->co2 = lum < 0 ? grams : -grams;
     return 0;
 }
 
@@ -178,7 +256,7 @@ static int misplaced(const struct reader *r, const uint8_t *record) {
     if (record[2] != 1) {
         return FAULT(2);
     }
-    if (kind < 1 || kind > 8) {
+    if (kind < 1 || kind > 9) {
         return FAULT(3);
     }
     if (be16(record) != lengths[kind]) {
@@ -203,7 +281,7 @@ static void put_line(uint8_t *line, unsigned length, unsigned kind, unsigned gro
     put16(line + 4, group);
     put64(line + 6, f->ch4);
     put64(line + 14, f->n2o);
-    put64(line + 22, f->co2);
+    put64(line + 22, (uint64_t)f->co2);
     put64(line + 30, f->excreted);
     put64(line + 38, f->land);
 }
@@ -260,7 +338,7 @@ static enum answer close_book(struct reader *r, const uint8_t *p, uint8_t *line,
     }
     uint64_t per_ch4 = r->set == 1 ? 21 : 23, per_n2o = r->set == 1 ? 310 : 296;
     put_line(line, TOTAL_LINE - 2, 8, 0, sums);
-    put64(line + DETAIL_LINE, sums->co2 + per_ch4 * sums->ch4 + per_n2o * sums->n2o);
+    put64(line + DETAIL_LINE, (uint64_t)(sums->co2 + (int64_t)(per_ch4 * sums->ch4 + per_n2o * sums->n2o)));
     *written += size + TOTAL_LINE;
     r->stage = CLOSED_BOOK;
     r->records++;
@@ -288,6 +366,8 @@ static int read_record(struct reader *r, unsigned kind, const uint8_t *p, struct
         return pig(r, p, f, days);
     case 6:
         return energy(p, f);
+    case 9:
+        return tillage(p, f);
     default:
         return soil(p, f);
     }

@@ -6,7 +6,9 @@
 #include <stdint.h>
 
 struct figures {
-    uint64_t ch4, n2o, co2, excreted, land;
+    uint64_t ch4, n2o;
+    int64_t co2; /* below zero where tillage binds carbon */
+    uint64_t excreted, land;
 };
 
 struct heading {

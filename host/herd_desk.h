@@ -8,20 +8,21 @@
 
    Every book starts from no record: nothing is kept from one call to the next, and calls may run side by side.
 
-   Lines.  A detail record (enteric, cattle nitrogen, pig, energy, soil) gives a line of 46 bytes, the close a total of 54. Where a
-   group ends, at the next heading or at the close, a subtotal of 46 bytes comes first: the heading then gives 46 bytes in all,
-   the close 100. The first heading gives nothing, and without any heading the close gives its 54 bytes alone. All numbers are
-   unsigned and big-endian:
+   Lines.  A detail record (enteric, cattle nitrogen, pig, energy, soil, tillage) gives a line of 46 bytes, the close a total of 54.
+   Where a group ends, at the next heading or at the close, a subtotal of 46 bytes comes first: the heading then gives 46 bytes in
+   all, the close 100. The first heading gives nothing, and without any heading the close gives its 54 bytes alone. All numbers are
+   big-endian. They are unsigned, but for CO2 and CO2e, which are below zero where less tillage binds more carbon than all else
+   sets free: these are in two's complement, and herd_desk_signed takes them from their bytes.
 
        bytes 0..1    length of what follows: 44, or 52 for the total
        byte  2       version 1
-       byte  3       kind: 3 to 7 for a detail record, 16 for a subtotal, 8 for the total
-       bytes 4..5    group, for a subtotal that of the group that ends; 0 for kinds 6, 7 and 8
-       bytes 6..45   grams of CH4, N2O, CO2, excreted nitrogen, nitrogen for land, 8 bytes each
-       bytes 46..53  for the total: grams of CO2e
+       byte  3       kind: 3 to 7 and 9 for a detail record, 16 for a subtotal, 8 for the total
+       bytes 4..5    group, for a subtotal that of the group that ends; 0 for kinds 6 to 9
+       bytes 6..45   grams of CH4, N2O, CO2 (bytes 22..29, signed), excreted nitrogen, nitrogen for land, 8 bytes each
+       bytes 46..53  for the total: grams of CO2e (signed)
 
    A subtotal's grams are the sums over the group's records of kinds 3 to 5, all zero where it has none, and its CO2 is always 0;
-   energy and soil belong to the farm. The total's grams are the sums over all detail records: subtotals are not added again.
+   energy, soil and tillage belong to the farm. The total's grams are the sums over all detail records: subtotals are not added again.
 
    Lines given before a refusal, a full buffer or a missing close stay in the buffer and are counted. Only whole lines are
    written, and a close's subtotal never without its total. Bytes of the buffer past those written are untouched.
@@ -51,7 +52,7 @@ enum {
     HERD_DESK_CLOSED = 0,               /* the book is right: it ends with its close */
     HERD_DESK_NO_SUCH_LENGTH = 1,       /* refused: a length that no record has */
     HERD_DESK_OTHER_VERSION = 2,        /* refused: another version than 1 */
-    HERD_DESK_NO_SUCH_KIND = 3,         /* refused: no such kind of record */
+    HERD_DESK_NO_SUCH_KIND = 3,         /* refused: no such kind of record, which is 1 to 9 */
     HERD_DESK_WRONG_LENGTH = 4,         /* refused: another length than the kind's */
     HERD_DESK_TOO_MANY_RECORDS = 5,     /* refused: more than 4,096 records */
     HERD_DESK_OUT_OF_PLACE = 6,         /* refused: a record out of its place */
@@ -80,13 +81,22 @@ static inline size_t herd_desk_written(uint64_t answer) {
     return (size_t)(answer & 0xffffffff);
 }
 
+/* The grams of CO2 or CO2e at eight bytes of a line: of CO2 at line + 22, of a total's CO2e at line + 46. */
+static inline int64_t herd_desk_signed(const uint8_t *bytes) {
+    uint64_t word = 0;
+    for (int i = 0; i < 8; i++) {
+        word = word << 8 | bytes[i];
+    }
+    return word <= INT64_MAX ? (int64_t)word : -(int64_t)(UINT64_MAX - word) - 1;
+}
+
 /* The words of a code; they are never freed, and have no line's end. */
 static inline const char *herd_desk_words(uint32_t code) {
     switch (code) {
     case HERD_DESK_CLOSED: return "closed";
     case HERD_DESK_NO_SUCH_LENGTH: return "a length that no record has: it is 4 to 26";
     case HERD_DESK_OTHER_VERSION: return "the version is not 1";
-    case HERD_DESK_NO_SUCH_KIND: return "no such kind of record: kinds are 1 to 8";
+    case HERD_DESK_NO_SUCH_KIND: return "no such kind of record: kinds are 1 to 9";
     case HERD_DESK_WRONG_LENGTH: return "a wrong length or count of values";
     case HERD_DESK_TOO_MANY_RECORDS: return "the book has 4096 records, and no more go in";
     case HERD_DESK_OUT_OF_PLACE: return "out of its place: a book begins with its one farm record; "

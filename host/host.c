@@ -177,6 +177,21 @@ static void run_null(void) {
     }
 }
 
+/* Below zero, at both ends, and above. */
+static void run_signed(void) {
+    const uint8_t words[5][8] = {{255, 255, 255, 255, 255, 253, 238, 87},
+                                 {255, 255, 255, 255, 255, 255, 255, 255},
+                                 {128},
+                                 {127, 255, 255, 255, 255, 255, 255, 255},
+                                 {0, 0, 0, 0, 0, 2, 17, 169}};
+    const int64_t wanted[5] = {-135593, -1, INT64_MIN, INT64_MAX, 135593};
+    for (int i = 0; i < 5; i++) {
+        if (herd_desk_signed(words[i]) != wanted[i]) {
+            fail(0, "another signed number");
+        }
+    }
+}
+
 int main(int argc, char **argv) {
     FILE *file = argc == 2 ? fopen(argv[1], "r") : NULL;
     if (file == NULL) {
@@ -186,6 +201,7 @@ int main(int argc, char **argv) {
     size_t calls = 0, codes[HERD_DESK_MORE_BYTES + 1] = {0};
     struct trial t;
     run_null();
+    run_signed();
     while (next_trial(file, calls + 1, &t)) {
         run(&t, ++calls);
         codes[herd_desk_code(t.wanted)]++;

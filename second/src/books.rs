@@ -20,12 +20,15 @@ fn days_left(state: &State, kind: u8) -> u64 {
     366 - u64::from(state.heading.days[kind::days_at(kind)])
 }
 
-/// The kinds, the close left out, that this open state can accept.
-fn kinds_allowed(state: &State) -> Vec<u8> {
+/// The kinds, the close left out, that this open state can accept, of those that the dice draw.
+fn kinds_allowed(dice: &Dice, state: &State) -> Vec<u8> {
     if state.records == 0 {
         return vec![kind::FARM];
     }
     let mut kinds = vec![kind::ENERGY, kind::SOIL];
+    if dice.knows(kind::TILLAGE) {
+        kinds.push(kind::TILLAGE);
+    }
     if state.heading.group < 65_535 {
         kinds.push(kind::HEADING);
     }
@@ -60,9 +63,16 @@ pub fn right_values(dice: &mut Dice, state: &State, kind: u8) -> Vec<u64> {
             v[10] = dice.edgy(0, 1_000 - v[8]);
         }
         kind::CLOSE => v[0] = u64::from(state.records),
+        kind::TILLAGE if dice.one_in(6) => half_of_tillage(dice, &mut v),
         _ => (),
     }
     v
+}
+
+/// 225 mg, on an area whose CO2 is an exact half, of either sign: 225 × 11 / 30 is 82.5.
+fn half_of_tillage(dice: &mut Dice, v: &mut [u64]) {
+    let area = 2 * dice.below(5_000_000) + 1;
+    v.copy_from_slice(&[7, 3, dice.of(&[1, 4]), 1, area]);
 }
 
 fn next_group(dice: &mut Dice, state: &State) -> u64 {
@@ -107,7 +117,8 @@ fn x(v: &[u64]) -> i128 {
 
 /// A record that this open state accepts; it must hold fewer than 4,095 records.
 pub fn right_record(dice: &mut Dice, state: &State) -> Vec<u8> {
-    let kind = dice.of(&kinds_allowed(state));
+    let kinds = kinds_allowed(dice, state);
+    let kind = dice.of(&kinds);
     record_of(kind, &right_values(dice, state, kind))
 }
 
@@ -143,7 +154,7 @@ pub fn wrong_record(dice: &mut Dice, state: &State, number: u8) -> Option<Vec<u8
     match number {
         1 => Some(bad_length(dice, state)),
         2 => Some(with_byte(dice, state, 2, &[0, 2, 3, 128, 255])),
-        3 => Some(with_byte(dice, state, 3, &[0, 9, 10, 16, 128, 255])),
+        3 => Some(with_byte(dice, state, 3, &[0, 11, 10, 16, 128, 255])),
         4 => Some(length_of_another(dice, state)),
         5 => full.then(|| any_record(dice, state)),
         _ if full => None,
@@ -167,7 +178,8 @@ fn bad_length(dice: &mut Dice, state: &State) -> Vec<u8> {
 
 /// A record of a kind that would fit the place, if another number did not come first.
 fn any_record(dice: &mut Dice, state: &State) -> Vec<u8> {
-    let kind = dice.of(&kinds_allowed(state));
+    let kinds = kinds_allowed(dice, state);
+    let kind = dice.of(&kinds);
     record_of(kind, &right_values(dice, state, kind))
 }
 
@@ -192,15 +204,8 @@ fn length_of_another(dice: &mut Dice, state: &State) -> Vec<u8> {
 
 fn out_of_place(dice: &mut Dice, state: &State) -> Option<Vec<u8>> {
     let kinds: &[u8] = match (state.records, state.heading.class) {
-        (0, _) => &[
-            kind::HEADING,
-            kind::ENTERIC,
-            kind::CATTLE,
-            kind::PIG,
-            kind::ENERGY,
-            kind::SOIL,
-            kind::CLOSE,
-        ],
+        (0, _) if dice.knows(kind::TILLAGE) => &[2, 3, 4, 5, 6, 7, 8, 9],
+        (0, _) => &[2, 3, 4, 5, 6, 7, 8],
         (_, 0) => &[kind::FARM, kind::ENTERIC, kind::CATTLE, kind::PIG],
         (_, 4) => &[kind::FARM, kind::ENTERIC, kind::CATTLE],
         _ => &[kind::FARM, kind::PIG],
@@ -224,8 +229,9 @@ pub fn values_outside(kind: u8, position: usize) -> Vec<u64> {
 }
 
 fn out_of_range(dice: &mut Dice, state: &State) -> Vec<u8> {
+    let kinds = kinds_allowed(dice, state);
     loop {
-        let kind = dice.of(&kinds_allowed(state));
+        let kind = dice.of(&kinds);
         let mut v = right_values(dice, state, kind);
         let position = dice.below(v.len() as u64) as usize;
         let outside = values_outside(kind, position);

@@ -3,7 +3,7 @@
 use crate::books::{after, closed_run, damaged_run, right_close, right_run, wrong_record};
 use crate::calls::{some_calls, MOST_ROOM, ROOMS};
 use crate::damages;
-use crate::dice::Dice;
+use crate::dice::{Dice, Seed};
 use crate::figures::Subtotal;
 use crate::kind;
 use crate::parts;
@@ -14,14 +14,16 @@ use crate::record::record_of;
 use crate::slips;
 use crate::state::{Heading, Refusal, State, CLOSED, MOST_RECORDS, NO_RECORD, OPEN, REFUSED};
 use crate::states::{
-    bare_states, beside_bounds, heading_beside, most_subtotal, most_sums, right_state,
+    bare_states, beside_bounds, heading_beside, most_subtotal, most_sums, right_state, some_beside,
     subtotal_beside,
 };
+use crate::tillages;
 use crate::trial::{Call, Case};
 use crate::writes;
 
 /// The case of this seed and index.
-pub fn case(seed: u64, index: u64) -> Case {
+pub fn case(seed: impl Into<Seed>, index: u64) -> Case {
+    let seed = seed.into();
     if let Some(case) = writes::in_a_row(seed, index)
         .or_else(|| parts::of_each_size(seed, index))
         .or_else(|| damages::now_and_then(seed, index))
@@ -114,8 +116,7 @@ fn out_of_range(dice: &mut Dice) -> Case {
         let held = dice.below(bytes.len() as u64) as usize;
         base = after(&base, &bytes[..held]);
     }
-    let states = if dice.one_in(10) { bare_states() } else { beside_bounds(&base) };
-    let state = states[dice.below(states.len() as u64) as usize];
+    let state = some_beside(dice, &base);
     let count = dice.below(40) as usize;
     let input: Vec<u8> = sample()[..count].to_vec();
     book(dice, state, input)
@@ -184,14 +185,16 @@ pub fn stored() -> Vec<Case> {
     cases.extend(slips::at_the_ends());
     cases.extend(writes::stored());
     cases.extend(damages::stored());
-    let mut dice = Dice::of_case(1, 0);
+    let seed = Seed::up_to(kind::CLOSE, 1);
+    let mut dice = Dice::of_case(seed, 0);
     cases.push(longest_book(&mut dice));
     cases.extend((0..60).map(|_| slips::some_slip(&mut dice)));
-    cases.extend((1..=150).map(|index| case(1, index)));
+    cases.extend((1..=150).map(|index| case(seed, index)));
+    cases.extend(tillages::stored(&clause_bases()));
     cases
 }
 
-fn whole(state: State, input: Vec<u8>, room: usize) -> Case {
+pub fn whole(state: State, input: Vec<u8>, room: usize) -> Case {
     let calls = vec![Call { offer: input.len(), room }];
     Case::Book { state, input, calls }
 }
@@ -216,7 +219,6 @@ fn byte_by_byte(input: Vec<u8>) -> Case {
 
 /// Books whose groups have many rations, one, or none.
 fn groups() -> Vec<Case> {
-    let start = State::default();
     let plain = |kind| (kind, 0, 0);
     let heading = |group| (kind::HEADING, group, 1);
     let books = [
@@ -242,15 +244,18 @@ fn groups() -> Vec<Case> {
             plain(kind::CLOSE),
         ]),
     ];
-    let mut cases: Vec<Case> = Vec::new();
-    for input in books {
-        cases.push(whole(start, input.clone(), 4_096));
-        for room in [46, 54, 92, 99, 100, 101, 146] {
-            let calls = vec![Call { offer: 1_000, room }; 12];
-            cases.push(Case::Book { state: start, input: input.clone(), calls });
-        }
-        cases.push(byte_by_byte(input));
+    books.into_iter().flat_map(in_every_room).collect()
+}
+
+/// A book whole, with each room that matters, and byte by byte.
+pub fn in_every_room(input: Vec<u8>) -> Vec<Case> {
+    let start = State::default();
+    let mut cases = vec![whole(start, input.clone(), 4_096)];
+    for room in [46, 54, 92, 99, 100, 101, 146] {
+        let calls = vec![Call { offer: 1_000, room }; 12];
+        cases.push(Case::Book { state: start, input: input.clone(), calls });
     }
+    cases.push(byte_by_byte(input));
     cases
 }
 
@@ -347,7 +352,8 @@ fn each_number() -> Vec<Case> {
     let full = State { records: MOST_RECORDS, ..under(2) };
     for number in 1..=12 {
         for index in 0..4 {
-            let mut dice = Dice::of_case(2, u64::from(number) * 100 + index);
+            let seed = Seed::up_to(kind::CLOSE, 2);
+            let mut dice = Dice::of_case(seed, u64::from(number) * 100 + index);
             let state = if number == 5 { full } else { State::default() };
             let input = damaged_run(&mut dice, &state, number);
             cases.push(book(&mut dice, state, input));
@@ -359,7 +365,7 @@ fn each_number() -> Vec<Case> {
 
 /// A wrong record where even a right one would find no room.
 fn no_room(number: u8) -> Option<Case> {
-    let mut dice = Dice::of_case(3, u64::from(number));
+    let mut dice = Dice::of_case(Seed::up_to(kind::CLOSE, 3), u64::from(number));
     let class = dice.of(&[1, 4]);
     let mut state = under(if number == 11 { 1 } else { class });
     state.heading.days = [300, 300, 300];
@@ -368,8 +374,8 @@ fn no_room(number: u8) -> Option<Case> {
     Some(whole(state, input, 0))
 }
 
-/// Each part of a state at and beside its bounds, from a state of each sort.
-fn each_clause() -> Vec<Case> {
+/// A state of each sort: of no record, holding bytes, closed, refused.
+fn clause_bases() -> [State; 4] {
     let mut held = under(3);
     held.records = 7;
     held.sums.ch4 = 1_000_000;
@@ -378,8 +384,13 @@ fn each_clause() -> Vec<Case> {
     let closed = State { stage: CLOSED, ..under(4) };
     let mut refused = State { stage: REFUSED, ..under(2) };
     refused.refusal = Refusal { code: 7, record: 2, field: 3 };
+    [State::default(), held, closed, refused]
+}
+
+/// Each part of a state at and beside its bounds.
+fn each_clause() -> Vec<Case> {
     let mut states = bare_states();
-    for base in [State::default(), held, closed, refused] {
+    for base in clause_bases() {
         states.extend(beside_bounds(&base));
     }
     let without_heading = State { heading: Heading::default(), ..under(1) };

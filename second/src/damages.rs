@@ -2,7 +2,8 @@
 
 use crate::books::{after, closed_run, right_close, right_record, wrong_record};
 use crate::desk::{long_book, many_groups};
-use crate::dice::Dice;
+use crate::dice::{Dice, Seed};
+use crate::kind;
 use crate::plain::plain_values;
 use crate::record::{length_of, record_of};
 use crate::salvage::{salvage, LONGEST};
@@ -10,7 +11,7 @@ use crate::state::State;
 use crate::trial::Case;
 
 /// The damaged book of this seed and index.
-pub fn damaged(seed: u64, index: u64) -> Vec<u8> {
+pub fn damaged(seed: impl Into<Seed>, index: u64) -> Vec<u8> {
     let mut dice = Dice::of_case(seed, index);
     let dice = &mut dice;
     let start = State::default();
@@ -160,7 +161,8 @@ fn group(dice: &mut Dice, state: &State) -> Vec<u8> {
         _ => record_of(2, &[next, class, 20_001]),
     };
     for _ in 0..dice.between(1, 5) {
-        let kind = dice.of(&[3, 4, 5, 6, 7, 3]);
+        let last = if dice.knows(kind::TILLAGE) { kind::TILLAGE } else { kind::ENTERIC };
+        let kind = dice.of(&[3, 4, 5, 6, 7, last]);
         let detail = record_of(kind, &plain_values(kind));
         book.extend(if dice.one_in(5) { with(&detail, 2, 7) } else { detail });
     }
@@ -197,7 +199,7 @@ fn with_rooms(dice: &mut Dice, mut book: Vec<u8>) -> Case {
 }
 
 /// One of every 16 fresh cases is a damaged book.
-pub fn now_and_then(seed: u64, index: u64) -> Option<Case> {
+pub fn now_and_then(seed: Seed, index: u64) -> Option<Case> {
     (index % 16 == 5).then(|| {
         let mut dice = Dice::of_case(seed, index);
         let book = damaged(seed, 100 * (index / 16 % 3) + 10 + dice.below(90));
@@ -205,11 +207,16 @@ pub fn now_and_then(seed: u64, index: u64) -> Option<Case> {
     })
 }
 
-/// Stored: damaged books with each room that matters, for the book and for the list.
+/// Stored: those of before kind 9.
 pub fn stored() -> Vec<Case> {
+    stored_of(Seed::up_to(kind::CLOSE, 2), (0..20).chain(200..210))
+}
+
+/// Damaged books with each room that matters, for the book and for the list.
+pub fn stored_of(seed: Seed, indices: impl Iterator<Item = u64>) -> Vec<Case> {
     let mut cases = Vec::new();
-    for index in (0..20).chain(200..210) {
-        let book = damaged(2, index);
+    for index in indices {
+        let book = damaged(seed, index);
         if book.len() > 1_200 {
             continue;
         }

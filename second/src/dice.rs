@@ -1,24 +1,59 @@
 //! Chance that is the same on every machine: a xorshift generator.
 
-pub struct Dice(u64);
+use crate::kind;
+
+/// What chance starts from: a number, and the newest kind of record that is drawn, so that stored cases stay what they are when a kind is added.
+#[derive(Clone, Copy)]
+pub struct Seed {
+    number: u64,
+    newest: u8,
+}
+
+impl Seed {
+    pub const fn up_to(newest: u8, number: u64) -> Seed {
+        Seed { number, newest }
+    }
+}
+
+impl From<u64> for Seed {
+    fn from(number: u64) -> Seed {
+        Seed { number, newest: *kind::ALL.end() }
+    }
+}
+
+pub struct Dice {
+    state: u64,
+    newest: u8,
+}
 
 impl Dice {
     /// The dice of one case, so that a case can be made again without those before it.
-    pub fn of_case(seed: u64, index: u64) -> Dice {
+    pub fn of_case(seed: impl Into<Seed>, index: u64) -> Dice {
+        let Seed { number, newest } = seed.into();
         let mixed =
-            seed.wrapping_mul(0x9E37_79B9_7F4A_7C15) ^ index.wrapping_mul(0xD1B5_4A32_D192_ED03);
-        let mut dice = Dice(mixed | 1);
+            number.wrapping_mul(0x9E37_79B9_7F4A_7C15) ^ index.wrapping_mul(0xD1B5_4A32_D192_ED03);
+        let mut dice = Dice { state: mixed | 1, newest };
         for _ in 0..8 {
             dice.roll();
         }
         dice
     }
 
+    /// The newest kind of record that is drawn.
+    pub fn newest(&self) -> u8 {
+        self.newest
+    }
+
+    /// Whether records of this kind are drawn.
+    pub fn knows(&self, kind: u8) -> bool {
+        kind <= self.newest
+    }
+
     pub fn roll(&mut self) -> u64 {
-        self.0 ^= self.0 << 13;
-        self.0 ^= self.0 >> 7;
-        self.0 ^= self.0 << 17;
-        self.0.wrapping_mul(0x2545_F491_4F6C_DD1D)
+        self.state ^= self.state << 13;
+        self.state ^= self.state >> 7;
+        self.state ^= self.state << 17;
+        self.state.wrapping_mul(0x2545_F491_4F6C_DD1D)
     }
 
     /// A number below `n`, which is not zero.

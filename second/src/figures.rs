@@ -1,11 +1,11 @@
 //! Document 01, "The arithmetic": every figure in whole grams, computed in 128 bits so that nothing can overflow.
 
-/// The five figures of a line, and the five sums of a book.
+/// The five figures of a line, and the five sums of a book; CO2 alone may be below zero (document 02, W7).
 #[derive(Clone, Copy, Debug, Default, PartialEq, Eq)]
 pub struct Figures {
     pub ch4: u64,
     pub n2o: u64,
-    pub co2: u64,
+    pub co2: i64,
     pub excreted: u64,
     pub land: u64,
 }
@@ -21,9 +21,20 @@ impl Figures {
         }
     }
 
+    /// As eight bytes each say them.
     pub fn in_order(self) -> [u64; 5] {
-        [self.ch4, self.n2o, self.co2, self.excreted, self.land]
+        [self.ch4, self.n2o, word(self.co2), self.excreted, self.land]
     }
+}
+
+/// The eight bytes of a signed figure, which are its two's complement, as an unsigned number.
+pub fn word(figure: i64) -> u64 {
+    u64::from_be_bytes(figure.to_be_bytes())
+}
+
+/// The signed figure that eight bytes say.
+pub fn signed(word: u64) -> i64 {
+    i64::from_be_bytes(word.to_be_bytes())
 }
 
 /// Grams of the records of kinds 3 to 5 under one heading, which give no CO2.
@@ -106,18 +117,28 @@ pub fn pig(head: u128, v: &[u128]) -> Figures {
     }
 }
 
+/// Grams of CO2 alone.
+pub fn carbon(grams: i64) -> Figures {
+    Figures { co2: grams, ..Figures::default() }
+}
+
 /// Energy CO2; `v` is source, amount, factor.
 pub fn energy(v: &[u128]) -> Figures {
-    Figures { co2: round(v[1] * v[2], 10), ..Figures::default() }
+    carbon(positive(round(v[1] * v[2], 10)))
 }
 
 /// Organic soil CO2; `v` is the area.
 pub fn soil(v: &[u128]) -> Figures {
-    Figures { co2: round(v[0] * 550_000, 3), ..Figures::default() }
+    carbon(positive(round(v[0] * 550_000, 3)))
+}
+
+/// An amount as a signed figure.
+pub fn positive(grams: u64) -> i64 {
+    i64::try_from(grams).expect("a figure fits 63 bits")
 }
 
 /// CO2e of the sums, by the warming set.
-pub fn co2e(set: u8, sums: Figures) -> u64 {
+pub fn co2e(set: u8, sums: Figures) -> i64 {
     let (a, b) = if set == 1 { (21, 310) } else { (23, 296) };
-    sums.co2 + a * sums.ch4 + b * sums.n2o
+    sums.co2 + positive(a * sums.ch4 + b * sums.n2o)
 }

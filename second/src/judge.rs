@@ -1,9 +1,10 @@
-//! Document 01, "Refusal numbers, in the order they are tried": what one whole record does, from 2 to 12; document 02's W2: subtotals.
+//! Document 01, "Refusal numbers, in the order they are tried": what one whole record does, from 2 to 12; document 02's W2: subtotals; W7: tillage.
 
 use crate::figures::{self, Figures, Subtotal};
 use crate::kind;
 use crate::record::{big_endian, fields_of, length_of, values_of};
 use crate::state::{Heading, State, CLOSED, MOST_RECORDS, OPEN};
+use crate::tillage;
 
 /// A record's refusal: code, and field where the code is 7.
 pub type Fault = (u8, u8);
@@ -20,7 +21,7 @@ pub fn judge(state: &State, record: &[u8]) -> Result<Accepted, Fault> {
     judge_values(state, kind, &values_of(kind, record))
 }
 
-/// Judges the values of a kind 1..8, as many as it has fields: from 5 to 12.
+/// Judges the values of a kind 1..9, as many as it has fields: from 5 to 12.
 pub fn judge_values(state: &State, kind: u8, values: &[u128]) -> Result<Accepted, Fault> {
     in_its_place(state, kind)?;
     in_their_ranges(kind, values)?;
@@ -104,6 +105,7 @@ fn accept(state: &State, kind: u8, v: &[u128]) -> Accepted {
         kind::PIG => of_group(with_days(counted, kind, v), kind, figures::pig(head, v)),
         kind::ENERGY => of_farm(counted, kind, figures::energy(v)),
         kind::SOIL => of_farm(counted, kind, figures::soil(v)),
+        kind::TILLAGE => of_farm(counted, kind, tillage::figures(v)),
         _ => close(counted),
     }
 }
@@ -131,7 +133,7 @@ fn of_group(state: State, kind: u8, made: Figures) -> Accepted {
     Accepted { state: State { subtotal, sums, ..state }, lines }
 }
 
-/// A detail record of the farm, kinds 6 and 7, which no subtotal counts.
+/// A detail record of the farm, kinds 6, 7 and 9, which no subtotal counts.
 fn of_farm(state: State, kind: u8, made: Figures) -> Accepted {
     let lines = line_of(kind, 0, &made.in_order());
     Accepted { state: State { sums: state.sums.plus(made), ..state }, lines }
@@ -140,7 +142,7 @@ fn of_farm(state: State, kind: u8, made: Figures) -> Accepted {
 /// The last group's subtotal, which stays in the state, then the total.
 fn close(state: State) -> Accepted {
     let mut numbers = state.sums.in_order().to_vec();
-    numbers.push(figures::co2e(state.set, state.sums));
+    numbers.push(figures::word(figures::co2e(state.set, state.sums)));
     let lines = [subtotal_line(&state), line_of(kind::CLOSE, 0, &numbers)].concat();
     Accepted { state: State { stage: CLOSED, ..state }, lines }
 }

@@ -1,4 +1,4 @@
-//! Document 01's eight kinds of record by name, and the kind of document 02's subtotal line (W2), which no record has.
+//! Document 01's eight kinds of record and document 02's ninth (W7) by name, and the kind of its subtotal line (W2), which no record has.
 
 use std::ops::RangeInclusive;
 
@@ -10,10 +10,11 @@ pub const PIG: u8 = 5;
 pub const ENERGY: u8 = 6;
 pub const SOIL: u8 = 7;
 pub const CLOSE: u8 = 8;
+pub const TILLAGE: u8 = 9;
 pub const SUBTOTAL: u8 = 16;
 
 /// The kinds of records.
-pub const ALL: RangeInclusive<u8> = FARM..=CLOSE;
+pub const ALL: RangeInclusive<u8> = FARM..=TILLAGE;
 
 /// Those that stand under a heading and have days.
 pub const OF_GROUP: RangeInclusive<u8> = ENTERIC..=PIG;

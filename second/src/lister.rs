@@ -1,6 +1,7 @@
-//! The lister of document 01, "Figures to meet": a text line per line record, and a last word.
+//! The lister of document 01, "Figures to meet": a text line per line record, and a last word; signed figures by document 02, W7.
 
 use crate::feed::{feed, Answer};
+use crate::figures::signed;
 use crate::record::number;
 use crate::state::{State, MOST_RECORDS};
 
@@ -18,10 +19,17 @@ pub fn list(book: &[u8]) -> String {
     text
 }
 
-/// Kind, group, and every 8-byte figure of one line.
+/// The places of CO2 and CO2e among a line's figures.
+const SIGNED: [usize; 2] = [2, 5];
+
+/// Kind, group, and every 8-byte figure of one line, with a minus sign where it is below zero.
 fn line_text(line: &[u8]) -> String {
     let mut words = vec![line[3].to_string(), number(&line[4..6]).to_string()];
-    words.extend(line[6..].chunks(8).map(|figure| number(figure).to_string()));
+    for (place, bytes) in line[6..].chunks(8).enumerate() {
+        let figure = number(bytes) as u64;
+        let minus_too = SIGNED.contains(&place);
+        words.push(if minus_too { signed(figure).to_string() } else { figure.to_string() });
+    }
     words.join(" ") + "\n"
 }
 

@@ -21,6 +21,8 @@ mod slips;
 mod state;
 mod states;
 mod texts;
+mod tillage;
+mod tillages;
 mod trial;
 mod typed;
 mod why;

@@ -2,7 +2,7 @@
 
 use crate::books::{after, damaged_run, right_close, right_run, wrong_record};
 use crate::calls::calls_to_the_end;
-use crate::dice::Dice;
+use crate::dice::{Dice, Seed};
 use crate::kind;
 use crate::plain::{book_of, plain_values, under};
 use crate::record::record_of;
@@ -33,7 +33,7 @@ fn in_parts(state: State, input: Vec<u8>, size: usize, rooms: &[usize], beyond: 
 }
 
 /// In every 400 fresh cases, a book by chance in parts of each size.
-pub fn of_each_size(seed: u64, index: u64) -> Option<Case> {
+pub fn of_each_size(seed: impl Into<Seed>, index: u64) -> Option<Case> {
     let size = (index % RUN + 1).checked_sub(FIRST)? as usize;
     if !SIZES.contains(&size) {
         return None;
@@ -71,8 +71,8 @@ pub fn every_part_size() -> Vec<Case> {
     SIZES.flat_map(part_size).collect()
 }
 
-/// The two right books, which have all kinds together, change places from size to size; the unfinished one lacks as many bytes.
-fn part_size(size: usize) -> [Case; 4] {
+/// The first two right books change places from size to size, and with the third have all kinds together; the unfinished one lacks as many bytes.
+fn part_size(size: usize) -> [Case; 5] {
     let start = State::default();
     let mut books = [cattle_book(), pig_book()];
     let mut rooms = [ENOUGH, SHORT];
@@ -86,6 +86,7 @@ fn part_size(size: usize) -> [Case; 4] {
         in_parts(start, second, size, SHORT, 0),
         in_parts(start, unfinished, size, rooms[0], 0),
         in_parts(place, refused, size, rooms[1], 0),
+        in_parts(start, tillage_book(), size, rooms[1], 0),
     ]
 }
 
@@ -110,10 +111,20 @@ fn pig_book() -> Vec<u8> {
     ])
 }
 
+fn tillage_book() -> Vec<u8> {
+    book_of(&[
+        (kind::FARM, 0, 0),
+        (kind::TILLAGE, 0, 0),
+        (kind::HEADING, 12, 2),
+        (kind::TILLAGE, 0, 0),
+        (kind::CLOSE, 0, 0),
+    ])
+}
+
 /// A right record and one that is refused, by each number in turn.
 fn refused_book(size: usize) -> (State, Vec<u8>) {
     let number = 1 + (size % 12) as u8;
-    let mut dice = Dice::of_case(4, size as u64);
+    let mut dice = Dice::of_case(Seed::up_to(kind::CLOSE, 4), size as u64);
     let mut state = under(if number == 11 { 1 } else { dice.of(&[1, 4]) });
     state.heading.days = [300, 300, 300];
     state.records = if number == 5 { MOST_RECORDS - 1 } else { 3 };

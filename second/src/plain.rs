@@ -30,6 +30,7 @@ pub fn plain_values(kind: u8) -> Vec<u64> {
         kind::PIG => vec![100, 200, 1_000, 1_000, 200, 1_800, 1_000, 200, 250, 1_000, 0, 0],
         kind::ENERGY => vec![1, 125, 70_000],
         kind::SOIL => vec![100],
+        kind::TILLAGE => vec![1, 1, 1, 1, 100],
         _ => vec![2],
     }
 }

@@ -1,4 +1,4 @@
-//! Document 01, "The book": the table of the eight kinds, and numbers to bytes and back.
+//! Document 01, "The book": the table of the kinds, with document 02's W7, and numbers to bytes and back.
 
 use crate::kind;
 
@@ -45,13 +45,16 @@ const PIG_FIELDS: [Field; 12] = [
 ];
 const ENERGY_FIELDS: [Field; 3] =
     [field(1, 1, 8), field(4, 0, 10_000_000), field(4, 0, 10_000_000)];
-const SOIL_FIELDS: [Field; 1] = [field(4, 0, 10_000_000)];
+const AREA: Field = field(4, 0, 10_000_000);
+const SOIL_FIELDS: [Field; 1] = [AREA];
 const CLOSE_FIELDS: [Field; 1] = [field(2, 0, 65_535)];
+const TILLAGE_FIELDS: [Field; 5] =
+    [field(1, 1, 9), field(1, 1, 3), field(1, 1, 6), field(2, 1, 100), AREA];
 
 /// The lengths that a record may state at all.
 pub const LENGTHS: std::ops::RangeInclusive<u16> = 4..=26;
 
-/// The fields of a kind 1..8, in order.
+/// The fields of a kind 1..9, in order.
 pub fn fields_of(kind: u8) -> &'static [Field] {
     match kind {
         kind::FARM => &FARM_FIELDS,
@@ -62,6 +65,7 @@ pub fn fields_of(kind: u8) -> &'static [Field] {
         kind::ENERGY => &ENERGY_FIELDS,
         kind::SOIL => &SOIL_FIELDS,
         kind::CLOSE => &CLOSE_FIELDS,
+        kind::TILLAGE => &TILLAGE_FIELDS,
         _ => panic!("{kind} is no kind"),
     }
 }

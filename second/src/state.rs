@@ -122,7 +122,7 @@ impl State {
         }
     }
 
-    /// At most what so many records can give.
+    /// At most what so many records can give, CO2 on both sides of zero.
     fn figures_in_range(&self, figures: &Figures) -> bool {
         let records = u64::from(self.records);
         let (grams, n2o, co2) = (100_000_000_000, 10_000_000_000, 10_000_000_000_000);
@@ -130,7 +130,7 @@ impl State {
             && figures.excreted <= records * grams
             && figures.land <= records * grams
             && figures.n2o <= records * n2o
-            && figures.co2 <= records * co2
+            && figures.co2.unsigned_abs() <= records * co2
     }
 
     fn refusal_in_range(&self) -> bool {

@@ -1,7 +1,8 @@
 //! States by chance: ones in range, and ones with a single part at or beside its bound.
 
 use crate::dice::Dice;
-use crate::figures::{Figures, Subtotal};
+use crate::figures::{signed, Figures, Subtotal};
+use crate::kind;
 use crate::state::{Heading, Refusal, State, CLOSED, MOST_RECORDS, NO_RECORD, OPEN, REFUSED};
 
 /// Grams that a record can add: CH4, N2O, CO2, excreted N, land N.
@@ -9,7 +10,7 @@ const BOUNDS: [u64; 5] =
     [100_000_000_000, 10_000_000_000, 10_000_000_000_000, 100_000_000_000, 100_000_000_000];
 
 fn figures_of([ch4, n2o, co2, excreted, land]: [u64; 5]) -> Figures {
-    Figures { ch4, n2o, co2, excreted, land }
+    Figures { ch4, n2o, co2: signed(co2), excreted, land }
 }
 
 /// The subtotal's part of them, which leaves out CO2.
@@ -27,6 +28,12 @@ pub fn most_sums(records: u16) -> Figures {
     figures_of(BOUNDS.map(|bound| u64::from(records) * bound))
 }
 
+/// The same, CO2 at its bound below zero.
+pub fn least_co2(records: u16) -> Figures {
+    let most = most_sums(records);
+    Figures { co2: -most.co2, ..most }
+}
+
 /// A state in range at this stage, holding no bytes.
 pub fn right_state(dice: &mut Dice, stage: u8) -> State {
     let fewest = match stage {
@@ -40,6 +47,9 @@ pub fn right_state(dice: &mut Dice, stage: u8) -> State {
     if records > 0 {
         state.set = dice.of(&[1, 2]);
         state.sums = figures_of(BOUNDS.map(|bound| some_sum(dice, u64::from(records) * bound)));
+        if dice.knows(kind::TILLAGE) && dice.one_in(2) {
+            state.sums.co2 = -state.sums.co2;
+        }
     }
     if records > 1 && !dice.one_in(4) {
         state.heading = some_heading(dice);
@@ -93,6 +103,18 @@ pub fn beside_bounds(base: &State) -> Vec<State> {
         }
     }
     states
+}
+
+/// One of those, of the bare ones, or of those with another CO2, by chance.
+pub fn some_beside(dice: &mut Dice, base: &State) -> State {
+    let states = if dice.one_in(10) {
+        bare_states()
+    } else if dice.knows(kind::TILLAGE) && dice.one_in(8) {
+        co2_beside(base)
+    } else {
+        beside_bounds(base)
+    };
+    states[dice.below(states.len() as u64) as usize]
 }
 
 fn stage_beside(base: &State) -> Vec<State> {
@@ -162,6 +184,13 @@ fn sums_beside(base: &State) -> Vec<State> {
         }
     }
     states
+}
+
+/// CO2 at and beside its bounds on both sides of zero, and at the ends of its bytes.
+pub fn co2_beside(base: &State) -> Vec<State> {
+    let most = most_sums(base.records).co2;
+    let values = [most, most + 1, -1, -most, -most - 1, i64::MAX, i64::MIN];
+    values.map(|co2| State { sums: Figures { co2, ..base.sums }, ..*base }).to_vec()
 }
 
 fn refusal_beside(base: &State) -> Vec<State> {

@@ -33,14 +33,14 @@ const NO_KINDS: [&[u8]; 16] = [
 /// First words that are numbers and no kind, some of which would be one if they were cut to their last bits.
 const OTHER_KINDS: [&[u8]; 9] = [
     b"0",
-    b"9",
+    b"10",
     b"77",
     b"000",
     b"258",
     b"4294967298",
     b"18446744073709551618",
     b"99999999999999999999",
-    b"00000000000000000000000000000000000000000000000000000000000000000000000000000000000000000009",
+    b"00000000000000000000000000000000000000000000000000000000000000000000000000000000000000000010",
 ];
 
 /// Words that are no numbers.
@@ -83,8 +83,8 @@ pub fn text(seed: u64, index: u64) -> Vec<u8> {
         0 => odd_text(dice, index / 100),
         1 => too_many_records(dice),
         2 => any_bytes(dice),
-        place @ 4..=11 => each_field(place as u8 - 3, no_number),
-        place @ 12..=19 => each_field(place as u8 - 11, out_of_range),
+        place @ 4..=12 => each_field(place as u8 - 3, no_number),
+        place @ 13..=21 => each_field(place as u8 - 12, out_of_range),
         _ => typed_book(dice),
     }
 }
@@ -112,9 +112,12 @@ fn too_many_records(dice: &mut Dice) -> Vec<u8> {
     let mut text = b"farm 7 2000 1\n".to_vec();
     let count = dice.between(u64::from(MOST_RECORDS) - 3, u64::from(MOST_RECORDS) + 30);
     for i in 0..count {
-        let line = match i % 3 {
-            0 => format!("heading {} {} 3\n", i + 1, 1 + i % 4),
+        let line = match i % 4 {
+            0 => format!("heading {} {} 3\n", i + 1, 1 + i / 4 % 4),
             1 => format!("soil {i}.5\n"),
+            2 => {
+                format!("tillage {} {} {} {} {i}.5\n", 1 + i % 9, 1 + i % 3, 1 + i % 6, 1 + i % 100)
+            }
             _ => format!("energy 1 {i} 7\n"),
         };
         text.extend(line.bytes());

@@ -1,7 +1,7 @@
 //! The text of trial cases and of their answers; docs/TRIALS.md gives the format.
 
 use crate::feed::{feed, Answer, Reply};
-use crate::figures::{Figures, Subtotal};
+use crate::figures::{signed, Figures, Subtotal};
 use crate::salvage::salvage;
 use crate::slip::{slip, Change, Ration};
 use crate::state::{Heading, Refusal, State};
@@ -63,11 +63,11 @@ fn digit(c: u8) -> Result<u8, Fault> {
     }
 }
 
-/// The state's numbers in the order of the notes, held bytes last.
+/// The state's numbers in the order of the notes, held bytes last; CO2 is its eight bytes in two's complement.
 fn state_text(s: &State) -> String {
-    let (h, f, r) = (&s.heading, &s.sums, &s.refusal);
+    let (h, r) = (&s.heading, &s.refusal);
     let [d3, d4, d5] = h.days;
-    let Figures { ch4, n2o, co2, excreted, land } = f;
+    let [ch4, n2o, co2, excreted, land] = s.sums.in_order();
     let Subtotal { ch4: sub_ch4, n2o: sub_n2o, excreted: sub_excreted, land: sub_land } =
         s.subtotal;
     let mut text = format!("{:x} {:x} {:x}", s.stage, s.records, s.set);
@@ -170,7 +170,7 @@ impl<'a> Tokens<'a> {
             sums: Figures {
                 ch4: self.number()?,
                 n2o: self.number()?,
-                co2: self.number()?,
+                co2: signed(self.number()?),
                 excreted: self.number()?,
                 land: self.number()?,
             },

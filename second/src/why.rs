@@ -45,7 +45,7 @@ fn what_is_compared(state: &State, record: &[u8], code: u8, field: u8) -> Option
     let length = record.len() as u128 - 2;
     match code {
         2 => return compared("the version", version, Asked::Exactly, 1),
-        3 => return outside("the kind", u128::from(kind), 1, 8),
+        3 => return outside("the kind", u128::from(kind), 1, u128::from(*kind::ALL.end())),
         4 => return compared("the length", length, Asked::Exactly, u128::from(length_of(kind))),
         _ => {}
     }

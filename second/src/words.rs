@@ -13,8 +13,9 @@ const fn spoken(name: &'static str, decimals: usize, expected: &'static str) -> 
     Spoken { name, decimals, expected }
 }
 
-pub const KINDS: [&str; 8] =
-    ["farm", "heading", "enteric", "cattle", "pig", "energy", "soil", "close"];
+/// By their numbers.
+pub const KINDS: [&str; 9] =
+    ["farm", "heading", "enteric", "cattle", "pig", "energy", "soil", "close", "tillage"];
 
 const CLASSES: [&str; 4] = ["milking", "dry", "heifer", "pig"];
 
@@ -65,8 +66,16 @@ const ENERGY: [Spoken; 3] = [
     spoken("amount", 1, "0 to 1000000.0 units"),
     spoken("factor", 0, "0 to 10000000 g CO2 per unit"),
 ];
-const SOIL: [Spoken; 1] = [spoken("area", 2, "0 to 100000.00 ha")];
+const AREA: Spoken = spoken("area", 2, "0 to 100000.00 ha");
+const SOIL: [Spoken; 1] = [AREA];
 const CLOSE: [Spoken; 1] = [spoken("records before it", 0, "0 to 65535")];
+const TILLAGE: [Spoken; 5] = [
+    spoken("zone", 0, "1 to 9"),
+    spoken("texture", 0, "1 to 3 (coarse, medium, fine)"),
+    spoken("change", 0, "1 to 6"),
+    spoken("years", 0, "1 to 100"),
+    AREA,
+];
 
 /// The fields of a kind, in order; a kind that the book has not has none.
 pub fn spoken_of(kind: u64) -> &'static [Spoken] {
@@ -79,6 +88,7 @@ pub fn spoken_of(kind: u64) -> &'static [Spoken] {
         Some(kind::ENERGY) => &ENERGY,
         Some(kind::SOIL) => &SOIL,
         Some(kind::CLOSE) => &CLOSE,
+        Some(kind::TILLAGE) => &TILLAGE,
         _ => &[],
     }
 }
@@ -95,7 +105,7 @@ pub fn class_name(class: u8) -> &'static str {
 /// The sentence of a number that the writer can give to a typed line; 4 and 7 have longer ones.
 pub fn sentence(code: u8) -> &'static str {
     match code {
-        3 => "no such kind of record: kinds are 1 to 8",
+        3 => "no such kind of record: kinds are 1 to 9",
         5 => "the book has 4096 records, and no more go in",
         6 => concat!(
             "out of its place: a book begins with its one farm record; ",

@@ -1,17 +1,17 @@
 //! Trial cases of the writer: right and wrong values of each kind, after states of every sort, with rooms around a record.
 
 use crate::books::{after, closed_run, right_close, right_record, values_outside, wrong_record};
-use crate::dice::Dice;
+use crate::dice::{Dice, Seed};
 use crate::kind;
 use crate::plain::{place_of, plain_values, sample, under};
 use crate::record::{fields_of, length_of, values_of};
 use crate::state::{Heading, Refusal, State, CLOSED, MOST_RECORDS, NO_RECORD, OPEN, REFUSED};
-use crate::states::{bare_states, beside_bounds, right_state, some_refusal};
+use crate::states::{right_state, some_beside, some_refusal};
 use crate::trial::Case;
 use crate::writer::write;
 
 /// Numbers that are no kind, some of which end in a kind's byte.
-const NO_KINDS: [u64; 9] = [0, 9, 10, 16, 255, 256 + 1, (1 << 32) + 3, 1 << 63, u64::MAX];
+const NO_KINDS: [u64; 9] = [0, 11, 10, 16, 255, 256 + 1, (1 << 32) + 3, 1 << 63, u64::MAX];
 
 /// The most values that a case offers.
 const MOST_VALUES: usize = 20;
@@ -60,7 +60,7 @@ pub fn row(book: &[u8]) -> Vec<Case> {
 }
 
 /// The first cases of every 200 are the records of a book in a row.
-pub fn in_a_row(seed: u64, index: u64) -> Option<Case> {
+pub fn in_a_row(seed: impl Into<Seed>, index: u64) -> Option<Case> {
     let place = index % ROW;
     if place > 12 {
         return None;
@@ -84,7 +84,7 @@ pub fn some_write(dice: &mut Dice) -> Case {
         0 => past_its_bytes(dice, known, &mut values),
         1 => another_count(dice, &mut values),
         2 => kind = dice.of(&NO_KINDS),
-        3 => kind = dice.between(kind::FARM.into(), kind::CLOSE.into()),
+        3 => kind = dice.between(kind::FARM.into(), dice.newest().into()),
         _ => (),
     }
     let state = some_state(dice, &base);
@@ -137,10 +137,7 @@ fn some_state(dice: &mut Dice, base: &State) -> State {
             let refusal = some_refusal(dice, base.records);
             State { stage: REFUSED, refusal, ..*base }
         }
-        3 => {
-            let states = if dice.one_in(10) { bare_states() } else { beside_bounds(base) };
-            states[dice.below(states.len() as u64) as usize]
-        }
+        3 => some_beside(dice, base),
         _ => *base,
     }
 }
@@ -155,9 +152,12 @@ pub fn stored() -> Vec<Case> {
     cases.extend(every_sort_of_state());
     cases.extend(in_order());
     cases.extend(row(&sample()));
-    let mut dice = Dice::of_case(4, 0);
-    for count in [9, 12] {
-        cases.extend(row(&closed_run(&mut dice, &State::default(), count)));
+    let mut before_tillage = Dice::of_case(Seed::up_to(kind::CLOSE, 4), 0);
+    let mut dice = Dice::of_case(Seed::up_to(kind::TILLAGE, 7), 0);
+    for dice in [&mut before_tillage, &mut dice] {
+        for count in [9, 12] {
+            cases.extend(row(&closed_run(dice, &State::default(), count)));
+        }
     }
     cases
 }
@@ -211,7 +211,7 @@ fn values_too_big() -> Vec<Case> {
 /// Each kind's first field that has any, and its last, outside their ranges.
 fn values_out_of_range() -> Vec<Case> {
     let mut cases = Vec::new();
-    for kind in 1..=7 {
+    for kind in kind::ALL.filter(|&kind| kind != kind::CLOSE) {
         let count = fields_of(kind).len();
         let first = (0..count).find(|&position| !values_outside(kind, position).is_empty());
         for position in first.into_iter().chain([count - 1]) {

@@ -161,7 +161,7 @@ module _ (f : Figures) (records : ℕ) where
       record {
         ch4 = leb-true _ _ (t .0);
         n2o = leb-true _ _ (t .1 .0);
-        co2 = within-true _ _ (t .1 .1 .0);
+        co2 = within-true (f .co2) _ (t .1 .1 .0);
         excreted = leb-true _ _ (t .1 .1 .1 .0);
         land = leb-true _ _ (t .1 .1 .1 .1 .0);
       }
@@ -169,7 +169,7 @@ module _ (f : Figures) (records : ℕ) where
   bounded-test : Bounded f records → boundedTest f records ≡ true
   bounded-test b =
       each-all (leb (f .ch4) (records * 10 ^ 11)) boundedRest (le-leb _ _ (b .ch4))
-      (le-leb _ _ (b .n2o), (within-test _ _ (b .co2), (le-leb _ _ (b .excreted), (le-leb _ _ (b .land), tt))))
+      (le-leb _ _ (b .n2o), (within-test (f .co2) _ (b .co2), (le-leb _ _ (b .excreted), (le-leb _ _ (b .land), tt))))
 
 module _ (s : Subtotal) where
   abbrev groupedRest : ℕ → List Bool

@@ -13,7 +13,7 @@ use lib.Dec.{ltb, leb, eqb}
 use Rattle.base.specs.Choice.{pick}
 use Rattle.base.proofs.Tests.{no-bool, not-true, and-l, and-r}
 use Rattle.codec.specs.declared.Field.{Field}
-use Rattle.codec.specs.Table.{field, fields, lengthOf, lengthMost, lastKind}
+use Rattle.codec.specs.Table.{field, fields, lengthOf, lengthMost, lastKind, isKind}
 use Rattle.codec.specs.Codec.{valAt, firstBad}
 use Rattle.account.specs.declared.Account.{Account}
 use Rattle.account.specs.declared.Days.{Days}
@@ -62,10 +62,10 @@ field-off k v n =
     let z : badField k v - 1 ≡ b .j = omega (arith, b .is) in
     rw z (rw zero-add at (b .off))
 
-kind-off : (k : ℕ) → not (leb 1 k && leb k 8) ≡ true → Off 1 8 k
-kind-off k e = go (leb 1 k) (leb k 8) refl refl e
+kind-off : (k : ℕ) → not (isKind k) ≡ true → Off 1 lastKind k
+kind-off k e = go (leb 1 k) (leb k lastKind) refl refl e
   where
-    go : (a b : Bool) → leb 1 k ≡ a → leb k 8 ≡ b → not (a && b) ≡ true → Off 1 8 k
+    go : (a b : Bool) → leb 1 k ≡ a → leb k lastKind ≡ b → not (a && b) ≡ true → Off 1 lastKind k
     go true true p q e = no-bool e
     go true false p q e = inr (leb-true _ _ p, leb-false _ _ q)
     go false b p q e = inl (leb-false _ _ p)
@@ -107,7 +107,7 @@ compares-wrongly c a r t =
     let t12 = t .values .count .1 in
     record {
       version = λ e. rw e (refl, eqb-false _ _ (not-true _ (t .version .1 (sym e))));
-      kind = λ e. rw e (refl, refl, beyond 1 8 k (kind-off k (t .kind .1 (sym e))));
+      kind = λ e. rw e (refl, refl, beyond 1 lastKind k (kind-off k (t .kind .1 (sym e))));
       long = λ e. rw e (refl, eqb-false _ _ (not-true _ (t .long .1 (sym e))));
       room = λ e. rw e refl;
       place = λ e. rw e refl;

@@ -17,8 +17,10 @@ use Rattle.codec.specs.Table.{table, fields, isKind, lineSize, totalSize, lines
 use Rattle.codec.specs.Codec.{firstBad}
 use Rattle.codec.proofs.Round.{line-length, total-length}
 use Rattle.codec.proofs.Within.{bad-position}
+use Rattle.grams.specs.Farm.{energyOf, soilOf}
+use Rattle.grams.specs.Tillage.{tillageOf}
 use Rattle.grams.proofs.Small.{enteric-small, cattle-excreted-small, cattle-n2o-small, pig-ch4-small, pig-n2o-small, pig-excreted-small}
-use Rattle.grams.proofs.Small.{pig-land-small, energy-small, soil-small}
+use Rattle.grams.proofs.Small.{pig-land-small, energy-small, soil-small, tillage-small}
 use Rattle.account.specs.declared.Account.{Account}
 use Rattle.account.specs.declared.Days.{Days}
 use Rattle.account.specs.declared.Figures.{Figures}
@@ -34,7 +36,7 @@ use Rattle.account.proofs.Sorts.{by-sort}
 use Rattle.account.proofs.Sums.{ch4-small, co2-small, cattle-small, pig-small, bounded-none, bounded-next, bounded-added, grouped-none}
 use Rattle.account.proofs.Sums.{ungrouped-none, grouped-next, grouped-added}
 use Rattle.account.proofs.Refusals.{passed, not-refused, refused-by, number-most}
-use Rattle.account.proofs.Ranges.{farm-in, heading-in, enteric-in, cattle-in, pig-in, energy-in, soil-in}
+use Rattle.account.proofs.Ranges.{farm-in, heading-in, enteric-in, cattle-in, pig-in, energy-in, soil-in, tillage-in}
 use Rattle.account.proofs.Told.{head-most, both-long}
 
 -- ---- an account in range
@@ -88,7 +90,7 @@ short-at (r ∷ t) (suc k) s = short-at t k (s .1)
 row-short : (k : ℕ) → length (fields k) ≤ 12
 unfolding table Short
 row-short k =
-    short-at table k (omega arith, (omega arith, (omega arith, (omega arith, (omega arith, (omega arith, (omega arith, (omega arith, (omega arith, tt)))))))))
+    short-at table k (omega arith, (omega arith, (omega arith, (omega arith, (omega arith, (omega arith, (omega arith, (omega arith, (omega arith, (omega arith, tt))))))))))
 
 -- 7 is the number only where a field is out of range
 seven-field : (a : Account) (r : List ℕ) → first (refusals a r) ≡ 7 → firstBad (fields (kindOf r)) (valuesOf r) 0 ≡ 0 → ⊥
@@ -240,12 +242,17 @@ module _ (a : Account) (f : AccountInRange a) (early : a .stage < 2) where
       detail-energy : ValuesPass a 6 v → Kept (accepted a 6 v)
       unfolding figuresOf accepted sortOf
       detail-energy c =
-          in-range-farm _ (co2-small _ (energy-small (energy-in v (passed a 6 v c .ranges))))
+          in-range-farm _ (co2-small (energyOf (getD v 1 0) (getD v 2 0)) (energy-small (energy-in v (passed a 6 v c .ranges))))
 
       detail-soil : ValuesPass a 7 v → Kept (accepted a 7 v)
       unfolding figuresOf accepted sortOf
       detail-soil c =
-          in-range-farm _ (co2-small _ (soil-small (soil-in v (passed a 7 v c .ranges))))
+          in-range-farm _ (co2-small (soilOf (getD v 0 0)) (soil-small (soil-in v (passed a 7 v c .ranges))))
+
+      detail-tillage : ValuesPass a 9 v → Kept (accepted a 9 v)
+      unfolding figuresOf accepted sortOf
+      detail-tillage c =
+          in-range-farm _ (co2-small (tillageOf (getD v 0 0) (getD v 1 0) (getD v 2 0) (getD v 3 0) (getD v 4 0)) (tillage-small (tillage-in v (passed a 9 v c .ranges))))
 
       kept-heading : ValuesPass a 2 v → Kept (accepted a 2 v)
       unfolding accepted sortOf
@@ -279,7 +286,7 @@ module _ (a : Account) (f : AccountInRange a) (early : a .stage < 2) where
   in-range-accepted k v c both =
       each-kind (λ (n : ℕ). ValuesPass a n v → Kept (accepted a n v)) (kept-farm v) (later 2 v refl kept-heading) (later 3 v refl detail-enteric)
       (later 4 v refl detail-cattle) (later 5 v refl detail-pig) (later 6 v refl detail-energy) (later 7 v refl detail-soil)
-      (later 8 v refl kept-close) k both c
+      (later 8 v refl kept-close) (later 9 v refl detail-tillage) k both c
 
 -- ---- a whole record
 

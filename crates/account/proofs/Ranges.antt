@@ -12,6 +12,7 @@ use Rattle.codec.proofs.Within.{Good, first-within}
 use Rattle.grams.specs.Cattle.{EntericIn, CattleIn}
 use Rattle.grams.specs.Pig.{PigIn}
 use Rattle.grams.specs.Farm.{EnergyIn, SoilIn}
+use Rattle.grams.specs.Tillage.{TillageIn}
 use Rattle.account.specs.Figures.{cattleRation, pigRation}
 
 each-good : (fs : List Field) (vs : List ℕ) (i : ℕ) → firstBad fs vs i ≡ 0 → Good (length fs) fs vs i
@@ -105,3 +106,15 @@ energy-in v e = let g = good 6 v e in record { amount-in = omega arith; factor-i
 pub soil-in : (v : List ℕ) → firstBad (fields 7) v 0 ≡ 0 → SoilIn (getD v 0 0)
 unfolding table
 soil-in v e = let g = good 7 v e in record { area-in = omega arith }
+
+pub tillage-in : (v : List ℕ) → firstBad (fields 9) v 0 ≡ 0 → TillageIn (getD v 0 0) (getD v 1 0) (getD v 2 0) (getD v 3 0) (getD v 4 0)
+unfolding table
+tillage-in v e =
+    let g = good 9 v e in
+    record {
+      zone-in = (omega arith, omega arith);
+      texture-in = (omega arith, omega arith);
+      change-in = (omega arith, omega arith);
+      years-in = (omega arith, omega arith);
+      area-in = omega arith;
+    }

@@ -8,6 +8,7 @@ use Rattle.base.specs.Choice.{pick}
 use Rattle.grams.specs.Cattle as cattle
 use Rattle.grams.specs.Pig as pig
 use Rattle.grams.specs.Farm.{energyOf, soilOf}
+use Rattle.grams.specs.Tillage.{tillageOf}
 use Rattle.grams.specs.Units.{gramsN2o, noCo2, plusCo2}
 use Rattle.grams.specs.declared.units.Co2.{Co2}
 use Rattle.grams.specs.declared.cattle.CattleRation.{CattleRation}
@@ -90,11 +91,12 @@ pigRation v =
 abbrev pub pigFigures : PigManure → Figures
 pigFigures m = record { ch4 = m .ch4; n2o = m .n2o; co2 = noCo2; excreted = m .excreted; land = m .land }
 
--- the figures of a detail record of kind k (3 to 7) with the values v, under the heading h
+-- the figures of a detail record of kind k (3 to 7, 9) with the values v, under the heading h
 unfoldable pub figuresOf : Heading → ℕ → List ℕ → Figures
 figuresOf h k v =
     pick (eqb k 3) (ch4Alone (cattle.entericOf (getD v 1 0) (getD v 2 0) (h .head) (getD v 0 0)))
     (pick (eqb k 4) (cattleFigures (cattle.manureOf (cattleRation v) (h .head)))
     (pick (eqb k 5) (pigFigures (pig.manureOf (pigRation v) (h .head)))
     (pick (eqb k 6) (co2Alone (energyOf (getD v 1 0) (getD v 2 0)))
-    (co2Alone (soilOf (getD v 0 0))))))
+    (pick (eqb k 7) (co2Alone (soilOf (getD v 0 0)))
+    (co2Alone (tillageOf (getD v 0 0) (getD v 1 0) (getD v 2 0) (getD v 3 0) (getD v 4 0)))))))

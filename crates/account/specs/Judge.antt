@@ -148,7 +148,7 @@ daysAfter d k more =
 abbrev pub wrongVersion : List ℕ → Bool
 wrongVersion r = not (eqb (versionOf r) 1)
 
--- 3: kind not 1..8
+-- 3: kind not 1..9
 abbrev pub wrongKind : List ℕ → Bool
 wrongKind r = not (isKind (kindOf r))
 
@@ -282,7 +282,7 @@ decided code a k v =
     pick (eqb code 0) (accepted a k v)
     (record { account = refused a code (pick (eqb code 7) (firstBad (fields k) v 0) 0); lines = [] })
 
--- what values of a kind 1 to 8 do
+-- what values of a kind do
 unfoldable pub weigh : Account → ℕ → List ℕ → Step
 weigh a k v = decided (first (valueRefusals a k v)) a k v
 

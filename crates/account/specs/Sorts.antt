@@ -13,7 +13,8 @@ pub data Sort : Type 0 where
   ofFarm : Sort
   closes : Sort
 
--- the farm record opens, a heading heads; enteric, cattle and pig records are the group's, energy and organic soil the farm's; the close closes
+-- the farm record opens, a heading heads; enteric, cattle and pig records are the group's, energy, organic soil and tillage the
+-- farm's; the close closes
 unfoldable pub sortOf : ℕ → Sort
 sortOf k =
     pick (eqb k 1) opens

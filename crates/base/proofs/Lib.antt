@@ -1,2 +1,3 @@
+pub mod Signed
 pub mod Slices
 pub mod Tests

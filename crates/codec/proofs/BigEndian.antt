@@ -7,11 +7,7 @@ use native.Mathlib.Omega.{arith}
 use native.Mathlib.Nat.{add-zero}
 use lib.ListN.{length, getD, take, drop, length-append, length-drop}
 use lib.Seq.{take-suc, getD-drop, getD-append-add, getD-at}
-use Rattle.codec.specs.Codec.{bytesHold, valAt, be}
-
--- every element is a byte
-abbrev pub Bytes : List ℕ → Type 0
-Bytes s = (i : ℕ) → getD s i 0 < 256
+use Rattle.codec.specs.Codec.{Bytes, bytesHold, valAt, be}
 
 pub valAt-lt : (s : List ℕ) → Bytes s → (at w : ℕ) → valAt s at w < bytesHold w
 unfolding valAt bytesHold

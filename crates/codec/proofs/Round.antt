@@ -8,11 +8,11 @@ use lib.ListN.{length, getD, take, drop, length-append, length-drop, take-append
 use lib.Seq.{sets, take-all, length-take-le, take-add, drop-drop, drop-cons}
 use Rattle.codec.specs.declared.Field.{Field}
 use Rattle.codec.specs.Table.{fields, size, lengthOf, lineFields, totalFields, lineSize, totalSize}
-use Rattle.codec.specs.Codec.{bytesHold, valAt, be, valuesAt, bytesOf, firstBad, recordBytes, lineValues, lineBytes, totalValues, totalBytes}
-use Rattle.codec.proofs.BigEndian.{Bytes, bytes-append, be-bytes, be-length, valAt-be, be-valAt}
+use Rattle.codec.specs.Codec.{bytesHold, valAt, be, valuesAt, bytesOf, firstBad, recordBytes, lineValues, lineBytes, totalValues, totalBytes, Bytes, Fit}
+use Rattle.codec.proofs.BigEndian.{bytes-append, be-bytes, be-length, valAt-be, be-valAt}
 use Rattle.codec.proofs.Stores.{sets-at}
 use Rattle.codec.proofs.Values.{bytes-length, bytes-bytes}
-use Rattle.codec.proofs.Rows.{Fit, fit-kind, fit-line, fit-total, length-most, sizes, counts}
+use Rattle.codec.proofs.Rows.{fit-kind, fit-line, fit-total, length-most, sizes, counts}
 
 -- ---- values, bytes, values
 

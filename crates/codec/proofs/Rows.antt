@@ -10,7 +10,7 @@ use lib.ListN.{length, getD}
 use Rattle.base.specs.Choice.{pick}
 use Rattle.codec.specs.declared.Field.{Field}
 use Rattle.codec.specs.Table.{table, fields, lastKind, size, lengthOf, lengthMost, lineFields, totalFields, lineSize, totalSize}
-use Rattle.codec.specs.Codec.{bytesHold, firstBad}
+use Rattle.codec.specs.Codec.{Fit, bytesHold, firstBad}
 use Rattle.codec.proofs.Within.{first-within}
 
 -- ---- the test
@@ -46,8 +46,8 @@ pub counts : (9 ≡ length lineFields) × (10 ≡ length totalFields)
 unfolding lineFields totalFields
 counts = (refl, refl)
 
--- document 01's lengths, kinds 1 to 8
-pub lengths : map lengthOf (1 ∷ 2 ∷ 3 ∷ 4 ∷ 5 ∷ 6 ∷ 7 ∷ 8 ∷ []) ≡ 9 ∷ 7 ∷ 10 ∷ 20 ∷ 26 ∷ 11 ∷ 6 ∷ 4 ∷ []
+-- the lengths of document 01, kinds 1 to 8, and of change request W7, kind 9
+pub lengths : map lengthOf (1 ∷ 2 ∷ 3 ∷ 4 ∷ 5 ∷ 6 ∷ 7 ∷ 8 ∷ 9 ∷ []) ≡ 9 ∷ 7 ∷ 10 ∷ 20 ∷ 26 ∷ 11 ∷ 6 ∷ 4 ∷ 11 ∷ []
 unfolding table size
 lengths = refl
 
@@ -75,11 +75,6 @@ right-at = row-at right-row tt (lineFields ∷ totalFields ∷ table) (checked .
 pub length-most : (kind : ℕ) → lengthOf kind ≤ lengthMost
 unfolding short-row size
 length-most kind = leb→le (lengthOf kind) lengthMost (row-at short-row tt table (checked .1) kind)
-
--- each value from i fits the bytes of its field
-abbrev pub Fit : List Field → List ℕ → ℕ → Type 0
-Fit [] vs i = Unit
-Fit (f ∷ fs) vs i = (getD vs i 0 < bytesHold (f .0)) × Fit fs vs (suc i)
 
 fit-row : (fs : List Field) → T (right-row fs) → (vs : List ℕ) (i : ℕ) → firstBad fs vs i ≡ 0 → Fit fs vs i
 unfolding right-row right-field

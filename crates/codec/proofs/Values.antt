@@ -8,8 +8,8 @@ use native.Mathlib.Nat.{add-assoc}
 use lib.ListN.{length, getD, length-append}
 use Rattle.codec.specs.declared.Field.{Field}
 use Rattle.codec.specs.Table.{size}
-use Rattle.codec.specs.Codec.{valAt, be, valuesAt, bytesOf}
-use Rattle.codec.proofs.BigEndian.{Bytes, bytes-append, be-bytes, be-length, valAt-same}
+use Rattle.codec.specs.Codec.{valAt, be, valuesAt, bytesOf, Bytes}
+use Rattle.codec.proofs.BigEndian.{bytes-append, be-bytes, be-length, valAt-same}
 
 -- a value for each field
 pub values-length : (fs : List Field) (s : List ℕ) (at : ℕ) → length (valuesAt fs s at) ≡ length fs

@@ -1,7 +1,7 @@
 -- Document 01, "The book": big-endian numbers, a record's values from its bytes, its bytes from its values, the first value out of
 -- its range; and "Lines, calls and state": a line's bytes. All of it goes by the fields of specs/Table.antt.
 -- Assumes nothing.
-use Prim.Native.Nat.{ℕ, zero, suc, _+_, _*_, _/_, _%_}
+use Prim.Native.Nat.{ℕ, zero, suc, _+_, _*_, _/_, _%_, _<_}
 use mathlib.Core.List.{List, [], _∷_, _++_}
 use lib.ListN.{getD}
 use lib.Dec.{leb}
@@ -18,6 +18,10 @@ bytesHold (suc w) = bytesHold w * 256
 unfoldable pub valAt : List ℕ → ℕ → ℕ → ℕ
 valAt s at zero = 0
 valAt s at (suc w) = valAt s at w * 256 + getD s (at + w) 0
+
+-- every element is a byte
+abbrev pub Bytes : List ℕ → Type 0
+Bytes s = (i : ℕ) → getD s i 0 < 256
 
 -- the w bytes of the number v, big-endian
 unfoldable pub be : ℕ → ℕ → List ℕ
@@ -39,6 +43,11 @@ unfoldable pub firstBad : List Field → List ℕ → ℕ → ℕ
 firstBad [] vs i = 0
 firstBad (f ∷ fs) vs i =
     pick (leb (f .1) (getD vs i 0)) (pick (leb (getD vs i 0) (f .2)) (firstBad fs vs (suc i)) (suc i)) (suc i)
+
+-- each value from i fits the bytes of its field
+abbrev pub Fit : List Field → List ℕ → ℕ → Type 0
+Fit [] vs i = Unit
+Fit (f ∷ fs) vs i = (getD vs i 0 < bytesHold (f .0)) × Fit fs vs (suc i)
 
 -- a record: its length, version 1, its kind, its fields
 unfoldable pub recordBytes : ℕ → List ℕ → List ℕ

@@ -1,4 +1,4 @@
--- Document 01, "The book" (the table of the eight kinds) and "Lines, calls and state" (the two sorts of line), as data.
+-- Document 01, "The book" (the table of the kinds) and "Lines, calls and state" (the two sorts of line), as data.
 -- Assumes nothing.
 use Prim.Native.Nat.{ℕ, _+_, _≤_}
 use mathlib.Core.Path.{_≡_}
@@ -36,6 +36,8 @@ table =
     ∷ (field 4 0 10000000 ∷ [])
     -- 8 close: records before this one
     ∷ (field 2 0 65535 ∷ [])
+    -- 9 tillage (change request W7): zone, texture, change, years since it, area
+    ∷ (field 1 1 9 ∷ field 1 1 3 ∷ field 1 1 6 ∷ field 2 1 100 ∷ field 4 0 10000000 ∷ [])
     ∷ []
 
 -- the fields of a kind, in order
@@ -44,7 +46,7 @@ fields kind = getD table kind []
 
 -- the highest kind
 abbrev pub lastKind : ℕ
-lastKind = 8
+lastKind = 9
 
 -- a kind that a record may have
 abbrev pub isKind : ℕ → Bool
@@ -72,7 +74,7 @@ lengthMost = 26
 abbrev pub recordMost : ℕ
 recordMost = 2 + lengthMost
 
--- a figure of a line: grams
+-- a figure of a line: grams, or the word of signed grams
 abbrev pub figure : Field
 figure = field 8 0 18446744073709551615
 
@@ -85,7 +87,7 @@ unfoldable pub lineFields : List Field
 lineFields =
     field 2 44 44
     ∷ field 1 1 1
-    -- a detail's kind, 3 to 7, or the subtotal's; no line has one between
+    -- a detail's kind, 3 to 7 or 9, or the subtotal's
     ∷ field 1 3 subtotalKind
     ∷ field 2 0 65535
     ∷ figure

@@ -11,11 +11,12 @@ pub mod farm;
 pub mod heading;
 pub mod pig;
 pub mod soil;
+pub mod tillage;
 pub mod kinds; // kinds.rt: how many values and bytes each kind has
 pub mod lines; // lines.rt: a line from its figures, and its numbers from its bytes
 
 // The highest kind.
-pub const LAST_KIND: u64 = 8;
+pub const LAST_KIND: u64 = 9;
 
 // The highest length of a record, and the bytes of the longest.
 pub const LENGTH_MOST: u64 = 26;

@@ -1,5 +1,8 @@
 pub mod Bounds
 pub mod Parts
+pub mod Places
+pub mod TillagePairs
+pub mod Signs
 pub mod Small
 pub mod Cases
 pub mod Carbon

@@ -27,12 +27,16 @@ use Rattle.grams.proofs.pig.manure.Kinds as pig
 use Rattle.grams.proofs.pig.manure.Reads as pig-contract
 use Rattle.grams.proofs.rounding.round_div.Kinds as division
 use Rattle.grams.proofs.rounding.round_div.Reads as division-contract
+use Rattle.grams.proofs.tillage.tillage.Kinds as ploughed
+use Rattle.grams.proofs.tillage.tillage.Reads as ploughed-contract
 use Rattle.grams.proofs.units.Co2.of.Kinds as air
 use Rattle.grams.proofs.units.Co2.of.Reads as air-contract
 use Rattle.grams.proofs.units.Co2.plus.Kinds as air-sum
 use Rattle.grams.proofs.units.Co2.plus.Reads as air-sum-contract
 use Rattle.grams.proofs.units.Co2.same.Kinds as moved-air
 use Rattle.grams.proofs.units.Co2.same.Reads as moved-air-contract
+use Rattle.grams.proofs.units.Co2.taken_up.Kinds as taken-air
+use Rattle.grams.proofs.units.Co2.taken_up.Reads as taken-air-contract
 use Rattle.grams.proofs.units.Co2.within.Kinds as air-bound
 use Rattle.grams.proofs.units.Co2.within.Reads as air-bound-contract
 use Rattle.grams.proofs.units.Co2.word.Kinds as laid-air
@@ -52,6 +56,9 @@ use Rattle.grams.proofs.units.N2oN.to_n2o.Reads as gas-contract
 
 pub co2-of-asks-nothing : (κs : Lfts 0) (args : Dens κs air.ps) → air-contract.Asked κs args
 co2-of-asks-nothing κs args = tt
+
+pub co2-taken-up-asks-nothing : (κs : Lfts 0) (args : Dens κs taken-air.ps) → taken-air-contract.Asked κs args
+co2-taken-up-asks-nothing κs args = tt
 
 pub co2-same-asks-nothing : (κs : Lfts 0) (args : Dens κs moved-air.ps) → moved-air-contract.Asked κs args
 co2-same-asks-nothing κs args = tt
@@ -75,6 +82,11 @@ n2o-n-of-asks-nothing κs args = tt
 pub one-co2-of : (κs : Lfts 0) (args : Dens κs air.ps) (f g : Co2) (e e′ : AtExit (endedOf 0 air.ps air.r) κs)
     → air-contract.Learnt κs args f e → air-contract.Learnt κs args g e′ → f ≡ g
 one-co2-of κs args f g e e′ p q = p ∙ sym q
+
+-- Grams taken up as CO2.
+pub one-co2-taken-up : (κs : Lfts 0) (args : Dens κs taken-air.ps) (f g : Co2) (e e′ : AtExit (endedOf 0 taken-air.ps taken-air.r) κs)
+    → taken-air-contract.Learnt κs args f e → taken-air-contract.Learnt κs args g e′ → f ≡ g
+one-co2-taken-up κs args f g e e′ p q = p ∙ sym q
 
 -- CO2 moved.
 pub one-co2-same : (κs : Lfts 0) (args : Dens κs moved-air.ps) (f g : Co2) (e e′ : AtExit (endedOf 0 moved-air.ps moved-air.r) κs)
@@ -155,6 +167,11 @@ one-energy κs args f g e e′ p q = p .exact ∙ sym (q .exact)
 pub one-soil : (κs : Lfts 0) (args : Dens κs ground.ps) (f g : Co2) (e e′ : AtExit (endedOf 0 ground.ps ground.r) κs)
     → ground-contract.Learnt κs args f e → ground-contract.Learnt κs args g e′ → f ≡ g
 one-soil κs args f g e e′ p q = p .exact ∙ sym (q .exact)
+
+-- Tillage CO2.
+pub one-tillage : (κs : Lfts 0) (args : Dens κs ploughed.ps) (f g : Co2) (e e′ : AtExit (endedOf 0 ploughed.ps ploughed.r) κs)
+    → ploughed-contract.Learnt κs args f e → ploughed-contract.Learnt κs args g e′ → f ≡ g
+one-tillage κs args f g e e′ p q = p .exact ∙ sym (q .exact)
 
 -- CO2e.
 pub one-co2e : (κs : Lfts 0) (args : Dens κs warmed.ps) (f g : Co2) (e e′ : AtExit (endedOf 0 warmed.ps warmed.r) κs)

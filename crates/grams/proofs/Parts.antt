@@ -1,7 +1,9 @@
 -- The bound of each separately rounded figure, over the plain ranges of what goes into it. Assumes nothing.
-use Prim.Native.Nat.{ℕ, _*_, _^_, _≤_}
+use Prim.Native.Nat.{ℕ, zero, suc, _-_, _*_, _/_, _^_, _≤_}
+use native.Mathlib.Nat.{sub-le}
 use Rattle.grams.specs.Cattle as cattle
 use Rattle.grams.specs.Pig as pig
+use Rattle.grams.specs.CarbonRate.{scale, steps, expOf, rateOf}
 use Rattle.grams.proofs.Bounds.{_⊗_, _⊕_, num, less, rounds}
 
 module _ {x head days : ℕ} (p : x ≤ 3200000000) (h : head ≤ 20000) (d : days ≤ 366) where
@@ -36,3 +38,18 @@ module _ {n : ℕ} (p : n ≤ 7 * 10 ^ 9) where
 
   pub pig-land-most : (volatilised leached : ℕ) → pig.landOf n volatilised leached ≤ 7 * 10 ^ 9
   pig-land-most volatilised leached = rounds _ _ (p ⊗ less leached (less volatilised (num _))) tt tt
+
+-- ---- tillage
+
+step-most : (x i e : ℕ) → e ≤ scale → steps x i e ≤ scale
+unfolding steps
+step-most x zero e h = h
+step-most x (suc i) e h = step-most x i (scale - e * x / (10000 * suc i)) (sub-le scale (e * x / (10000 * suc i)))
+
+exp-most : (x : ℕ) → expOf x ≤ scale
+unfolding expOf
+exp-most x = step-most x 20 scale (num _)
+
+pub rate-most : {lum : ℕ} → lum ≤ 1570 → (k y : ℕ) → rateOf lum k y ≤ 1570000
+unfolding rateOf
+rate-most p k y = rounds _ _ (p ⊗ less (expOf (k * y)) (exp-most (k * (y - 1)))) tt tt

@@ -1,16 +1,30 @@
 -- The bounds of a record's figures as laws of the rules themselves: from the record's ranges, whatever code computes them. Assumes nothing.
-use Prim.Native.Nat.{ℕ, _*_, _^_, _≤_}
+use mathlib.Core.Path.{_≡_, ap, _∙_}
+use Prim.Native.Nat.{ℕ, _+_, _*_, _^_, _≤_}
 use native.Mathlib.Omega.{arith}
+use lib.IntN.{ℤ, pos, natAbs, _+ℤ_}
+use Rattle.base.proofs.Signed.{signed-word}
 use Rattle.grams.specs.Cattle as cattle
 use Rattle.grams.specs.Cattle.{EntericIn, CattleIn, entericOf, keptOf}
 use Rattle.grams.specs.Pig as pig
 use Rattle.grams.specs.Pig.{PigIn, recordNitrogen}
-use Rattle.grams.specs.Units.{Co2Within}
-use Rattle.grams.specs.Farm.{EnergyIn, SoilIn, energyOf, soilOf}
+use Rattle.grams.specs.Units.{gramsCo2, co2Grams, plusCo2, Co2Within}
+use Rattle.grams.specs.Farm.{EnergyIn, SoilIn, SumsIn, energyOf, soilOf, factorsOf, co2eOf}
+use Rattle.grams.specs.TillageTable.{Pair, PlaceIn, pairOf}
+use Rattle.grams.specs.CarbonRate.{mgOf}
+use Rattle.grams.specs.Tillage.{TillageIn, co2Of, tillageOf}
+use Rattle.grams.specs.declared.units.Co2.{Co2}
+use Rattle.grams.specs.declared.units.N2o.{N2o}
+use Rattle.grams.specs.declared.farm.Warming.{Warming}
+use Rattle.grams.specs.declared.farm.Warming.the-variants.{First, Second}
 use Rattle.grams.specs.declared.cattle.CattleRation.{CattleRation}
 use Rattle.grams.specs.declared.pig.PigRation.{PigRation}
 use Rattle.grams.proofs.Bounds.{_⊗_, _⊕_, num, less, rounds}
+use Rattle.grams.proofs.TillagePairs.{lum-most}
+use Rattle.grams.proofs.Signs.{mg-amount, co2-amount}
+use Rattle.grams.proofs.Carbon.{within-grams, plus-grams}
 use Rattle.grams.proofs.Parts.{cattle-excreted-most, cattle-direct-most, cattle-indirect-most, pig-solids-most, pig-ch4-most, pig-nitrogen-most, pig-direct-most, pig-indirect-most, pig-land-most}
+use Rattle.grams.proofs.Parts.{rate-most}
 
 pub enteric-small : {ge ym head days : ℕ} → EntericIn ge ym head days → entericOf ge ym head days ≤ 10 ^ 11
 unfolding entericOf
@@ -49,8 +63,33 @@ module _ {p : PigRation} {head : ℕ} (i : PigIn p head) where
 
 pub energy-small : {amount factor : ℕ} → EnergyIn amount factor → Co2Within 1 (energyOf amount factor)
 unfolding energyOf
-energy-small i = rounds _ _ (i .amount-in ⊗ i .factor-in) tt tt
+energy-small i = within-grams (pos _) 1 (rounds _ _ (i .amount-in ⊗ i .factor-in) tt tt)
 
 pub soil-small : {area : ℕ} → SoilIn area → Co2Within 1 (soilOf area)
 unfolding soilOf
-soil-small i = rounds _ _ (i .area-in ⊗ num _) tt tt
+soil-small i = within-grams (pos _) 1 (rounds _ _ (i .area-in ⊗ num _) tt tt)
+
+pub place-of : {zone texture change years area : ℕ} → TillageIn zone texture change years area → PlaceIn zone texture change
+place-of i = record { zone-in = i .zone-in; texture-in = i .texture-in; change-in = i .change-in }
+
+pub tillage-small : {zone texture change years area : ℕ} → TillageIn zone texture change years area
+    → Co2Within 1 (tillageOf zone texture change years area)
+unfolding tillageOf
+tillage-small {zone} {texture} {change} {years} {area} i =
+    let p : Pair = pairOf zone texture change in
+    let mg : ℤ = mgOf (p .lum) (p .k) years in
+    let most : natAbs mg ≤ 1570000 = rw (mg-amount (p .lum) (p .k) years) (rate-most (lum-most (place-of i)) (p .k) years) in
+    let few : natAbs (co2Of mg area) ≤ 10 ^ 13 = rw (co2-amount mg area) (rounds _ _ (most ⊗ i .area-in ⊗ num _) tt tt) in
+    within-grams (co2Of mg area) 1 few
+
+others-added : (c : Co2) (n : ℕ) → Co2Within 4096 c → n ≤ 4096 * 10 ^ 13 → co2Grams (plusCo2 c (gramsCo2 (pos n))) ≡ co2Grams c +ℤ pos n
+others-added c n p h =
+    let e : co2Grams (gramsCo2 (pos n)) ≡ pos n = signed-word (pos n) (omega arith) in
+    plus-grams c (gramsCo2 (pos n)) 4096 4096 (omega arith) p (within-grams (pos n) 4096 h) ∙ ap (λ (z : ℤ). co2Grams c +ℤ z) e
+
+-- CO2e of a total, which may be below zero, does not go round its 8 bytes
+module _ {co2 : Co2} {ch4 : ℕ} {n2o : N2o} (i : SumsIn co2 ch4 n2o) where
+  pub co2e-grams : (w : Warming) → co2Grams (co2eOf w co2 ch4 n2o) ≡ co2Grams co2 +ℤ pos (factorsOf w .ch4 * ch4 + factorsOf w .n2o * n2o .0)
+  unfolding co2eOf
+  co2e-grams First = others-added co2 (21 * ch4 + 310 * n2o .0) (i .co2-in) (omega arith)
+  co2e-grams Second = others-added co2 (23 * ch4 + 296 * n2o .0) (i .co2-in) (omega arith)

@@ -1,6 +1,7 @@
 -- Document 01, "The arithmetic": energy, organic soil, and the total's CO2e. Assumes nothing.
 use Prim.Native.Nat.{ℕ, _+_, _*_, _^_, _≤_}
 use lib.Dec.{eqb}
+use lib.IntN.{pos}
 use Rattle.base.specs.Choice.{pick}
 use Rattle.grams.specs.Round.{roundDiv}
 use Rattle.grams.specs.Units.{gramsCo2, plusCo2, Co2Within}
@@ -17,7 +18,7 @@ pub record EnergyIn (amount factor : ℕ) : Type 0 where
 
 -- CO2 = round(amount × factor / 10)
 unfoldable pub energyOf : ℕ → ℕ → Co2
-energyOf amount factor = gramsCo2 (roundDiv (amount * factor) 10)
+energyOf amount factor = gramsCo2 (pos (roundDiv (amount * factor) 10))
 
 -- what `energy` answers
 abbrev pub Energy : ℕ → ℕ → Co2 → Type 0
@@ -29,7 +30,7 @@ pub record SoilIn (area : ℕ) : Type 0 where
 
 -- CO2 = round(area × 550000 / 3)
 unfoldable pub soilOf : ℕ → Co2
-soilOf area = gramsCo2 (roundDiv (area * 550000) 3)
+soilOf area = gramsCo2 (pos (roundDiv (area * 550000) 3))
 
 -- what `soil` answers
 abbrev pub Soil : ℕ → Co2 → Type 0
@@ -55,6 +56,6 @@ pub record SumsIn (co2 : Co2) (ch4 : ℕ) (n2o : N2o) : Type 0 where
   pub ch4-in : ch4 ≤ 4096 * 10 ^ 11
   pub n2o-in : n2o .0 ≤ 4096 * 10 ^ 10
 
--- CO2e = CO2 + a × CH4 + b × N2O
+-- CO2e = CO2 + a × CH4 + b × N2O, below zero where more is taken up
 unfoldable pub co2eOf : Warming → Co2 → ℕ → N2o → Co2
-co2eOf w co2 ch4 n2o = plusCo2 co2 (gramsCo2 (factorsOf w .ch4 * ch4 + factorsOf w .n2o * n2o .0))
+co2eOf w co2 ch4 n2o = plusCo2 co2 (gramsCo2 (pos (factorsOf w .ch4 * ch4 + factorsOf w .n2o * n2o .0)))

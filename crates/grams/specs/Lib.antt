@@ -4,4 +4,7 @@ pub mod Figure
 pub mod Cattle
 pub mod Pig
 pub mod Farm
+pub mod TillageTable
+pub mod CarbonRate
+pub mod Tillage
 pub mod Cases

@@ -1,10 +1,11 @@
-// Grams of CO2; grams of N2O, and N2O-N, the nitrogen in it. Only `to_n2o` leads from N2O-N to N2O.
+// Grams of CO2, which may be below zero; grams of N2O, and N2O-N, the nitrogen in it. Only `to_n2o` leads from N2O-N to N2O.
 use crate::rounding::round_div;
 ghost use mathlib.Core.Path.{_≡_};
 ghost use Prim.Native.Nat.{_+_, _*_, _^_, _<_, _≤_};
+ghost use lib.IntN.{pos, negℤ};
 ghost use Rattle.grams.specs.Units.{gramsCo2, plusCo2, Co2Within, co2Within, co2Word, gramsN2o, partsN2oN, asN2o};
 
-// Grams of CO2. How they are added, bounded and laid into 8 bytes is said here alone.
+// Grams of CO2, a word in two's complement. How they are added, bounded and laid into 8 bytes is said here alone.
 pub struct Co2(u64);
 
 // None, as where a rule gives none.
@@ -12,24 +13,32 @@ pub const NO_CO2: Co2 = Co2(0);
 
 impl Co2 {
     pub fn of(grams: u64) -> Co2
-        ensures { λ r. ⌜ r ≡ gramsCo2 grams ⌝ }
+        ensures { λ r. ⌜ r ≡ gramsCo2 (pos grams) ⌝ }
     {
         Co2(grams)
+    }
+
+    // Below zero.
+    pub fn taken_up(grams: u64) -> Co2
+        ensures { λ r. ⌜ r ≡ gramsCo2 (negℤ (pos grams)) ⌝ }
+    {
+        Co2(std::num::wrapping_sub_u64(0, grams))
     }
 
     pub fn plus(self, other: Co2) -> Co2
         requires { ⌜ Co2Within 4096 self × Co2Within 4096 other ⌝ }
         ensures { λ r. ⌜ r ≡ plusCo2 self other ⌝ }
     {
-        Co2(self.0 + other.0)
+        Co2(std::num::wrapping_add_u64(self.0, other.0))
     }
 
-    // Whether so many records reach it.
+    // Whether so many records reach it, on both sides of zero: one test of the word, moved up by the bound.
     pub fn within(self, records: u64) -> bool
         requires { ⌜ records ≤ 65535 ⌝ }
         ensures { λ r. ⌜ r ≡ co2Within records self ⌝ }
     {
-        self.0 <= records * 10000000000000
+        let most = records * 10000000000000;
+        std::num::wrapping_add_u64(self.0, most) <= 2 * most
     }
 
     // The same, moved by itself.

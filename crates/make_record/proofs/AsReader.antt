@@ -13,8 +13,8 @@ use lib.ListN.{length, replicate, length-replicate}
 use Rattle.base.specs.Choice.{pick}
 use Rattle.base.proofs.Tests.{and-false, or-cases}
 use Rattle.codec.specs.Table.{fields, lengthOf, Of, lastKind, isKind}
-use Rattle.codec.specs.Codec.{valAt, recordBytes}
-use Rattle.codec.proofs.Rows.{Fit, fit-kind}
+use Rattle.codec.specs.Codec.{valAt, recordBytes, Fit}
+use Rattle.codec.proofs.Rows.{fit-kind}
 use Rattle.account.specs.declared.Refusal.{Refusal}
 use Rattle.account.specs.Judge.{first, judge, weigh}
 use Rattle.account.specs.Told.{Kind}

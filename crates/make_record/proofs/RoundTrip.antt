@@ -11,8 +11,8 @@ use lib.Dec.{leb}
 use lib.ListN.{length, getD}
 use Rattle.base.proofs.Tests.{and-l, and-r}
 use Rattle.codec.specs.Table.{fields, lengthOf, Of, isKind, lastKind}
-use Rattle.codec.specs.Codec.{valAt, recordBytes}
-use Rattle.codec.proofs.BigEndian.{Bytes, one-byte}
+use Rattle.codec.specs.Codec.{valAt, recordBytes, Bytes}
+use Rattle.codec.proofs.BigEndian.{one-byte}
 use Rattle.codec.proofs.Values.{values-length}
 use Rattle.codec.proofs.Rows.{fit-kind}
 use Rattle.codec.proofs.Round.{record-again}

@@ -7,12 +7,13 @@ use mathlib.Core.List.{List, [], _∷_, _++_, map, append-assoc}
 use mathlib.Core.Bool.{Bool, true, false, _&&_}
 use mathlib.Core.Logic.{_⊎_, inl, inr, ⊎-elim}
 use native.Mathlib.Omega.{arith}
-use borrow.Author.Tests.{leb-true, eqb-true}
+use borrow.Author.Tests.{eqb-true}
 use lib.ListN.{length, getD, take, drop, length-drop}
-use lib.Dec.{leb, eqb}
+use lib.Dec.{eqb}
 use Rattle.base.specs.Choice.{pick}
-use Rattle.base.proofs.Tests.{and-r, lt-or-ge, not-false, of-choice}
-use Rattle.codec.specs.Table.{table, lineFields, totalFields}
+use Rattle.base.proofs.Tests.{lt-or-ge, not-false, of-choice}
+use Rattle.codec.proofs.EachKind.{kind-most}
+use Rattle.codec.specs.Table.{table, lineFields, totalFields, isKind}
 use Rattle.codec.specs.Codec.{valAt, be, valuesAt, bytesOf, lineBytes, totalBytes}
 use Rattle.account.specs.declared.Account.{Account}
 use Rattle.account.specs.Sorts.{heads, ofGroup, sortOf}
@@ -68,9 +69,9 @@ pub record Stopped (a : Account) (j : Step) : Type 0 where
   pub counted : j .account .records ≡ a .records
   pub none : j .lines ≡ []
 
-module _ (a : Account) (r : List ℕ) (f : AccountInRange a) (kinds : leb 1 (kindOf r) && leb (kindOf r) 8 ≡ true) where
+module _ (a : Account) (r : List ℕ) (f : AccountInRange a) (kinds : isKind (kindOf r) ≡ true) where
   small-kind : kindOf r < 256
-  small-kind = omega (arith, leb-true (kindOf r) 8 (and-r (leb 1 (kindOf r)) (leb (kindOf r) 8) kinds))
+  small-kind = omega (arith, kind-most (kindOf r) kinds)
 
   -- the subtotal of the group that ends
   group-marks : map markOf (subtotals a) ≡ subtotalMark (a .heading .group)
@@ -105,7 +106,7 @@ module _ (a : Account) (r : List ℕ) (f : AccountInRange a) (kinds : leb 1 (kin
       (λ e. record { counted = refl; marks = rw e (ap (λ (m : Mark). m ∷ []) (line-mark _ _ _ _ _ _ _ small-kind (omega arith))); group = rw e refl })
       (λ e. record { counted = refl; marks = close-marks ∙ rw e refl; group = rw e refl })
 
-pub kind-in : (a : Account) (r : List ℕ) → first (refusals a r) ≡ 0 → leb 1 (kindOf r) && leb (kindOf r) 8 ≡ true
+pub kind-in : (a : Account) (r : List ℕ) → first (refusals a r) ≡ 0 → isKind (kindOf r) ≡ true
 kind-in a r e = not-false _ (not-refused a r e .kind)
 
 pub judged : (a : Account) (r : List ℕ) → AccountInRange a → Stopped a (judge a r) ⊎ Grown a r (judge a r)

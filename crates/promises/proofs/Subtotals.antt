@@ -13,6 +13,7 @@ use lib.Dec.{leb, eqb}
 use Rattle.base.specs.Choice.{pick}
 use Rattle.base.proofs.Tests.{lt-or-ge, no-bool, of-choice, true-or-false}
 use Rattle.codec.proofs.EachKind.{kind-most}
+use Rattle.codec.specs.Table.{isKind}
 use Rattle.codec.specs.Codec.{valAt, lineBytes}
 use Rattle.account.specs.declared.Account.{Account}
 use Rattle.grams.specs.declared.units.Co2.{Co2}
@@ -88,7 +89,7 @@ record Made (a : Account) (r : List ℕ) (j : Step) : Type 0 where
   still : a .stage < 2 → closing r ≡ false → j .account .stage < 2
   shut : closing r ≡ true → j .account .stage ≡ 2
 
-module _ (a : Account) (r : List ℕ) (f : AccountInRange a) (kinds : leb 1 (kindOf r) && leb (kindOf r) 8 ≡ true) where
+module _ (a : Account) (r : List ℕ) (f : AccountInRange a) (kinds : isKind (kindOf r) ≡ true) where
   -- the subtotal of the group that ends
   ending : subtotalLines (subtotals a) ≡ map lineOfGroup (groupUnder (a .heading) (a .subtotal))
   unfolding subtotalLines
@@ -200,12 +201,15 @@ ended-group a f x = go (eqb (a .heading .group) 0) refl
 
 -- the balance of one record that does not close the book: what the farm gains is what its groups gain
 module _ (a : Account) (r : List ℕ) (f : AccountInRange a) (x : Gas) where
+  abbrev Nothing : Figures → Type 0
+  Nothing g = x .farm g ≡ 0
+
   -- a detail of the farm gives CO2 alone
   air-alone : sortOf (kindOf r) ≡ ofFarm → x .farm (detailOf (a .heading) r) ≡ 0
   unfolding figuresOf
   air-alone e =
       let n = not-of-group (kindOf r) e in
-      rw (n .0, n .1 .0, n .1 .1) (of-choice (λ (g : Figures). x .farm g ≡ 0) (eqb (kindOf r) 6) (λ e. x .air _) (λ e. x .air _))
+      rw (n .0, n .1 .0, n .1 .1) (of-choice Nothing (eqb (kindOf r) 6) (λ e. x .air _) (λ e. of-choice Nothing (eqb (kindOf r) 7) (λ e. x .air _) (λ e. x .air _)))
 
   abbrev Balanced : Sort → Type 0
   Balanced s =

@@ -1,4 +1,4 @@
--- Document 01, "The book" and "Refusal numbers": both sides of every limit of refusals 1 to 12; of each field of each kind the first and the last
+-- Document 01, "The book" and "Refusal numbers", with document 02's kinds: both sides of every limit of refusals 1 to 12; of each field of each kind the first and the last
 -- good value and the ones beyond. A row has some records, what stands behind them, and what the book comes to: by hand from the document, and the
 -- second program says the same.
 -- Assumes nothing.
@@ -260,6 +260,35 @@ soilFields =
     ∷ after farm (recordBytes 7 (10000001 ∷ [])) (refused 1 7 1)
     ∷ []
 
+-- tillage
+abbrev pub tillageFields : List Row
+tillageFields =
+    -- zone: 1..9
+    after farm (recordBytes 9 (0 ∷ 2 ∷ 3 ∷ 4 ∷ 5 ∷ [])) (refused 1 7 1)
+    ∷ after farm (recordBytes 9 (1 ∷ 2 ∷ 3 ∷ 4 ∷ 5 ∷ [])) (going 2)
+    ∷ after farm (recordBytes 9 (9 ∷ 2 ∷ 3 ∷ 4 ∷ 5 ∷ [])) (going 2)
+    ∷ after farm (recordBytes 9 (10 ∷ 2 ∷ 3 ∷ 4 ∷ 5 ∷ [])) (refused 1 7 1)
+    -- texture: 1..3
+    ∷ after farm (recordBytes 9 (1 ∷ 0 ∷ 3 ∷ 4 ∷ 5 ∷ [])) (refused 1 7 2)
+    ∷ after farm (recordBytes 9 (1 ∷ 1 ∷ 3 ∷ 4 ∷ 5 ∷ [])) (going 2)
+    ∷ after farm (recordBytes 9 (1 ∷ 3 ∷ 3 ∷ 4 ∷ 5 ∷ [])) (going 2)
+    ∷ after farm (recordBytes 9 (1 ∷ 4 ∷ 3 ∷ 4 ∷ 5 ∷ [])) (refused 1 7 2)
+    -- change: 1..6
+    ∷ after farm (recordBytes 9 (1 ∷ 2 ∷ 0 ∷ 4 ∷ 5 ∷ [])) (refused 1 7 3)
+    ∷ after farm (recordBytes 9 (1 ∷ 2 ∷ 1 ∷ 4 ∷ 5 ∷ [])) (going 2)
+    ∷ after farm (recordBytes 9 (1 ∷ 2 ∷ 6 ∷ 4 ∷ 5 ∷ [])) (going 2)
+    ∷ after farm (recordBytes 9 (1 ∷ 2 ∷ 7 ∷ 4 ∷ 5 ∷ [])) (refused 1 7 3)
+    -- years: 1..100
+    ∷ after farm (recordBytes 9 (1 ∷ 2 ∷ 3 ∷ 0 ∷ 5 ∷ [])) (refused 1 7 4)
+    ∷ after farm (recordBytes 9 (1 ∷ 2 ∷ 3 ∷ 1 ∷ 5 ∷ [])) (going 2)
+    ∷ after farm (recordBytes 9 (1 ∷ 2 ∷ 3 ∷ 100 ∷ 5 ∷ [])) (going 2)
+    ∷ after farm (recordBytes 9 (1 ∷ 2 ∷ 3 ∷ 101 ∷ 5 ∷ [])) (refused 1 7 4)
+    -- area: 0..10000000
+    ∷ after farm (recordBytes 9 (1 ∷ 2 ∷ 3 ∷ 4 ∷ 0 ∷ [])) (going 2)
+    ∷ after farm (recordBytes 9 (1 ∷ 2 ∷ 3 ∷ 4 ∷ 10000000 ∷ [])) (going 2)
+    ∷ after farm (recordBytes 9 (1 ∷ 2 ∷ 3 ∷ 4 ∷ 10000001 ∷ [])) (refused 1 7 5)
+    ∷ []
+
 -- ---- the other refusals
 
 -- length, version and kind (1 to 4)
@@ -285,9 +314,9 @@ lengthsAndKinds =
     ∷ after farm (0 ∷ 6 ∷ 1 ∷ 7 ∷ 0 ∷ 0 ∷ 0 ∷ 10 ∷ []) (going 2)
     ∷ after farm (0 ∷ 6 ∷ 2 ∷ 7 ∷ 0 ∷ 0 ∷ 0 ∷ 10 ∷ []) (refused 1 2 0)
     ∷ after farm (0 ∷ 6 ∷ 255 ∷ 7 ∷ 0 ∷ 0 ∷ 0 ∷ 10 ∷ []) (refused 1 2 0)
-    -- 3: kind not 1..8
+    -- 3: kind not 1..9
     ∷ after farm (0 ∷ 6 ∷ 1 ∷ 0 ∷ 0 ∷ 0 ∷ 0 ∷ 10 ∷ []) (refused 1 3 0)
-    ∷ after farm (0 ∷ 6 ∷ 1 ∷ 9 ∷ 0 ∷ 0 ∷ 0 ∷ 10 ∷ []) (refused 1 3 0)
+    ∷ after farm (0 ∷ 6 ∷ 1 ∷ 10 ∷ 0 ∷ 0 ∷ 0 ∷ 10 ∷ []) (refused 1 3 0)
     ∷ after farm (0 ∷ 6 ∷ 1 ∷ 255 ∷ 0 ∷ 0 ∷ 0 ∷ 10 ∷ []) (refused 1 3 0)
     -- 4: length not the kind's, one byte less and one more; beyond 4 and 26 it is refusal 1
     ∷ after [] (blank 8 1) (refused 0 4 0)
@@ -306,6 +335,8 @@ lengthsAndKinds =
     ∷ after farm (blank 7 7) (refused 1 4 0)
     ∷ after farm (blank 3 8) (refused 1 1 0)
     ∷ after farm (blank 5 8) (refused 1 4 0)
+    ∷ after farm (blank 10 9) (refused 1 4 0)
+    ∷ after farm (blank 12 9) (refused 1 4 0)
     ∷ []
 
 -- count, place, group, days, shares, X and close (5, 6, 8 to 12)
@@ -324,9 +355,10 @@ placesAndSums =
     ∷ after [] (recordBytes 6 (1 ∷ 20 ∷ 30 ∷ [])) (refused 0 6 0)
     ∷ after [] (recordBytes 7 (10 ∷ [])) (refused 0 6 0)
     ∷ after [] (recordBytes 8 (0 ∷ [])) (refused 0 6 0)
+    ∷ after [] (recordBytes 9 (1 ∷ 2 ∷ 3 ∷ 4 ∷ 5 ∷ [])) (refused 0 6 0)
     ∷ after farm (recordBytes 1 (7 ∷ 2010 ∷ 1 ∷ [])) (refused 1 6 0)
     ∷ after cow (recordBytes 1 (7 ∷ 2010 ∷ 1 ∷ [])) (refused 2 6 0)
-    -- kinds 3 and 4 need a cattle heading, kind 5 a pig heading; kinds 6, 7 and 8 none
+    -- kinds 3 and 4 need a cattle heading, kind 5 a pig heading; kinds 6 to 9 none
     ∷ after farm (enteric 10) (refused 1 6 0)
     ∷ after farm (nitrogen 10) (refused 1 6 0)
     ∷ after farm (pig 10) (refused 1 6 0)
@@ -402,8 +434,8 @@ abbrev pub firstTold : List Row
 firstTold =
     -- each before the next, where a record breaks two
     after [] (0 ∷ 27 ∷ 2 ∷ []) (refused 0 1 0)
-    ∷ after [] (0 ∷ 4 ∷ 2 ∷ 9 ∷ 0 ∷ 0 ∷ []) (refused 0 2 0)
-    ∷ after [] (0 ∷ 4 ∷ 1 ∷ 9 ∷ 0 ∷ 0 ∷ []) (refused 0 3 0)
+    ∷ after [] (0 ∷ 4 ∷ 2 ∷ 10 ∷ 0 ∷ 0 ∷ []) (refused 0 2 0)
+    ∷ after [] (0 ∷ 4 ∷ 1 ∷ 10 ∷ 0 ∷ 0 ∷ []) (refused 0 3 0)
     ∷ after [] (0 ∷ 5 ∷ 1 ∷ 3 ∷ 0 ∷ 0 ∷ 0 ∷ []) (refused 0 4 0)
     ∷ after farm (enteric 0) (refused 1 6 0)
     ∷ after farm (recordBytes 1 (7 ∷ 1899 ∷ 3 ∷ [])) (refused 1 6 0)
@@ -427,6 +459,7 @@ limits =
     ++ pigFields
     ++ energyFields
     ++ soilFields
+    ++ tillageFields
     ++ lengthsAndKinds
     ++ placesAndSums
     ++ firstTold

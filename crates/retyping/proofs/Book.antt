@@ -10,8 +10,8 @@ use lib.ListN.{length, take, drop, getD, length-append, length-take, take-append
 use lib.Seq.{getD-drop, getD-take, take-append-add}
 use lib.Dec.{eqb, ltb}
 use borrow.Author.Tests.{ltb-true, eqb-false, ne-eqb}
+use Rattle.codec.specs.Codec.{Bytes}
 use Rattle.base.proofs.Tests.{and-false, and-l, and-r, by-test, lt-or-ge}
-use Rattle.codec.proofs.BigEndian.{Bytes}
 use Rattle.account.specs.declared.Account.{Account}
 use Rattle.account.specs.Judge.{WholeRecord, noRecord, kindOf, valuesOf, judge}
 use Rattle.account.specs.Line.{joined}

@@ -9,6 +9,7 @@ use lib.ListN.{length, take, replicate, length-append}
 use lib.Seq.{take-all, take-append-le}
 use lib.Dec.{eqb}
 use borrow.Author.Tests.{lt-leb, ne-eqb, eq-eqb}
+use Rattle.codec.specs.Codec.{Bytes}
 use Rattle.base.specs.Choice.{pick}
 use Rattle.typed_words.specs.Words.{nthWord}
 use Rattle.printing.specs.Decimal.{decimal, spaced}
@@ -16,7 +17,6 @@ use Rattle.names.specs.Names.{kindName, decimalsAt}
 use Rattle.text_lines.specs.Lines.{has, kept, unmarked, isMarked}
 use Rattle.text_lines.proofs.Bytes.{before-all, has-behind}
 use Rattle.codec.specs.Table.{fields, Of, lastKind}
-use Rattle.codec.proofs.BigEndian.{Bytes}
 use Rattle.account.specs.Judge.{WholeRecord, kindOf, valuesOf, judge}
 use Rattle.book.specs.declared.State.{State}
 use Rattle.book.specs.State.{holding}

@@ -3,9 +3,9 @@
 use Prim.Native.Nat.{ℕ, _<_}
 use mathlib.Core.Path.{_≡_}
 use mathlib.Core.List.{List, [], _∷_, _++_}
+use Rattle.codec.specs.Codec.{Bytes}
 use Rattle.printing.specs.Decimal.{spaced}
 use Rattle.names.specs.Names.{kindName}
-use Rattle.codec.proofs.BigEndian.{Bytes}
 use Rattle.account.specs.declared.Account.{Account}
 use Rattle.account.specs.Judge.{WholeRecord, kindOf, valuesOf, judge}
 use Rattle.account.specs.Line.{joined}

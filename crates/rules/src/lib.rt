@@ -8,6 +8,7 @@ pub mod farm;
 pub mod heading;
 pub mod pig;
 pub mod soil;
+pub mod tillage;
 mod figures; // figures.rt: sums and subtotals
 mod lines; // lines.rt: an account with its line
 mod refusals; // refusals.rt: what all kinds share
@@ -39,6 +40,7 @@ fn size_of(kind: u8) -> usize
         6 => 13,
         7 => 8,
         8 => 6,
+        9 => 13,
         _ => 0,
     }
 }
@@ -56,7 +58,8 @@ fn by_kind(a: Account, kind: u8, r: &[u8], room: usize) -> Judged
         5 => pig::weigh(a, codec::pig::read(r, 4), room),
         6 => energy::weigh(a, codec::energy::read(r, 4), room),
         7 => soil::weigh(a, codec::soil::read(r, 4), room),
-        _ => close::weigh(a, codec::close::read(r, 4), room),
+        8 => close::weigh(a, codec::close::read(r, 4), room),
+        _ => tillage::weigh(a, codec::tillage::read(r, 4), room),
     }
 }
 

@@ -20,8 +20,8 @@ use Rattle.printing.specs.Decimal.{decimal}
 use Rattle.printing.proofs.Digits.{length-u64}
 use Rattle.names.specs.Names.{sentenceTable, sentence}
 use Rattle.codec.specs.Table.{table, size}
-use Rattle.codec.specs.Codec.{bytesHold, valAt, be, bytesOf, recordBytes}
-use Rattle.codec.proofs.BigEndian.{Bytes, valAt-lt, valAt-be, be-length}
+use Rattle.codec.specs.Codec.{bytesHold, valAt, be, bytesOf, recordBytes, Bytes}
+use Rattle.codec.proofs.BigEndian.{valAt-lt, valAt-be, be-length}
 use Rattle.account.specs.declared.Account.{Account}
 use Rattle.account.specs.Judge.{kindOf, first, refusals}
 use Rattle.account.specs.Line.{joined}

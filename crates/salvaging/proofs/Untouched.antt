@@ -14,8 +14,8 @@ use lib.Seq.{getD-drop}
 use Rattle.base.specs.Choice.{pick}
 use Rattle.base.proofs.Tests.{or-left, lt-or-ge}
 use Rattle.codec.specs.Table.{table, size, lengthOf}
-use Rattle.codec.specs.Codec.{valuesAt, recordBytes}
-use Rattle.codec.proofs.BigEndian.{Bytes, one-byte}
+use Rattle.codec.specs.Codec.{valuesAt, recordBytes, Bytes}
+use Rattle.codec.proofs.BigEndian.{one-byte}
 use Rattle.codec.proofs.Round.{record-again}
 use Rattle.account.specs.declared.Account.{Account}
 use Rattle.account.specs.Judge.{WholeRecord, kindOf, noRecord, closed, judge}

@@ -10,6 +10,7 @@ mod salvage;
 mod slips;
 mod states;
 mod subtotals;
+mod tillage;
 mod typed;
 mod typed_lines;
 mod writer;

@@ -49,7 +49,7 @@ fn a_heading_without_rations_gives_zeros() {
 }
 
 #[test]
-fn kinds_3_to_5_are_in_the_subtotal_and_6_and_7_are_not() {
+fn kinds_3_to_5_are_in_the_subtotal_and_the_farms_are_not() {
     let cattle = with_group(1);
     let before = cattle.subtotal;
     let (ch4, n2o, excreted, land) = (before.ch4, before.n2o, before.excreted, before.land);
@@ -71,6 +71,7 @@ fn kinds_3_to_5_are_in_the_subtotal_and_6_and_7_are_not() {
     for state in [cattle, pigs] {
         assert_eq!(then(&state, kind::ENERGY, &[1, 125, 70_000]), before);
         assert_eq!(then(&state, kind::SOIL, &[100]), before);
+        assert_eq!(then(&state, kind::TILLAGE, &[1, 1, 1, 1, 100]), before);
     }
 }
 

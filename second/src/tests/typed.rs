@@ -82,7 +82,7 @@ fn details_do_not_stand_under_a_lost_heading() {
         "heading 13 5 14",
         "heading 12 2 14",
         "heading 13 2",
-        "9 1",
+        "10 1",
         "0",
         "77 x",
         &long,
@@ -103,6 +103,8 @@ fn details_do_not_stand_under_a_lost_heading() {
         "close x",
         "close 9",
         "energy 9 1 1",
+        "tillage 9 1 1",
+        "9 x",
         "pig 1",
         "4 x",
     ] {
@@ -241,7 +243,7 @@ fn texts_by_chance_come_to_everything() {
     for code in [3, 4, 5, 6, 8, 9, 10, 11, 12, 22] {
         assert!(said.contains(&format!(": refused {code}: ")), "{code}");
     }
-    for kind in 1..=8 {
+    for kind in 1..=9 {
         for f in spoken_of(kind) {
             assert!(
                 said.contains(&format!("not read: {}, {}: ", kind_name(kind), f.name)),

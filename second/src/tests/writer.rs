@@ -34,7 +34,7 @@ fn code_of(case: &Case) -> u8 {
 
 #[test]
 fn every_kind_is_written_and_read_back() {
-    for kind in 1..=8 {
+    for kind in 1..=9 {
         let (state, values) = (place_of(kind), plain_values(kind));
         let wrote = write(&state, kind.into(), &values, size_of(kind)).unwrap();
         assert_eq!(wrote.bytes, record_of(kind, &values));
@@ -53,7 +53,7 @@ fn the_papers_farm_record() {
 
 #[test]
 fn short_buffers_come_last() {
-    for kind in 1..=8 {
+    for kind in 1..=9 {
         let (state, values) = (place_of(kind), plain_values(kind));
         for room in 0..size_of(kind) {
             assert_eq!(refused_by(&state, kind.into(), &values, room), (16, 0));
@@ -64,7 +64,7 @@ fn short_buffers_come_last() {
 
 #[test]
 fn values_at_and_past_their_ranges() {
-    for kind in 1..=8 {
+    for kind in 1..=9 {
         let state = place_of(kind);
         for (position, f) in fields_of(kind).iter().enumerate() {
             let with = |value| {
@@ -96,13 +96,13 @@ fn the_first_field_out_of_range_is_given() {
 
 #[test]
 fn wrong_counts_and_wrong_kinds() {
-    for kind in 1..=8_u64 {
+    for kind in 1..=9_u64 {
         let right = fields_of(kind as u8).len();
         for count in (0..=20).filter(|&count| count != right) {
             assert_eq!(refused_by(&place_of(kind as u8), kind, &vec![1; count], 64), (4, 0));
         }
     }
-    for kind in [0, 9, 255, 256 + 3, (1 << 32) + 3, u64::MAX] {
+    for kind in [0, 10, 255, 256 + 3, (1 << 32) + 3, u64::MAX] {
         assert_eq!(refused_by(&under(1), kind, &plain_values(3), 64), (3, 0));
     }
 }
@@ -164,7 +164,7 @@ fn refused_as_the_reader_would() {
         };
         let code = write(&state, kind, &values, 64).err().map_or(0, |refusal| refusal.code);
         let fits = |(f, &value): (&crate::record::Field, &u64)| value < 1 << (8 * f.bytes);
-        let sayable = (1..=8).contains(&kind)
+        let sayable = (1..=9).contains(&kind)
             && values.len() == fields_of(kind as u8).len()
             && fields_of(kind as u8).iter().zip(&values).all(fits);
         if sayable && state.in_range() && state.stage <= OPEN && state.held_count == 0 {

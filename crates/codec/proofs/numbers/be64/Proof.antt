@@ -3,8 +3,8 @@
 use Prim.Native.Nat.{_+_, _<_}
 use native.Mathlib.Omega.{arith}
 use borrow.Author.Needs.{needs}
-use Rattle.codec.specs.Codec.{bytesHold}
-use Rattle.codec.proofs.BigEndian.{Bytes, valAt-lt, eight-bytes}
+use Rattle.codec.specs.Codec.{bytesHold, Bytes}
+use Rattle.codec.proofs.BigEndian.{valAt-lt, eight-bytes}
 use Rattle.codec.proofs.numbers.be64.Statement.{statement}
 use Rattle.codec.proofs.numbers.be64.Tie as tie
 

@@ -3,15 +3,17 @@ use borrow.Author.Needs.{needs}
 use mathlib.Core.Path.{_≡_, ap, _∙_}
 use Prim.Native.Nat.{ℕ, _*_, _^_, _≤_}
 use native.Mathlib.Omega.{arith}
+use lib.IntN.{pos}
 use Rattle.grams.specs.declared.units.Co2.{Co2}
 use Rattle.grams.specs.Units.{gramsCo2, plusCo2, Co2Within}
 use Rattle.grams.specs.Farm.{co2eOf}
+use Rattle.grams.proofs.Carbon.{within-grams}
 use Rattle.grams.proofs.farm.co2e.Statement.{statement}
 use Rattle.grams.proofs.farm.co2e.Tie as tie
 
 -- what CH4 and N2O count for is within the bound of as many records
-counted : (c : Co2) (grams : ℕ) → c ≡ gramsCo2 grams → grams ≤ 4096 * 10 ^ 13 → Co2Within 4096 c
-counted c grams e h = rw e h
+counted : (c : Co2) (grams : ℕ) → c ≡ gramsCo2 (pos grams) → grams ≤ 4096 * 10 ^ 13 → Co2Within 4096 c
+counted c grams e h = rw e (within-grams (pos grams) 4096 h)
 
 returns : tie.Need-returns
 unfolding co2eOf

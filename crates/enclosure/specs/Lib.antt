@@ -1,0 +1,2 @@
+pub mod PartialSums
+pub mod WithinTwo
