@@ -31,10 +31,10 @@ static void put64(uint8_t *p, uint64_t v) {
     memcpy(p, &swapped, sizeof swapped);
 }
 
-/* Nearest whole number, a half going up. */
+/* Nearest whole number, a half going to the even one. */
 static uint64_t rounded(uint64_t n, uint64_t d) {
-    uint64_t rest = n % d;
-    return n / d + (rest >= d - rest);
+    uint64_t whole = n / d, rest = n % d;
+    return whole + (rest + (whole & 1) > d - rest);
 }
 
 /* The 2-byte fields of kinds 4 and 5: days first, the others from 0 up to their highest. */

@@ -5,6 +5,7 @@ use crate::calls::{some_calls, MOST_ROOM, ROOMS};
 use crate::damages;
 use crate::dice::{Dice, Seed};
 use crate::figures::Subtotal;
+use crate::halves;
 use crate::kind;
 use crate::parts;
 use crate::plain::{
@@ -21,7 +22,12 @@ use crate::tillages;
 use crate::trial::{Call, Case};
 use crate::writes;
 
-/// The case of this seed and index.
+/// The fresh case of this seed and index.
+pub fn fresh(seed: u64, index: u64) -> Case {
+    halves::now_and_then(seed.into(), index).unwrap_or_else(|| case(seed, index))
+}
+
+/// A case by chance, of those that are stored too.
 pub fn case(seed: impl Into<Seed>, index: u64) -> Case {
     let seed = seed.into();
     if let Some(case) = writes::in_a_row(seed, index)
@@ -191,6 +197,7 @@ pub fn stored() -> Vec<Case> {
     cases.extend((0..60).map(|_| slips::some_slip(&mut dice)));
     cases.extend((1..=150).map(|index| case(seed, index)));
     cases.extend(tillages::stored(&clause_bases()));
+    cases.extend(halves::stored());
     cases
 }
 

@@ -64,9 +64,11 @@ impl Subtotal {
     }
 }
 
-/// round(n/d): the nearest whole number, a half going up.
+/// round(n/d): the nearest whole number, a half going to the even one (document 02, W8).
 pub fn round(n: u128, d: u128) -> u64 {
-    u64::try_from((2 * n + d) / (2 * d)).expect("a figure fits 64 bits")
+    let (below, twice_the_rest) = (n / d, 2 * (n % d));
+    let up = twice_the_rest > d || (twice_the_rest == d && below % 2 == 1);
+    u64::try_from(below + u128::from(up)).expect("a figure fits 64 bits")
 }
 
 /// Enteric CH4; `v` is days, GE, Ym.

@@ -24,7 +24,7 @@ fn each_field_is_tested_at_its_ends() {
 #[test]
 fn cases_survive_their_text() {
     for index in 0..2_000 {
-        let text = cases::case(5, index).text();
+        let text = cases::fresh(5, index).text();
         assert_eq!(Case::parse(&text).unwrap().text(), text);
     }
     let no_state = format!("B{} {} - 0", " 0".repeat(22), "00".repeat(27));

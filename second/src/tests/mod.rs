@@ -2,6 +2,7 @@
 
 mod cases;
 mod figures;
+mod halves;
 mod lines;
 mod parts;
 mod programs;
