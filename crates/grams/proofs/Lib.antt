@@ -4,3 +4,4 @@ pub mod Small
 pub mod Cases
 pub mod Carbon
 pub mod OneAnswer
+pub mod PigNitrogen
