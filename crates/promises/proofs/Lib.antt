@@ -13,3 +13,4 @@ pub mod Limits
 pub mod Totals
 pub mod SoFar
 pub mod WholeLines
+pub mod SameLine

@@ -6,3 +6,4 @@ pub mod Limits
 pub mod Totals
 pub mod WholeLines
 pub mod Answers
+pub mod SameLine
