@@ -29,7 +29,7 @@ use Rattle.comparing.specs.Entries.{read, after, linesOf, takes, Entry, 
 use Rattle.comparing.specs.Inner.{entry, Turned, Written}
 
 -- a book that has ended has no more
-shut : (a : Account) (rs : List (List ℕ)) → 2 ≤ a .stage → entriesFrom a rs ≡ []
+pub shut : (a : Account) (rs : List (List ℕ)) → 2 ≤ a .stage → entriesFrom a rs ≡ []
 unfolding entriesFrom
 shut a [] h = refl
 shut a (r ∷ rs) h = rw (le-ltb _ _ h) refl

@@ -4,3 +4,4 @@ pub mod WalkLaws
 pub mod PairLaws
 pub mod TellLaws
 pub mod TextLaws
+pub mod Truths

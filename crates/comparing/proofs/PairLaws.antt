@@ -163,11 +163,11 @@ anew-most true k n l = omega arith
 anew-most false k n l = omega arith
 
 -- at most m more than in u, of the same at the beginning and at the end
-record Most (u v : Counts) (m : ℕ) : Type 0 where
-  leading : v .leading ≤ u .leading + m
-  trailing : v .trailing ≤ u .trailing + m
+pub record Most (u v : Counts) (m : ℕ) : Type 0 where
+  pub leading : v .leading ≤ u .leading + m
+  pub trailing : v .trailing ≤ u .trailing + m
 
-runs-most : (u : Counts) (es ns : List Entry) (m : ℕ) → (length es ≤ m) ⊎ (length ns ≤ m) → Most u (runsFrom u es ns) m
+pub runs-most : (u : Counts) (es ns : List Entry) (m : ℕ) → (length es ≤ m) ⊎ (length ns ≤ m) → Most u (runsFrom u es ns) m
 unfolding runsFrom
 runs-most u [] ns m h = record { leading = omega arith; trailing = omega arith }
 runs-most u (e ∷ es) [] m h = record { leading = omega arith; trailing = omega arith }

@@ -7,6 +7,7 @@ use mathlib.Core.Bool.{true, false, _&&_}
 use borrow.Author.Tests.{eq-eqb, ne-eqb}
 use lib.Dec.{eqb}
 use Rattle.printing.specs.Ascii.{ascii}
+use Rattle.printing.specs.Decimal.{decimal}
 use Rattle.comparing.specs.declared.Plan.{Plan}
 use Rattle.comparing.specs.Remarks.{oldBetween, newBetween, changedText, twoText, lastText}
 
@@ -32,6 +33,8 @@ module _ (p : Plan) (o n : ℕ) (e : o ≡ oldBetween p) (f : n ≡ newBetween p
   last-nothing h = rw (← e, ← f, h) refl
 
   pub last-others : eqb o 0 && eqb n 0 && eqb (p .others) 0 ≡ false
-      → lastText p ≡ twoText (ascii "the other ") (p .front) (ascii " and ") (p .back - p .others) ++ ascii " records are the same and give the same lines\n"
+      → lastText p
+      ≡ twoText (ascii "the same lines: those of the first ") (p .front) (ascii " records and of ") (p .back - p .others)
+      ++ (ascii " of the last " ++ (decimal (p .back) ++ ascii "\n"))
   unfolding lastText
   last-others h = rw (← e, ← f, h) refl

@@ -93,7 +93,8 @@ nothingDiffers p = eqb (oldBetween p) 0 && eqb (newBetween p) 0 && eqb (p .other
 unfoldable pub lastText : Plan → List ℕ
 lastText p =
     pick (nothingDiffers p) (ascii "nothing differs\n")
-    (twoText (ascii "the other ") (p .front) (ascii " and ") (p .back - p .others) ++ ascii " records are the same and give the same lines\n")
+    (twoText (ascii "the same lines: those of the first ") (p .front) (ascii " records and of ") (p .back - p .others)
+    ++ (ascii " of the last " ++ (decimal (p .back) ++ ascii "\n")))
 
 -- ---- all of it
 

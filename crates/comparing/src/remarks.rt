@@ -234,8 +234,17 @@ pub fn say_last(out: &mut [u8], p: Plan) -> usize
         return say(out, 0, b"nothing differs\n");
     }
     let rest = less(p.back, p.others);
-    let end = say_two(out, 0, b"the other ", p.front, b" and ", rest);
-    say(out, end, b" records are the same and give the same lines\n")
+    let first = say_two(
+        out,
+        0,
+        b"the same lines: those of the first ",
+        p.front,
+        b" records and of ",
+        rest,
+    );
+    let last = say(out, first, b" of the last ");
+    let end = say_number(out, last, p.back as u64);
+    say(out, end, b"\n")
 }
 
 // Where the last records of the old book begin, which are the same in both, and of the new one.

@@ -65,6 +65,10 @@ no-heading : headingFrom [] ≡ noRecord .heading
 unfolding table valuesAt
 no-heading = refl
 
+-- before any record there is none
+pub heading-is : (before : List (List ℕ)) → lastHeading (noRecord .heading) before ≡ headingFrom (headingBefore before)
+heading-is before = ap (λ (g : Heading). lastHeading g before) (sym no-heading) ∙ last-is before []
+
 -- ---- one book
 
 -- its lines: those that the records before r give, r's, and others
@@ -101,11 +105,9 @@ pub gives-line : (xs : List ℕ) (before : List (List ℕ)) (r : List ℕ) → A
 unfolding run
 gives-line xs before r k d =
     let s = stands before (k .after) r d noRecord xs in-range-none (k .records) in
-    let h : lastHeading (noRecord .heading) before ≡ headingFrom (headingBefore before) =
-    ap (λ (g : Heading). lastHeading g before) (sym no-heading) ∙ last-is before [] in
     record {
       others = s .others;
-      lines = s .lines ∙ ap (λ (g : Heading). book noRecord (joined before) .lines ++ (lineOf g (kindOf r) (valuesOf r) ∷ s .others)) h;
+      lines = s .lines ∙ ap (λ (g : Heading). book noRecord (joined before) .lines ++ (lineOf g (kindOf r) (valuesOf r) ∷ s .others)) (heading-is before);
     }
 
 -- and no other.

@@ -1,4 +1,3 @@
-use mathlib.Core.Path.{refl}
 use borrow.Author.Needs.{needs}
 use Rattle.printing.proofs.Sayings.{_⟫_}
 use Rattle.comparing.proofs.TextLaws.{last-nothing, last-others}
@@ -21,7 +20,10 @@ say-last-spec =
     (λ c κs. search needs)
     (λ c. search needs)
     (λ c κs. search needs)
+    (λ c κs. search needs)
+    (λ c. search needs)
+    (λ c κs. search needs)
     (λ c. search needs)
     (λ c.
-    rw (last-others (c .before .before .before .before .before .before .before .before .before .before .before .before .before .before .before .before .before .args .p) _ _ (c .before .before .before .before .before .before .before .before .before .before .before .before .before .before .before .old-between .ensures) (c .before .before .before .before .before .before .before .before .before .before .before .before .before .before .new-between .ensures) (c .before .before .before .before .before .before .before .before .before .before .before .before .if1 .left))
-    ((rw (c .before .before .before .before .before .before .before .before .before .before .before .less .ensures) at (c .before .before .before .before .before .before .before .say-two .ensures)) ⟫ c .before .before .say2 .ensures)))
+    rw (last-others (c .before .before .before .before .before .before .before .before .before .before .before .before .before .before .before .before .before .before .before .before .before .before .before .before .before .before .args .p) _ _ (c .before .before .before .before .before .before .before .before .before .before .before .before .before .before .before .before .before .before .before .before .before .before .before .before .old-between .ensures) (c .before .before .before .before .before .before .before .before .before .before .before .before .before .before .before .before .before .before .before .before .before .before .before .new-between .ensures) (c .before .before .before .before .before .before .before .before .before .before .before .before .before .before .before .before .before .before .before .before .before .if1 .left))
+    ((rw (c .before .before .before .before .before .before .before .before .before .before .before .before .before .before .before .before .before .before .before .before .less .ensures) at (c .before .before .before .before .before .before .before .before .before .before .before .before .before .before .before .before .say-two .ensures)) ⟫ c .before .before .before .before .before .before .before .before .before .before .before .say2 .ensures ⟫ c .before .before .before .before .before .before .before .say-number .ensures ⟫ c .before .before .say3 .ensures)))
