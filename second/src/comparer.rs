@@ -82,6 +82,11 @@ fn entries(book: &[u8]) -> Vec<Entry> {
     entries
 }
 
+/// Whether two records are the same; two closes are, whatever they count.
+fn alike(a: &Entry, b: &Entry) -> bool {
+    a.record == b.record || (a.record[3] == kind::CLOSE && b.record[3] == kind::CLOSE)
+}
+
 fn tell(word: &str, number: usize, entry: &Entry) -> String {
     format!("{word} record {number}: {}\n{}", words::kind_name(u64::from(entry.record[3])), entry.text)
 }
@@ -89,8 +94,8 @@ fn tell(word: &str, number: usize, entry: &Entry) -> String {
 fn compare(old: &[u8], new: &[u8]) -> String {
     let (a, b) = (entries(old), entries(new));
     let shorter = a.len().min(b.len());
-    let front = (0..shorter).take_while(|&i| a[i].record == b[i].record).count();
-    let back = (0..shorter - front).take_while(|&i| a[a.len() - 1 - i].record == b[b.len() - 1 - i].record).count();
+    let front = (0..shorter).take_while(|&i| alike(&a[i], &b[i])).count();
+    let back = (0..shorter - front).take_while(|&i| alike(&a[a.len() - 1 - i], &b[b.len() - 1 - i])).count();
     let (x, y) = (a.len() - back, b.len() - back);
     let mut said = String::new();
     for (word, book) in [("old", old), ("new", new)] {
@@ -172,6 +177,9 @@ fn pair(seed: u64, index: u64) -> (Vec<u8>, Vec<u8>) {
             }
         }
         new = (if dice.one_in(4) { records } else { counted(records) }).concat();
+    }
+    if dice.one_in(3) {
+        return (new, old);
     }
     (old, new)
 }

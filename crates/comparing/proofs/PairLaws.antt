@@ -6,19 +6,20 @@ use mathlib.Core.List.{List, [], _∷_, _++_}
 use mathlib.Core.Bool.{Bool, true, false, _||_, _&&_, not}
 use mathlib.Core.Logic.{_⊎_, inl, inr, ⊎-elim}
 use native.Mathlib.Omega.{arith}
-use borrow.Author.Tests.{eqb-true, eqb-false}
-use lib.ListN.{length, take, drop, length-drop}
-use lib.Seq.{drop-drop}
+use borrow.Author.Tests.{eqb-true, eqb-false, eq-eqb, ne-eqb}
+use lib.ListN.{length, getD, take, drop, length-drop}
+use lib.Seq.{drop-drop, getD-take, take-take}
 use lib.Dec.{eqb}
 use Rattle.base.specs.Choice.{pick}
 use Rattle.base.proofs.Tests.{neither, or-cases}
 use Rattle.account.specs.declared.Account.{Account}
+use Rattle.account.specs.Judge.{kindOf}
 use Rattle.comparing.specs.declared.cursor.Cursor.{Cursor}
 use Rattle.comparing.specs.declared.cursor.Taken.{Taken}
 use Rattle.comparing.specs.declared.runs.Counts.{Counts}
 use Rattle.comparing.specs.declared.runs.Pair.{Pair}
 use Rattle.comparing.specs.Entries.{Entry, linesOf, entriesAfter, entriesOf}
-use Rattle.comparing.specs.Compare.{same, noRuns, oneMore, runsFrom, runsOf, planOf}
+use Rattle.comparing.specs.Compare.{same, shapeOf, noRuns, oneMore, runsFrom, runsOf, planOf}
 use Rattle.comparing.specs.Inner.{entry, Turned, Written, Reached, Looked, CountsIn}
 use Rattle.comparing.proofs.WalkLaws.{entries-behind}
 
@@ -47,7 +48,7 @@ module _ (a b : Account) (xs ys : List ℕ) (t u : Taken) (p : Turned a xs t) (q
     pub right-some : 0 < u .n
     right-some = let z : u .n ≡ 0 → ⊥ = eqb-false (u .n) 0 (neither (eqb (t .n) 0) (eqb (u .n) 0) h .1) in omega (arith, z)
 
-    pub looked-on : (records lines : Bool) → records ≡ same (take (t .n) xs) (take (u .n) ys)
+    pub looked-on : (records lines : Bool) → records ≡ same (shapeOf (take (t .n) xs)) (shapeOf (take (u .n) ys))
         → lines ≡ same (linesOf a (take (t .n) xs)) (linesOf b (take (u .n) ys))
         → Looked a b xs ys (record { old = t .n; new = u .n; a = t .next; b = u .next; records = records; lines = lines })
     looked-on records lines e f =
@@ -114,7 +115,7 @@ stops-right u [] ns e = refl
 stops-right u (x ∷ es) ns e = rw e refl
 
 goes-on : (u : Counts) (es ns es′ ns′ : List Entry) (e n : Entry) → es ≡ e ∷ es′ → ns ≡ n ∷ ns′
-    → runsFrom u es ns ≡ runsFrom (oneMore u (same (e .bytes) (n .bytes)) (same (e .lines) (n .lines))) es′ ns′
+    → runsFrom u es ns ≡ runsFrom (oneMore u (same (shapeOf (e .bytes)) (shapeOf (n .bytes))) (same (e .lines) (n .lines))) es′ ns′
 unfolding runsFrom
 goes-on u es ns es′ ns′ e n p q = rw (p, q) refl
 
@@ -172,7 +173,7 @@ unfolding runsFrom
 runs-most u [] ns m h = record { leading = omega arith; trailing = omega arith }
 runs-most u (e ∷ es) [] m h = record { leading = omega arith; trailing = omega arith }
 runs-most u (e ∷ es) (n ∷ ns) m h =
-    let b = same (e .bytes) (n .bytes) in
+    let b = same (shapeOf (e .bytes)) (shapeOf (n .bytes)) in
     let v = oneMore u b (same (e .lines) (n .lines)) in
     let i = runs-most v es ns (m - 1) (⊎-elim (λ (k : suc (length es) ≤ m). inl (omega arith)) (λ (k : suc (length ns) ≤ m). inr (omega arith)) h) in
     let p : 0 < m = ⊎-elim (λ (k : suc (length es) ≤ m). omega arith) (λ (k : suc (length ns) ≤ m). omega arith) h in
@@ -216,3 +217,15 @@ module _ (es ns : List Entry) (n m l : ℕ) (r : Counts) (p : n ≡ length es) (
         → record { old = n; new = m; front = r .leading; back = s .trailing; others = t .others } ≡ planOf es ns
     unfolding planOf
     plan-is t h = rw (h, g, f, k, p, q) refl
+
+-- ---- a record without the count of a close, as the code finds it
+
+module _ (r : List ℕ) (n : ℕ) (h : 4 ≤ n) where
+  kind-in : kindOf (take n r) ≡ getD r 3 0
+  kind-in = getD-take n r 3 0 (omega arith)
+
+  pub shape-close : getD r 3 0 ≡ 8 → take 4 r ≡ shapeOf (take n r)
+  shape-close e = rw (kind-in, eq-eqb _ _ e, take-take 4 n r h) refl
+
+  pub shape-other : (getD r 3 0 ≡ 8 → ⊥) → take n r ≡ shapeOf (take n r)
+  shape-other e = rw (kind-in, ne-eqb _ _ e) refl

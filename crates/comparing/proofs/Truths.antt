@@ -44,7 +44,7 @@ use Rattle.promises.proofs.SameLine.{heading-is, gives-line, same-line}
 use Rattle.reasons.proofs.FaultLaws.{refused-is}
 use Rattle.comparing.specs.declared.runs.Counts.{Counts}
 use Rattle.comparing.specs.Entries.{read, after, linesOf, takes, Entry, entriesFrom, entriesAfter, entriesOf}
-use Rattle.comparing.specs.Compare.{same, noRuns, oneMore, runsFrom, runsOf, frontOf}
+use Rattle.comparing.specs.Compare.{same, shapeOf, noRuns, oneMore, runsFrom, runsOf, frontOf}
 use Rattle.comparing.specs.Remarks.{otherText}
 use Rattle.comparing.proofs.EntryLaws.{shut, entries-none}
 use Rattle.comparing.proofs.SameLaws.{same-true, same-self}
@@ -55,13 +55,18 @@ unfoldable pub recordsIn : List Entry → List (List ℕ)
 recordsIn [] = []
 recordsIn (e ∷ es) = e .bytes ∷ recordsIn es
 
+-- the same, but for the count of a close
+unfoldable pub shapesIn : List Entry → List (List ℕ)
+shapesIn [] = []
+shapesIn (e ∷ es) = shapeOf (e .bytes) ∷ shapesIn es
+
 -- ---- the records at the beginning
 
 -- how many are the same, pair by pair
 unfoldable firstSame : List Entry → List Entry → ℕ
 firstSame [] ns = 0
 firstSame (e ∷ es) [] = 0
-firstSame (e ∷ es) (n ∷ ns) = pick (same (e .bytes) (n .bytes)) (suc (firstSame es ns)) 0
+firstSame (e ∷ es) (n ∷ ns) = pick (same (shapeOf (e .bytes)) (shapeOf (n .bytes))) (suc (firstSame es ns)) 0
 
 -- once a pair has differed the count stays
 stays : (u : Counts) (es ns : List Entry) → u .leading < u .pairs → runsFrom u es ns .leading ≡ u .leading
@@ -69,7 +74,7 @@ unfolding runsFrom
 stays u [] ns h = refl
 stays u (e ∷ es) [] h = refl
 stays u (e ∷ es) (n ∷ ns) h =
-    let b = same (e .bytes) (n .bytes) in
+    let b = same (shapeOf (e .bytes)) (shapeOf (n .bytes)) in
     let v = oneMore u b (same (e .lines) (n .lines)) in
     let l : v .leading ≡ u .leading = rw (ne-eqb (u .leading) (u .pairs) (λ z. omega arith)) (kept b) in
     stays v es ns (omega (arith, l)) ∙ l
@@ -82,12 +87,12 @@ grows : (u : Counts) (es ns : List Entry) → u .leading ≡ u .pairs → runsFr
 unfolding runsFrom firstSame
 grows u [] ns h = omega arith
 grows u (e ∷ es) [] h = omega arith
-grows u (e ∷ es) (n ∷ ns) h = go (λ v k. grows v es ns k) (same (e .bytes) (n .bytes)) refl
+grows u (e ∷ es) (n ∷ ns) h = go (λ v k. grows v es ns k) (same (shapeOf (e .bytes)) (shapeOf (n .bytes))) refl
   where
     go : ((v : Counts) → v .leading ≡ v .pairs → runsFrom v es ns .leading ≡ v .leading + firstSame es ns)
-        → (b : Bool) → same (e .bytes) (n .bytes) ≡ b
-        → runsFrom (oneMore u (same (e .bytes) (n .bytes)) (same (e .lines) (n .lines))) es ns .leading
-        ≡ u .leading + pick (same (e .bytes) (n .bytes)) (suc (firstSame es ns)) 0
+        → (b : Bool) → same (shapeOf (e .bytes)) (shapeOf (n .bytes)) ≡ b
+        → runsFrom (oneMore u (same (shapeOf (e .bytes)) (shapeOf (n .bytes))) (same (e .lines) (n .lines))) es ns .leading
+        ≡ u .leading + pick (same (shapeOf (e .bytes)) (shapeOf (n .bytes))) (suc (firstSame es ns)) 0
     go ih true q =
         let v = oneMore u true (same (e .lines) (n .lines)) in
         let l : v .leading ≡ u .leading + 1 = rw (eq-eqb _ _ h) refl in
@@ -96,19 +101,19 @@ grows u (e ∷ es) (n ∷ ns) h = go (λ v k. grows v es ns k) (same (e .bytes) 
         let v = oneMore u false (same (e .lines) (n .lines)) in
         rw q (let i = stays v es ns (omega arith) in omega (arith, i))
 
-first-same : (es ns : List Entry) → take (firstSame es ns) (recordsIn es) ≡ take (firstSame es ns) (recordsIn ns)
-unfolding firstSame recordsIn
+first-same : (es ns : List Entry) → take (firstSame es ns) (shapesIn es) ≡ take (firstSame es ns) (shapesIn ns)
+unfolding firstSame shapesIn
 first-same [] ns = refl
 first-same (e ∷ es) [] = refl
-first-same (e ∷ es) (n ∷ ns) = go (first-same es ns) (same (e .bytes) (n .bytes)) refl
+first-same (e ∷ es) (n ∷ ns) = go (first-same es ns) (same (shapeOf (e .bytes)) (shapeOf (n .bytes))) refl
   where
-    go : take (firstSame es ns) (recordsIn es) ≡ take (firstSame es ns) (recordsIn ns) → (b : Bool) → same (e .bytes) (n .bytes) ≡ b
-        → take (pick b (suc (firstSame es ns)) 0) (e .bytes ∷ recordsIn es) ≡ take (pick b (suc (firstSame es ns)) 0) (n .bytes ∷ recordsIn ns)
-    go ih true q = rw (same-true (e .bytes) (n .bytes) q, ih) refl
+    go : take (firstSame es ns) (shapesIn es) ≡ take (firstSame es ns) (shapesIn ns) → (b : Bool) → same (shapeOf (e .bytes)) (shapeOf (n .bytes)) ≡ b
+        → take (pick b (suc (firstSame es ns)) 0) (shapeOf (e .bytes) ∷ shapesIn es) ≡ take (pick b (suc (firstSame es ns)) 0) (shapeOf (n .bytes) ∷ shapesIn ns)
+    go ih true q = rw (same-true (shapeOf (e .bytes)) (shapeOf (n .bytes)) q, ih) refl
     go ih false q = refl
 
--- The records called the same at the beginning are the same.
-pub front-same : (es ns : List Entry) → take (frontOf es ns) (recordsIn es) ≡ take (frontOf es ns) (recordsIn ns)
+-- The records called the same at the beginning are the same, but for the count of a close.
+pub front-same : (es ns : List Entry) → take (frontOf es ns) (shapesIn es) ≡ take (frontOf es ns) (shapesIn ns)
 front-same es ns =
     let f : frontOf es ns ≡ firstSame es ns = let g = grows noRuns es ns refl in omega (arith, g) in
     rw f (first-same es ns)
@@ -117,23 +122,23 @@ front-same es ns =
 
 -- of lists equally long, the last t are the same; all of them where t is above their length
 record LastSame (es ns : List Entry) (t : ℕ) : Type 0 where
-  inside : t ≤ length es → drop (length es - t) (recordsIn es) ≡ drop (length es - t) (recordsIn ns)
-  above : length es < t → recordsIn es ≡ recordsIn ns
+  inside : t ≤ length es → drop (length es - t) (shapesIn es) ≡ drop (length es - t) (shapesIn ns)
+  above : length es < t → shapesIn es ≡ shapesIn ns
 
 last-same : (u : Counts) (es ns : List Entry) → length es ≡ length ns → LastSame es ns (runsFrom u es ns .trailing)
-unfolding runsFrom recordsIn
+unfolding runsFrom shapesIn
 last-same u [] [] l = record { inside = λ h. refl; above = λ h. refl }
 last-same u [] (n ∷ ns) l = absurd (omega arith)
 last-same u (e ∷ es) [] l = absurd (omega arith)
-last-same u (e ∷ es) (n ∷ ns) l = go (λ v. last-same v es ns (omega (arith, l))) (same (e .bytes) (n .bytes)) refl
+last-same u (e ∷ es) (n ∷ ns) l = go (λ v. last-same v es ns (omega (arith, l))) (same (shapeOf (e .bytes)) (shapeOf (n .bytes))) refl
   where
-    go : ((v : Counts) → LastSame es ns (runsFrom v es ns .trailing)) → (b : Bool) → same (e .bytes) (n .bytes) ≡ b
-        → LastSame (e ∷ es) (n ∷ ns) (runsFrom (oneMore u (same (e .bytes) (n .bytes)) (same (e .lines) (n .lines))) es ns .trailing)
+    go : ((v : Counts) → LastSame es ns (runsFrom v es ns .trailing)) → (b : Bool) → same (shapeOf (e .bytes)) (shapeOf (n .bytes)) ≡ b
+        → LastSame (e ∷ es) (n ∷ ns) (runsFrom (oneMore u (same (shapeOf (e .bytes)) (shapeOf (n .bytes))) (same (e .lines) (n .lines))) es ns .trailing)
     go ih true q =
-        let v = oneMore u (same (e .bytes) (n .bytes)) (same (e .lines) (n .lines)) in
+        let v = oneMore u (same (shapeOf (e .bytes)) (shapeOf (n .bytes))) (same (e .lines) (n .lines)) in
         let t = runsFrom v es ns .trailing in
         let i = ih v in
-        let s = same-true (e .bytes) (n .bytes) q in
+        let s = same-true (shapeOf (e .bytes)) (shapeOf (n .bytes)) q in
         record {
           inside = λ h.
               ⊎-elim
@@ -143,7 +148,7 @@ last-same u (e ∷ es) (n ∷ ns) l = go (λ v. last-same v es ns (omega (arith,
           above = λ h. rw (s, i .above (omega (arith, h))) refl;
         }
     go ih false q =
-        let v = oneMore u (same (e .bytes) (n .bytes)) (same (e .lines) (n .lines)) in
+        let v = oneMore u (same (shapeOf (e .bytes)) (shapeOf (n .bytes))) (same (e .lines) (n .lines)) in
         let t = runsFrom v es ns .trailing in
         let i = ih v in
         let z : v .trailing ≡ 0 = rw q refl in
@@ -153,9 +158,9 @@ last-same u (e ∷ es) (n ∷ ns) l = go (λ v. last-same v es ns (omega (arith,
           above = λ h. absurd (omega (arith, h, m));
         }
 
--- The records called the same at the end are the same: of two runs of entries that are equally long.
+-- The records called the same at the end are the same, but for the count of a close: of two runs of entries that are equally long.
 pub back-same : (es ns : List Entry) → length es ≡ length ns
-    → drop (length es - runsOf es ns .trailing) (recordsIn es) ≡ drop (length es - runsOf es ns .trailing) (recordsIn ns)
+    → drop (length es - runsOf es ns .trailing) (shapesIn es) ≡ drop (length es - runsOf es ns .trailing) (shapesIn ns)
 back-same es ns l = last-same noRuns es ns l .inside (let g = runs-most noRuns es ns (length es) (inl (omega arith)) .trailing in omega (arith, g))
 
 -- ---- entries and rule 2

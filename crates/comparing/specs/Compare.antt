@@ -4,9 +4,10 @@
 use Prim.Native.Nat.{ℕ, _+_, _-_, min}
 use mathlib.Core.List.{List, [], _∷_}
 use mathlib.Core.Bool.{Bool, true, false, _&&_, not}
-use lib.ListN.{length, drop}
+use lib.ListN.{length, take, drop}
 use lib.Dec.{eqb}
 use Rattle.base.specs.Choice.{pick}
+use Rattle.account.specs.Judge.{kindOf}
 use Rattle.comparing.specs.declared.Plan.{Plan}
 use Rattle.comparing.specs.declared.runs.Counts.{Counts}
 use Rattle.comparing.specs.Entries.{Entry, entriesOf}
@@ -17,6 +18,10 @@ same [] [] = true
 same [] (y ∷ ys) = false
 same (x ∷ xs) [] = false
 same (x ∷ xs) (y ∷ ys) = eqb x y && same xs ys
+
+-- a record, and of a close all but its count: other records change that
+abbrev pub shapeOf : List ℕ → List ℕ
+shapeOf r = pick (eqb (kindOf r) 8) (take 4 r) r
 
 -- ---- pairs of records, one of either book
 
@@ -38,7 +43,7 @@ oneMore u records lines =
 unfoldable pub runsFrom : Counts → List Entry → List Entry → Counts
 runsFrom u [] ns = u
 runsFrom u (e ∷ es) [] = u
-runsFrom u (e ∷ es) (n ∷ ns) = runsFrom (oneMore u (same (e .bytes) (n .bytes)) (same (e .lines) (n .lines))) es ns
+runsFrom u (e ∷ es) (n ∷ ns) = runsFrom (oneMore u (same (shapeOf (e .bytes)) (shapeOf (n .bytes))) (same (e .lines) (n .lines))) es ns
 
 abbrev pub runsOf : List Entry → List Entry → Counts
 runsOf es ns = runsFrom noRuns es ns

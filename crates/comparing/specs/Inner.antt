@@ -11,7 +11,7 @@ use Rattle.comparing.specs.declared.cursor.Taken.{Taken}
 use Rattle.comparing.specs.declared.runs.Counts.{Counts}
 use Rattle.comparing.specs.declared.runs.Pair.{Pair}
 use Rattle.comparing.specs.Entries.{Entry, linesOf, entriesAfter, entriesOf}
-use Rattle.comparing.specs.Compare.{same}
+use Rattle.comparing.specs.Compare.{same, shapeOf}
 
 -- the entry of the record r after the account a
 abbrev pub entry : Account → List ℕ → Entry
@@ -44,7 +44,7 @@ pub record Looked (a b : Account) (xs ys : List ℕ) (l : Pair) : Type 0 where
   pub ended : l .old ≡ 0 → (entriesAfter a xs ≡ []) ⊎ (entriesAfter b ys ≡ [])
   pub goes : 0 < l .old → entriesAfter a xs ≡ entry a (take (l .old) xs) ∷ entriesAfter (l .a) (drop (l .old) xs)
   pub goes′ : 0 < l .old → entriesAfter b ys ≡ entry b (take (l .new) ys) ∷ entriesAfter (l .b) (drop (l .new) ys)
-  pub records : 0 < l .old → l .records ≡ same (take (l .old) xs) (take (l .new) ys)
+  pub records : 0 < l .old → l .records ≡ same (shapeOf (take (l .old) xs)) (shapeOf (take (l .new) ys))
   pub lines : 0 < l .old → l .lines ≡ same (linesOf a (take (l .old) xs)) (linesOf b (take (l .new) ys))
 
 -- no count is above most

@@ -5,11 +5,11 @@ use account::Account;
 use base::first_of;
 use base::rest_of;
 ghost use mathlib.Core.Path.{_≡_};
-ghost use Prim.Native.Nat.{_+_, _<_};
-ghost use lib.ListN.{drop};
+ghost use Prim.Native.Nat.{_+_, _≤_, _<_};
+ghost use lib.ListN.{length, take, drop};
 ghost use Rattle.base.specs.Choice.{pick};
 ghost use Rattle.comparing.specs.Entries.{entriesOf};
-ghost use Rattle.comparing.specs.Compare.{same, oneMore, runsOf};
+ghost use Rattle.comparing.specs.Compare.{same, shapeOf, oneMore, runsOf};
 ghost use Rattle.comparing.specs.Inner.{Looked, CountsIn};
 
 // How many pairs there are, how many of the first and of the last ones are the same, and how many give other lines.
@@ -47,6 +47,25 @@ pub(crate) fn same(xs: &[u8], ys: &[u8]) -> bool
     true
 }
 
+// The first n bytes of r, a record, and of a close all but its count.
+fn shape(r: &[u8], n: usize) -> &[u8]
+    requires { ⌜ (4 ≤ n) × (n ≤ length (now r)) ⌝ }
+    ensures { λ s. ⌜ now s ≡ shapeOf (take n (now (r .entry))) ⌝ }
+{
+    if r[3] == 8 {
+        return first_of(r, 4);
+    }
+    first_of(r, n)
+}
+
+// Whether the first n bytes of xs and the first m of ys are the same record, but for the count of a close.
+fn alike(xs: &[u8], n: usize, ys: &[u8], m: usize) -> bool
+    requires { ⌜ (4 ≤ n) × (n ≤ length (now xs)) × (4 ≤ m) × (m ≤ length (now ys)) ⌝ }
+    ensures { λ r. ⌜ r ≡ same (shapeOf (take n (now (xs .entry)))) (shapeOf (take m (now (ys .entry)))) ⌝ }
+{
+    same(shape(xs, n), shape(ys, m))
+}
+
 // The next pair of records of xs and ys; no bytes of the first where either has no more.
 pub(crate) fn look(a: Account, xs: &[u8], b: Account, ys: &[u8]) -> Pair
     ensures { λ l. ⌜ Looked a b (now (xs .entry)) (now (ys .entry)) l ⌝ }
@@ -65,7 +84,7 @@ pub(crate) fn look(a: Account, xs: &[u8], b: Account, ys: &[u8]) -> Pair
             lines: false,
         };
     }
-    let records = same(first_of(xs, t.n), first_of(ys, u.n));
+    let records = alike(xs, t.n, ys, u.n);
     let lines = same(first_of(&left, t.written), first_of(&right, u.written));
     let next = t.next;
     let other = u.next;
