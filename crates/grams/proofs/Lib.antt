@@ -7,3 +7,4 @@ pub mod Small
 pub mod Cases
 pub mod Carbon
 pub mod OneAnswer
+pub mod PigNitrogen

@@ -47,6 +47,14 @@ indirectOf n volatilised volatilisedef leached leachedef =
 abbrev pub landOf : ℕ → ℕ → ℕ → ℕ
 landOf n volatilised leached = roundDiv (n * (1000 - volatilised - leached)) 1000
 
+-- volatilised nitrogen, which no line bears: round(N × volatilised / 1000)
+abbrev pub volatilisedOf : ℕ → ℕ → ℕ
+volatilisedOf n volatilised = roundDiv (n * volatilised) 1000
+
+-- leached nitrogen, which no line bears: round(N × leached / 1000)
+abbrev pub leachedOf : ℕ → ℕ → ℕ
+leachedOf n leached = roundDiv (n * leached) 1000
+
 -- the record's V
 abbrev pub recordSolids : PigRation → ℕ
 recordSolids p = solidsOf (p .feed) (p .vs) (p .vsfactor)
@@ -76,3 +84,12 @@ pub record Manure (p : PigRation) (head : ℕ) (r : PigManure) : Type 0 where
   pub n2o-small : r .n2o .0 ≤ 10 ^ 10
   pub excreted-small : r .excreted ≤ 10 ^ 11
   pub land-small : r .land ≤ 10 ^ 11
+
+-- of the figures m of a pig record: volatilised, leached and land nitrogen, each rounded for itself from the excreted grams
+abbrev pub nitrogenParts : PigRation → PigManure → ℕ
+nitrogenParts p m = volatilisedOf (m .excreted) (p .volatilised) + leachedOf (m .excreted) (p .leached) + m .land
+
+-- they add up to within 1 g of the excreted grams
+pub record AddUp (p : PigRation) (m : PigManure) : Type 0 where
+  pub low : m .excreted ≤ nitrogenParts p m + 1
+  pub high : nitrogenParts p m ≤ m .excreted + 1

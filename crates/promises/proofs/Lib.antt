@@ -14,3 +14,4 @@ pub mod Halves
 pub mod Totals
 pub mod SoFar
 pub mod WholeLines
+pub mod SameLine

@@ -14,7 +14,7 @@ use Rattle.account.specs.declared.Heading.{Heading}
 use Rattle.account.specs.Sorts.{Sort, opens, heads, ofGroup, ofFarm, closes, sortOf, bySort}
 use Rattle.account.specs.Line.{lineOf}
 use Rattle.account.specs.Range.{AccountInRange}
-use Rattle.account.specs.Judge.{kindOf, valuesOf, first, refusals, Step, accepted, judge}
+use Rattle.account.specs.Judge.{WholeRecord, kindOf, valuesOf, first, refusals, Step, accepted, judge}
 use Rattle.account.proofs.Sorts.{by-sort}
 use Rattle.account.proofs.Keeps.{in-range-judge}
 use Rattle.book.specs.declared.State.{State}
@@ -23,6 +23,7 @@ use Rattle.book.specs.WholeRecords.{recordsOf}
 use Rattle.book.specs.State.{heldOf, InRange}
 use Rattle.book.specs.Run.{book, run}
 use Rattle.book.proofs.WholeRecordLaws.{records-whole}
+use Rattle.book.proofs.RecordLaws.{record-whole}
 use Rattle.book.proofs.RunLaws.{book-ended, book-unfinished, book-bad, book-whole}
 use Rattle.promises.specs.Headings.{lastGroup, marksOf, acceptedRecords}
 use Rattle.promises.specs.Subtotals.{headingAfter}
@@ -32,11 +33,11 @@ use Rattle.promises.proofs.Headings.{Grown, Stopped, judged, marked, ma
 -- ---- what one record does
 
 -- it leaves the heading that the records make, and a detail gives its line alone
-record Shaped (a : Account) (r : List ℕ) (j : Step) : Type 0 where
-  heading : j .account .heading ≡ headingAfter (a .heading) r
-  detail : isDetail r ≡ true → j .lines ≡ lineOf (a .heading) (kindOf r) (valuesOf r) ∷ []
+pub record Shaped (a : Account) (r : List ℕ) (j : Step) : Type 0 where
+  pub heading : j .account .heading ≡ headingAfter (a .heading) r
+  pub detail : isDetail r ≡ true → j .lines ≡ lineOf (a .heading) (kindOf r) (valuesOf r) ∷ []
 
-shaped : (a : Account) (r : List ℕ) → judge a r .account .records ≡ a .records + 1 → Shaped a r (judge a r)
+pub shaped : (a : Account) (r : List ℕ) → judge a r .account .records ≡ a .records + 1 → Shaped a r (judge a r)
 unfolding judge accepted
 shaped a r =
     of-choice (λ (j : Step). j .account .records ≡ a .records + 1 → Shaped a r j) (eqb (first (refusals a r)) 0)
@@ -52,16 +53,17 @@ shaped a r =
 -- ---- the first of the records accepted
 
 -- the records that a book of xs after the account a accepts
-abbrev bookRecords : Account → List ℕ → List (List ℕ)
+abbrev pub bookRecords : Account → List ℕ → List (List ℕ)
 bookRecords a xs = take (book a xs .state .account .records - a .records) (recordsOf xs)
 
 -- r is the first of them, and those behind it are rs
-record Next (a : Account) (xs r : List ℕ) (rs : List (List ℕ)) : Type 0 where
-  early : a .stage < 2
-  grown : Grown a r (judge a r)
-  behind : List ℕ
-  rest : bookRecords (judge a r .account) behind ≡ rs
-  lines : book a xs .lines ≡ judge a r .lines ++ book (judge a r .account) behind .lines
+pub record Next (a : Account) (xs r : List ℕ) (rs : List (List ℕ)) : Type 0 where
+  pub early : a .stage < 2
+  pub complete : WholeRecord r
+  pub grown : Grown a r (judge a r)
+  pub behind : List ℕ
+  pub rest : bookRecords (judge a r .account) behind ≡ rs
+  pub lines : book a xs .lines ≡ judge a r .lines ++ book (judge a r .account) behind .lines
 
 none-first : (n m : ℕ) (ls : List (List ℕ)) (r : List ℕ) (rs : List (List ℕ)) → n ≡ m → take (n - m) ls ≡ r ∷ rs → ⊥
 none-first n m ls r rs e q =
@@ -89,10 +91,10 @@ next-at a xs r rs v k q whole e =
     let d : x ∷ bookRecords (j .account) behind ≡ r ∷ rs = rw (book-whole a xs k e, n, records-whole xs e) at q in
     let h : x ≡ r = ap (λ (l : List (List ℕ)). getD l 0 []) d in
     let t : bookRecords (j .account) behind ≡ rs = ap (λ (l : List (List ℕ)). drop 1 l) d in
-    rw (← h) (record { early = k; grown = g; behind = behind; rest = t; lines = rw (book-whole a xs k e) refl }))
+    rw (← h) (record { early = k; complete = record-whole xs (need xs) e refl; grown = g; behind = behind; rest = t; lines = rw (book-whole a xs k e) refl }))
     (judged a x v)
 
-next : (a : Account) (xs r : List ℕ) (rs : List (List ℕ)) → AccountInRange a → bookRecords a xs ≡ r ∷ rs → Next a xs r rs
+pub next : (a : Account) (xs r : List ℕ) (rs : List (List ℕ)) → AccountInRange a → bookRecords a xs ≡ r ∷ rs → Next a xs r rs
 next a xs r rs v q =
     ⊎-elim (λ (k : a .stage < 2). next-at a xs r rs v k q (front xs) refl)
     (λ (k : 2 ≤ a .stage). absurd (none-first (a .records) (a .records) (recordsOf xs) r rs refl (rw (book-ended a xs k) at q)))

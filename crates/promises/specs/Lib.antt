@@ -7,3 +7,4 @@ pub mod Halves
 pub mod Totals
 pub mod WholeLines
 pub mod Answers
+pub mod SameLine

@@ -1,0 +1,4 @@
+pub mod Entries
+pub mod Compare
+pub mod Remarks
+pub mod Inner
