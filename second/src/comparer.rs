@@ -10,6 +10,8 @@ mod desk;
 mod dice;
 mod feed;
 mod figures;
+mod grazing;
+mod grazings;
 mod halves;
 mod judge;
 mod kind;

@@ -4,8 +4,8 @@ use crate::cases::whole;
 use crate::dice::{Dice, Seed};
 use crate::kind;
 use crate::plain::under;
-use crate::record::record_of;
-use crate::state::State;
+use crate::record::{fields_of, record_of};
+use crate::state::{State, LINE, SURE};
 use crate::trial::Case;
 use std::ops::RangeInclusive;
 
@@ -13,7 +13,7 @@ use std::ops::RangeInclusive;
 pub type Half = (u8, u16, u8, &'static [u64]);
 
 /// In pairs, the half above an even number first; soil has none, since its division is by three.
-pub const RECORDS: [Half; 28] = [
+pub const RECORDS: [Half; 30] = [
     // Enteric CH4 0.5, 1.5.
     (1, 1, kind::ENTERIC, &[1, 27_825, 1]),
     (1, 1, kind::ENTERIC, &[1, 83_475, 1]),
@@ -56,16 +56,27 @@ pub const RECORDS: [Half; 28] = [
     // Tillage of 225 mg set free: 82.5, 247.5.
     (1, 1, kind::TILLAGE, &[7, 3, 4, 1, 1]),
     (1, 1, kind::TILLAGE, &[7, 3, 4, 1, 3]),
+    // Grazing 28.5, 9.5.
+    (1, 1, kind::GRAZING, &[3, 1, 150, 1]),
+    (1, 1, kind::GRAZING, &[3, 1, 50, 1]),
 ];
 
-/// A state where the record comes, and the record with other days, or another area or amount, where some are given.
+/// Which of a record's values is multiplied: its days, or where it has none its area, amount or fraction.
+fn place_of_times(kind: u8, values: &[u64]) -> usize {
+    if kind::WITH_DAYS.contains(&kind) {
+        0
+    } else {
+        values.len() - 1
+    }
+}
+
+/// A state where the record comes, and the record with that value so many times as large.
 fn with_times(half: Half, times: u64) -> (State, Vec<u8>) {
     let (class, head, kind, values) = half;
     let mut state = under(class);
     state.heading.head = head;
     let mut values = values.to_vec();
-    let place = if kind::OF_GROUP.contains(&kind) { 0 } else { values.len() - 1 };
-    values[place] *= times;
+    values[place_of_times(kind, half.3)] *= times;
     (state, record_of(kind, &values))
 }
 
@@ -73,7 +84,7 @@ fn with_times(half: Half, times: u64) -> (State, Vec<u8>) {
 pub fn stored() -> Vec<Case> {
     let case = |half: &Half| {
         let (state, record) = with_times(*half, 1);
-        whole(state, [record, record_of(kind::CLOSE, &[3])].concat(), 146)
+        whole(state, [record, record_of(kind::CLOSE, &[3])].concat(), LINE + SURE)
     };
     RECORDS.iter().map(case).collect()
 }
@@ -85,9 +96,11 @@ pub fn now_and_then(seed: Seed, index: u64) -> Option<Case> {
     PLACES.contains(&(index % 200)).then(|| {
         let mut dice = Dice::of_case(seed, index);
         let half = dice.of(&RECORDS);
-        let most = if kind::OF_GROUP.contains(&half.2) { 366 / half.3[0] } else { 3_000_000 };
+        let (_, _, kind, values) = half;
+        let place = place_of_times(kind, values);
+        let most = u64::from(fields_of(kind)[place].high) / values[place];
         let times = 2 * dice.below((most + 1) / 2) + 1;
         let (state, record) = with_times(half, times);
-        whole(state, [record, record_of(kind::CLOSE, &[3])].concat(), 146)
+        whole(state, [record, record_of(kind::CLOSE, &[3])].concat(), LINE + SURE)
     })
 }

@@ -8,6 +8,8 @@ mod desk;
 mod dice;
 mod feed;
 mod figures;
+mod grazing;
+mod grazings;
 mod halves;
 mod judge;
 mod kind;

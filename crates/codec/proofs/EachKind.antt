@@ -22,25 +22,25 @@ past : (n k : ℕ) → n ≤ k → (k ≡ n → ⊥) → suc n ≤ k
 past n k l h = omega arith
 
 -- the kind that is none of the others is the last
-pub last-kind : (k : ℕ) → 1 ≤ k → k ≤ lastKind → (k ≡ 1 → ⊥) → (k ≡ 2 → ⊥) → (k ≡ 3 → ⊥) → (k ≡ 4 → ⊥) → (k ≡ 5 → ⊥) → (k ≡ 6 → ⊥) → (k ≡ 7 → ⊥) → (k ≡ 8 → ⊥)
+pub last-kind : (k : ℕ) → 1 ≤ k → k ≤ lastKind → (k ≡ 1 → ⊥) → (k ≡ 2 → ⊥) → (k ≡ 3 → ⊥) → (k ≡ 4 → ⊥) → (k ≡ 5 → ⊥) → (k ≡ 6 → ⊥) → (k ≡ 7 → ⊥) → (k ≡ 8 → ⊥) → (k ≡ 9 → ⊥)
     → k ≡ lastKind
-last-kind k l m h1 h2 h3 h4 h5 h6 h7 h8 =
-    let n = past 8 k (past 7 k (past 6 k (past 5 k (past 4 k (past 3 k (past 2 k (past 1 k l h1) h2) h3) h4) h5) h6) h7) h8 in
+last-kind k l m h1 h2 h3 h4 h5 h6 h7 h8 h9 =
+    let n = past 9 k (past 8 k (past 7 k (past 6 k (past 5 k (past 4 k (past 3 k (past 2 k (past 1 k l h1) h2) h3) h4) h5) h6) h7) h8) h9 in
     omega arith
 
 -- a number that is none of them is no kind
-pub no-kind : (k : ℕ) → (k ≡ 1 → ⊥) → (k ≡ 2 → ⊥) → (k ≡ 3 → ⊥) → (k ≡ 4 → ⊥) → (k ≡ 5 → ⊥) → (k ≡ 6 → ⊥) → (k ≡ 7 → ⊥) → (k ≡ 8 → ⊥) → (k ≡ 9 → ⊥)
+pub no-kind : (k : ℕ) → (k ≡ 1 → ⊥) → (k ≡ 2 → ⊥) → (k ≡ 3 → ⊥) → (k ≡ 4 → ⊥) → (k ≡ 5 → ⊥) → (k ≡ 6 → ⊥) → (k ≡ 7 → ⊥) → (k ≡ 8 → ⊥) → (k ≡ 9 → ⊥) → (k ≡ 10 → ⊥)
     → isKind k ≡ false
-no-kind k h1 h2 h3 h4 h5 h6 h7 h8 h9 =
-    ⊎-elim (λ (e : isKind k ≡ true). absurd (h9 (last-kind k (kind-least k e) (kind-most k e) h1 h2 h3 h4 h5 h6 h7 h8)))
+no-kind k h1 h2 h3 h4 h5 h6 h7 h8 h9 h10 =
+    ⊎-elim (λ (e : isKind k ≡ true). absurd (h10 (last-kind k (kind-least k e) (kind-most k e) h1 h2 h3 h4 h5 h6 h7 h8 h9)))
     (λ (e : isKind k ≡ false). e) (true-or-false (isKind k))
 
 at-or-not : (P : ℕ → Type 0) (n k : ℕ) → P n → ((k ≡ n → ⊥) → P k) → P k
 at-or-not P n k p q = ⊎-elim (λ (e : eqb k n ≡ true). rw (eqb-true k n e) p) (λ (e : eqb k n ≡ false). q (eqb-false k n e)) (true-or-false (eqb k n))
 
 -- what holds of each kind holds of any
-pub each-kind : (P : ℕ → Type 0) → P 1 → P 2 → P 3 → P 4 → P 5 → P 6 → P 7 → P 8 → P 9 → (k : ℕ) → isKind k ≡ true → P k
-each-kind P p1 p2 p3 p4 p5 p6 p7 p8 p9 k e =
+pub each-kind : (P : ℕ → Type 0) → P 1 → P 2 → P 3 → P 4 → P 5 → P 6 → P 7 → P 8 → P 9 → P 10 → (k : ℕ) → isKind k ≡ true → P k
+each-kind P p1 p2 p3 p4 p5 p6 p7 p8 p9 p10 k e =
     at-or-not P 1 k p1
     (λ h1. at-or-not P 2 k p2
     (λ h2. at-or-not P 3 k p3
@@ -49,7 +49,8 @@ each-kind P p1 p2 p3 p4 p5 p6 p7 p8 p9 k e =
     (λ h5. at-or-not P 6 k p6
     (λ h6. at-or-not P 7 k p7
     (λ h7. at-or-not P 8 k p8
-    (λ h8. rw (last-kind k (kind-least k e) (kind-most k e) h1 h2 h3 h4 h5 h6 h7 h8) p9))))))))
+    (λ h8. at-or-not P 9 k p9
+    (λ h9. rw (last-kind k (kind-least k e) (kind-most k e) h1 h2 h3 h4 h5 h6 h7 h8 h9) p10)))))))))
 
 -- past the last kind there are no fields
 pub no-fields : (k : ℕ) → lastKind < k → fields k ≡ []
@@ -57,11 +58,11 @@ unfolding table
 no-fields k h = List·getD-eq-default table [] h
 
 -- nor has any other number that is none of them
-pub other-kind : (k : ℕ) → (k ≡ 1 → ⊥) → (k ≡ 2 → ⊥) → (k ≡ 3 → ⊥) → (k ≡ 4 → ⊥) → (k ≡ 5 → ⊥) → (k ≡ 6 → ⊥) → (k ≡ 7 → ⊥) → (k ≡ 8 → ⊥) → (k ≡ 9 → ⊥)
+pub other-kind : (k : ℕ) → (k ≡ 1 → ⊥) → (k ≡ 2 → ⊥) → (k ≡ 3 → ⊥) → (k ≡ 4 → ⊥) → (k ≡ 5 → ⊥) → (k ≡ 6 → ⊥) → (k ≡ 7 → ⊥) → (k ≡ 8 → ⊥) → (k ≡ 9 → ⊥) → (k ≡ 10 → ⊥)
     → 0 ≡ length (fields k)
 unfolding table
-other-kind k h1 h2 h3 h4 h5 h6 h7 h8 h9 =
+other-kind k h1 h2 h3 h4 h5 h6 h7 h8 h9 h10 =
     at-or-not (λ (n : ℕ). 0 ≡ length (fields n)) 0 k refl
     (λ (h0 : k ≡ 0 → ⊥).
-    let most = past 9 k (past 8 k (past 7 k (past 6 k (past 5 k (past 4 k (past 3 k (past 2 k (past 1 k (past 0 k zero-le h0) h1) h2) h3) h4) h5) h6) h7) h8) h9 in
+    let most = past 10 k (past 9 k (past 8 k (past 7 k (past 6 k (past 5 k (past 4 k (past 3 k (past 2 k (past 1 k (past 0 k zero-le h0) h1) h2) h3) h4) h5) h6) h7) h8) h9) h10 in
     rw (no-fields k most) refl)

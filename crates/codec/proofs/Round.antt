@@ -120,23 +120,23 @@ record-whole kind vs h =
     }
 
 -- a line: how many bytes it has; its values, in the ranges of its row, written and read again
-module _ (kind group ch4 n2o co2 excreted land : ℕ) where
-  pub line-length : length (lineBytes kind group ch4 n2o co2 excreted land) ≡ lineSize
+module _ (kind group ch4 n2o co2 excreted land grazing : ℕ) where
+  pub line-length : length (lineBytes kind group ch4 n2o co2 excreted land grazing) ≡ lineSize
   unfolding lineBytes
-  line-length = bytes-length lineFields (lineValues kind group ch4 n2o co2 excreted land) 0 ∙ sizes .0
+  line-length = bytes-length lineFields (lineValues kind group ch4 n2o co2 excreted land grazing) 0 ∙ sizes .0
 
-  pub line-back : firstBad lineFields (lineValues kind group ch4 n2o co2 excreted land) 0 ≡ 0
-      → valuesAt lineFields (lineBytes kind group ch4 n2o co2 excreted land) 0 ≡ lineValues kind group ch4 n2o co2 excreted land
+  pub line-back : firstBad lineFields (lineValues kind group ch4 n2o co2 excreted land grazing) 0 ≡ 0
+      → valuesAt lineFields (lineBytes kind group ch4 n2o co2 excreted land grazing) 0 ≡ lineValues kind group ch4 n2o co2 excreted land grazing
   unfolding lineBytes
-  line-back p = back lineFields (lineValues kind group ch4 n2o co2 excreted land) (fit-line (lineValues kind group ch4 n2o co2 excreted land) p) (counts .0)
+  line-back p = back lineFields (lineValues kind group ch4 n2o co2 excreted land grazing) (fit-line (lineValues kind group ch4 n2o co2 excreted land grazing) p) (counts .0)
 
 -- and the close's
-module _ (ch4 n2o co2 excreted land co2e : ℕ) where
-  pub total-length : length (totalBytes ch4 n2o co2 excreted land co2e) ≡ totalSize
+module _ (ch4 n2o co2 excreted land grazing co2e : ℕ) where
+  pub total-length : length (totalBytes ch4 n2o co2 excreted land grazing co2e) ≡ totalSize
   unfolding totalBytes
-  total-length = bytes-length totalFields (totalValues ch4 n2o co2 excreted land co2e) 0 ∙ sizes .1
+  total-length = bytes-length totalFields (totalValues ch4 n2o co2 excreted land grazing co2e) 0 ∙ sizes .1
 
-  pub total-back : firstBad totalFields (totalValues ch4 n2o co2 excreted land co2e) 0 ≡ 0
-      → valuesAt totalFields (totalBytes ch4 n2o co2 excreted land co2e) 0 ≡ totalValues ch4 n2o co2 excreted land co2e
+  pub total-back : firstBad totalFields (totalValues ch4 n2o co2 excreted land grazing co2e) 0 ≡ 0
+      → valuesAt totalFields (totalBytes ch4 n2o co2 excreted land grazing co2e) 0 ≡ totalValues ch4 n2o co2 excreted land grazing co2e
   unfolding totalBytes
-  total-back p = back totalFields (totalValues ch4 n2o co2 excreted land co2e) (fit-total (totalValues ch4 n2o co2 excreted land co2e) p) (counts .1)
+  total-back p = back totalFields (totalValues ch4 n2o co2 excreted land grazing co2e) (fit-total (totalValues ch4 n2o co2 excreted land grazing co2e) p) (counts .1)

@@ -26,12 +26,12 @@ pub tested :
 unfolding firstBad table
 tested = refl
 
--- 3 12 434501 0 0 0 0
-pub line : lineBytes 3 12 434501 0 0 0 0 ≡ (0 ∷ 44 ∷ 1 ∷ 3 ∷ 0 ∷ 12 ∷ 0 ∷ 0 ∷ 0 ∷ 0 ∷ 0 ∷ 6 ∷ 161 ∷ 69 ∷ []) ++ replicate 32 0
+-- 3 12 434501 0 0 0 0 0
+pub line : lineBytes 3 12 434501 0 0 0 0 0 ≡ (0 ∷ 52 ∷ 1 ∷ 3 ∷ 0 ∷ 12 ∷ 0 ∷ 0 ∷ 0 ∷ 0 ∷ 0 ∷ 6 ∷ 161 ∷ 69 ∷ []) ++ replicate 40 0
 unfolding lineBytes bytesOf lineFields be
 line = refl
 
 -- a subtotal's values are in the ranges of its row
-pub subtotal : firstBad lineFields (lineValues subtotalKind 12 434501 0 0 0 0) 0 ≡ 0
+pub subtotal : firstBad lineFields (lineValues subtotalKind 12 434501 0 0 0 0 0) 0 ≡ 0
 unfolding firstBad lineFields
 subtotal = refl

@@ -53,19 +53,19 @@ Fit (f ∷ fs) vs i = (getD vs i 0 < bytesHold (f .0)) × Fit fs vs (suc i)
 unfoldable pub recordBytes : ℕ → List ℕ → List ℕ
 recordBytes kind vs = be 2 (lengthOf kind) ++ (be 1 1 ++ (be 1 kind ++ bytesOf (fields kind) vs 0))
 
--- a line of a detail or a subtotal: length 44, version 1, kind, group, then the five figures
-abbrev pub lineValues : ℕ → ℕ → ℕ → ℕ → ℕ → ℕ → ℕ → List ℕ
-lineValues kind group ch4 n2o co2 excreted land = 44 ∷ 1 ∷ kind ∷ group ∷ ch4 ∷ n2o ∷ co2 ∷ excreted ∷ land ∷ []
+-- a line of a detail or a subtotal: length 52, version 1, kind, group, then the six figures
+abbrev pub lineValues : ℕ → ℕ → ℕ → ℕ → ℕ → ℕ → ℕ → ℕ → List ℕ
+lineValues kind group ch4 n2o co2 excreted land grazing = 52 ∷ 1 ∷ kind ∷ group ∷ ch4 ∷ n2o ∷ co2 ∷ excreted ∷ land ∷ grazing ∷ []
 
-unfoldable pub lineBytes : ℕ → ℕ → ℕ → ℕ → ℕ → ℕ → ℕ → List ℕ
-lineBytes kind group ch4 n2o co2 excreted land = bytesOf lineFields (lineValues kind group ch4 n2o co2 excreted land) 0
+unfoldable pub lineBytes : ℕ → ℕ → ℕ → ℕ → ℕ → ℕ → ℕ → ℕ → List ℕ
+lineBytes kind group ch4 n2o co2 excreted land grazing = bytesOf lineFields (lineValues kind group ch4 n2o co2 excreted land grazing) 0
 
--- the close's line: length 52, version 1, kind 8, group 0, the five sums, CO2e
-abbrev pub totalValues : ℕ → ℕ → ℕ → ℕ → ℕ → ℕ → List ℕ
-totalValues ch4 n2o co2 excreted land co2e = 52 ∷ 1 ∷ 8 ∷ 0 ∷ ch4 ∷ n2o ∷ co2 ∷ excreted ∷ land ∷ co2e ∷ []
+-- the close's line: length 60, version 1, kind 8, group 0, the six sums, CO2e
+abbrev pub totalValues : ℕ → ℕ → ℕ → ℕ → ℕ → ℕ → ℕ → List ℕ
+totalValues ch4 n2o co2 excreted land grazing co2e = 60 ∷ 1 ∷ 8 ∷ 0 ∷ ch4 ∷ n2o ∷ co2 ∷ excreted ∷ land ∷ grazing ∷ co2e ∷ []
 
-unfoldable pub totalBytes : ℕ → ℕ → ℕ → ℕ → ℕ → ℕ → List ℕ
-totalBytes ch4 n2o co2 excreted land co2e = bytesOf totalFields (totalValues ch4 n2o co2 excreted land co2e) 0
+unfoldable pub totalBytes : ℕ → ℕ → ℕ → ℕ → ℕ → ℕ → ℕ → List ℕ
+totalBytes ch4 n2o co2 excreted land grazing co2e = bytesOf totalFields (totalValues ch4 n2o co2 excreted land grazing co2e) 0
 
 -- the bytes of the line at the front of xs
 abbrev pub frontSize : List ℕ → ℕ

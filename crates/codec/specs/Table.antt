@@ -38,6 +38,8 @@ table =
     ∷ (field 2 0 65535 ∷ [])
     -- 9 tillage (change request W7): zone, texture, change, years since it, area
     ∷ (field 1 1 9 ∷ field 1 1 3 ∷ field 1 1 6 ∷ field 2 1 100 ∷ field 4 0 10000000 ∷ [])
+    -- 10 grazing (change request W10): region, column, live weight, fraction of the yearly intake
+    ∷ (field 1 1 7 ∷ field 1 1 3 ∷ field 2 0 2000 ∷ field 2 0 10000 ∷ [])
     ∷ []
 
 -- the fields of a kind, in order
@@ -46,7 +48,7 @@ fields kind = getD table kind []
 
 -- the highest kind
 abbrev pub lastKind : ℕ
-lastKind = 9
+lastKind = 10
 
 -- a kind that a record may have
 abbrev pub isKind : ℕ → Bool
@@ -82,12 +84,12 @@ figure = field 8 0 18446744073709551615
 abbrev pub subtotalKind : ℕ
 subtotalKind = 16
 
--- a line but the close's: length, version, kind, group, then CH4, N2O, CO2, excreted N, land N
+-- a line but the close's: length, version, kind, group, then CH4, N2O, CO2, excreted N, land N, CO2e of grazing
 unfoldable pub lineFields : List Field
 lineFields =
-    field 2 44 44
+    field 2 52 52
     ∷ field 1 1 1
-    -- a detail's kind, 3 to 7 or 9, or the subtotal's
+    -- a detail's kind, 3 to 7, 9 or 10, or the subtotal's
     ∷ field 1 3 subtotalKind
     ∷ field 2 0 65535
     ∷ figure
@@ -95,15 +97,17 @@ lineFields =
     ∷ figure
     ∷ figure
     ∷ figure
+    ∷ figure
     ∷ []
 
--- the close's line: length, version, kind 8, group 0, the five sums, CO2e
+-- the close's line: length, version, kind 8, group 0, the six sums, CO2e
 unfoldable pub totalFields : List Field
 totalFields =
-    field 2 52 52
+    field 2 60 60
     ∷ field 1 1 1
     ∷ field 1 8 8
     ∷ field 2 0 0
+    ∷ figure
     ∷ figure
     ∷ figure
     ∷ figure
@@ -114,10 +118,10 @@ totalFields =
 
 -- the bytes of a line, those of the close's line, and the most that one record gives: a subtotal and the close's line
 abbrev pub lineSize : ℕ
-lineSize = 46
+lineSize = 54
 
 abbrev pub totalSize : ℕ
-totalSize = 54
+totalSize = 62
 
 abbrev pub linesMost : ℕ
 linesMost = lineSize + totalSize

@@ -8,6 +8,7 @@ pub mod close;
 pub mod energy;
 pub mod enteric;
 pub mod farm;
+pub mod grazing;
 pub mod heading;
 pub mod pig;
 pub mod soil;
@@ -16,7 +17,7 @@ pub mod kinds; // kinds.rt: how many values and bytes each kind has
 pub mod lines; // lines.rt: a line from its figures, and its numbers from its bytes
 
 // The highest kind.
-pub const LAST_KIND: u64 = 9;
+pub const LAST_KIND: u64 = 10;
 
 // The highest length of a record, and the bytes of the longest.
 pub const LENGTH_MOST: u64 = 26;
@@ -24,11 +25,11 @@ pub const LENGTH_MOST: u64 = 26;
 pub const RECORD_MOST: usize = 28;
 
 // The bytes of a line, of the close's line, and the most that one record gives: a subtotal and the close's line.
-pub const LINE_SIZE: usize = 46;
+pub const LINE_SIZE: usize = 54;
 
-pub const TOTAL_SIZE: usize = 54;
+pub const TOTAL_SIZE: usize = 62;
 
-pub const LINES_MOST: usize = 100;
+pub const LINES_MOST: usize = 116;
 
 // A field: how many bytes it has, its lowest and its highest value.
 pub struct Field(pub usize, pub u64, pub u64);

@@ -14,16 +14,26 @@ ghost use lib.Seq.{sets};
 ghost use Rattle.codec.specs.Table.{lineFields, lineSize, totalFields, totalSize};
 ghost use Rattle.codec.specs.Codec.{be, frontSize, lineBytes, totalBytes, valuesAt};
 
-// The five figures of the line that begins at `at`.
-fn put_figures(out: &mut [u8], at: usize, ch4: u64, n2o: u64, co2: u64, excreted: u64, land: u64)
+// The six figures of the line that begins at `at`.
+fn put_figures(
+    out: &mut [u8],
+    at: usize,
+    ch4: u64,
+    n2o: u64,
+    co2: u64,
+    excreted: u64,
+    land: u64,
+    grazing: u64,
+)
     requires { ⌜ at + lineSize ≤ length (now out) ⌝ }
-    ensures { λ _. ⌜ now (out .exit) ≡ sets (sets (sets (sets (sets (now (out .entry)) (at + 6) (be 8 ch4)) (at + 14) (be 8 n2o)) (at + 22) (be 8 co2)) (at + 30) (be 8 excreted)) (at + 38) (be 8 land) ⌝ }
+    ensures { λ _. ⌜ now (out .exit) ≡ sets (sets (sets (sets (sets (sets (now (out .entry)) (at + 6) (be 8 ch4)) (at + 14) (be 8 n2o)) (at + 22) (be 8 co2)) (at + 30) (be 8 excreted)) (at + 38) (be 8 land)) (at + 46) (be 8 grazing) ⌝ }
 {
     put8(out, at + 6, ch4);
     put8(out, at + 14, n2o);
     put8(out, at + 22, co2);
     put8(out, at + 30, excreted);
     put8(out, at + 38, land);
+    put8(out, at + 46, grazing);
 }
 
 // The line of a detail or of a subtotal.
@@ -37,13 +47,14 @@ pub fn put_line(
     co2: u64,
     excreted: u64,
     land: u64,
+    grazing: u64,
 )
     requires { ⌜ at + lineSize ≤ length (now out) ⌝ }
-    ensures { λ _. ⌜ now (out .exit) ≡ sets (now (out .entry)) at (lineBytes kind group ch4 n2o co2 excreted land) ⌝ }
+    ensures { λ _. ⌜ now (out .exit) ≡ sets (now (out .entry)) at (lineBytes kind group ch4 n2o co2 excreted land grazing) ⌝ }
 {
-    put_start(out, at, 44, kind as u64);
+    put_start(out, at, 52, kind as u64);
     put2(out, at + 4, group as u64);
-    put_figures(out, at, ch4, n2o, co2, excreted, land);
+    put_figures(out, at, ch4, n2o, co2, excreted, land, grazing);
 }
 
 // The line of the close.
@@ -55,19 +66,20 @@ pub fn put_total(
     co2: u64,
     excreted: u64,
     land: u64,
+    grazing: u64,
     co2e: u64,
 )
     requires { ⌜ at + totalSize ≤ length (now out) ⌝ }
-    ensures { λ _. ⌜ now (out .exit) ≡ sets (now (out .entry)) at (totalBytes ch4 n2o co2 excreted land co2e) ⌝ }
+    ensures { λ _. ⌜ now (out .exit) ≡ sets (now (out .entry)) at (totalBytes ch4 n2o co2 excreted land grazing co2e) ⌝ }
 {
-    put_start(out, at, 52, 8);
+    put_start(out, at, 60, 8);
     put2(out, at + 4, 0);
-    put_figures(out, at, ch4, n2o, co2, excreted, land);
-    put8(out, at + 46, co2e);
+    put_figures(out, at, ch4, n2o, co2, excreted, land, grazing);
+    put8(out, at + 54, co2e);
 }
 
-// Kind, group and the five figures.
-pub fn detail_numbers(line: &[u8]) -> [u64; 7]
+// Kind, group and the six figures.
+pub fn detail_numbers(line: &[u8]) -> [u64; 8]
     requires { ⌜ lineSize ≤ length (now line) ⌝ }
     ensures { λ r. ⌜ r ≡ drop 2 (valuesAt lineFields (now (line .entry)) 0) ⌝ }
 {
@@ -79,11 +91,12 @@ pub fn detail_numbers(line: &[u8]) -> [u64; 7]
         be64(line, 22),
         be64(line, 30),
         be64(line, 38),
+        be64(line, 46),
     ]
 }
 
-// Kind, group, the five sums and CO2e.
-pub fn total_numbers(line: &[u8]) -> [u64; 8]
+// Kind, group, the six sums and CO2e.
+pub fn total_numbers(line: &[u8]) -> [u64; 9]
     requires { ⌜ totalSize ≤ length (now line) ⌝ }
     ensures { λ r. ⌜ r ≡ drop 2 (valuesAt totalFields (now (line .entry)) 0) ⌝ }
 {
@@ -96,6 +109,7 @@ pub fn total_numbers(line: &[u8]) -> [u64; 8]
         be64(line, 30),
         be64(line, 38),
         be64(line, 46),
+        be64(line, 54),
     ]
 }
 

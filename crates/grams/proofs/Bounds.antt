@@ -7,9 +7,10 @@ use mir.Val.{Fits}
 use mir.Syntax.{w64}
 use lib.Dec.{T, leb, ltb, lit<, lit≤}
 use Rattle.grams.specs.Round.{roundDiv, round-le}
-use Rattle.grams.specs.Figure.{Figure, Gas, Carbon}
+use Rattle.grams.specs.Figure.{Figure, Gas, Carbon, Pasture}
 use Rattle.grams.specs.Units.{Co2Within}
 use Rattle.grams.specs.declared.units.Co2.{Co2}
+use Rattle.grams.specs.declared.units.Grazed.{Grazed}
 use Rattle.grams.specs.declared.units.N2o.{N2o}
 
 infixl 70 _⊗_
@@ -50,3 +51,7 @@ gas p e = record { exact = e; small = rw e p }
 -- the same of CO2
 pub carbon : {value r : Co2} → Co2Within 1 value → r ≡ value → Carbon value r
 carbon p e = record { exact = e; small = rw e p }
+
+-- the same of CO2e of grazing
+pub pasture : {value r : Grazed} {most : ℕ} → value .0 ≤ most → r ≡ value → Pasture value most r
+pasture p e = record { exact = e; small = rw e p }

@@ -11,6 +11,7 @@ use denote.Triple.Clauses.{AtExit}
 use Rattle.grams.specs.declared.cattle.CattleNitrogen.{CattleNitrogen}
 use Rattle.grams.specs.declared.pig.PigManure.{PigManure}
 use Rattle.grams.specs.declared.units.Co2.{Co2}
+use Rattle.grams.specs.declared.units.Grazed.{Grazed}
 use Rattle.grams.specs.declared.units.N2o.{N2o}
 use Rattle.grams.specs.declared.units.N2oN.{N2oN}
 use Rattle.grams.proofs.cattle.enteric.Kinds as methane
@@ -23,6 +24,8 @@ use Rattle.grams.proofs.farm.energy.Kinds as fuel
 use Rattle.grams.proofs.farm.energy.Reads as fuel-contract
 use Rattle.grams.proofs.farm.soil.Kinds as ground
 use Rattle.grams.proofs.farm.soil.Reads as ground-contract
+use Rattle.grams.proofs.grazing.grazing.Kinds as grass
+use Rattle.grams.proofs.grazing.grazing.Reads as grass-contract
 use Rattle.grams.proofs.pig.manure.Kinds as pig
 use Rattle.grams.proofs.pig.manure.Reads as pig-contract
 use Rattle.grams.proofs.rounding.round_div.Kinds as division
@@ -41,6 +44,14 @@ use Rattle.grams.proofs.units.Co2.within.Kinds as air-bound
 use Rattle.grams.proofs.units.Co2.within.Reads as air-bound-contract
 use Rattle.grams.proofs.units.Co2.word.Kinds as laid-air
 use Rattle.grams.proofs.units.Co2.word.Reads as laid-air-contract
+use Rattle.grams.proofs.units.Grazed.grams.Kinds as grazed-weight
+use Rattle.grams.proofs.units.Grazed.grams.Reads as grazed-weight-contract
+use Rattle.grams.proofs.units.Grazed.of.Kinds as grazed
+use Rattle.grams.proofs.units.Grazed.of.Reads as grazed-contract
+use Rattle.grams.proofs.units.Grazed.plus.Kinds as grazed-sum
+use Rattle.grams.proofs.units.Grazed.plus.Reads as grazed-sum-contract
+use Rattle.grams.proofs.units.Grazed.same.Kinds as moved-grazed
+use Rattle.grams.proofs.units.Grazed.same.Reads as moved-grazed-contract
 use Rattle.grams.proofs.units.N2o.grams.Kinds as weight
 use Rattle.grams.proofs.units.N2o.grams.Reads as weight-contract
 use Rattle.grams.proofs.units.N2o.of.Kinds as laughing
@@ -65,6 +76,15 @@ co2-same-asks-nothing κs args = tt
 
 pub co2-word-asks-nothing : (κs : Lfts 0) (args : Dens κs laid-air.ps) → laid-air-contract.Asked κs args
 co2-word-asks-nothing κs args = tt
+
+pub grazed-of-asks-nothing : (κs : Lfts 0) (args : Dens κs grazed.ps) → grazed-contract.Asked κs args
+grazed-of-asks-nothing κs args = tt
+
+pub grazed-same-asks-nothing : (κs : Lfts 0) (args : Dens κs moved-grazed.ps) → moved-grazed-contract.Asked κs args
+grazed-same-asks-nothing κs args = tt
+
+pub grazed-grams-asks-nothing : (κs : Lfts 0) (args : Dens κs grazed-weight.ps) → grazed-weight-contract.Asked κs args
+grazed-grams-asks-nothing κs args = tt
 
 pub n2o-of-asks-nothing : (κs : Lfts 0) (args : Dens κs laughing.ps) → laughing-contract.Asked κs args
 n2o-of-asks-nothing κs args = tt
@@ -177,3 +197,28 @@ one-tillage κs args f g e e′ p q = p .exact ∙ sym (q .exact)
 pub one-co2e : (κs : Lfts 0) (args : Dens κs warmed.ps) (f g : Co2) (e e′ : AtExit (endedOf 0 warmed.ps warmed.r) κs)
     → warmed-contract.Learnt κs args f e → warmed-contract.Learnt κs args g e′ → f ≡ g
 one-co2e κs args f g e e′ p q = p ∙ sym q
+
+-- Grams as CO2e of grazing.
+pub one-grazed-of : (κs : Lfts 0) (args : Dens κs grazed.ps) (f g : Grazed) (e e′ : AtExit (endedOf 0 grazed.ps grazed.r) κs)
+    → grazed-contract.Learnt κs args f e → grazed-contract.Learnt κs args g e′ → f ≡ g
+one-grazed-of κs args f g e e′ p q = p ∙ sym q
+
+-- CO2e of grazing moved.
+pub one-grazed-same : (κs : Lfts 0) (args : Dens κs moved-grazed.ps) (f g : Grazed) (e e′ : AtExit (endedOf 0 moved-grazed.ps moved-grazed.r) κs)
+    → moved-grazed-contract.Learnt κs args f e → moved-grazed-contract.Learnt κs args g e′ → f ≡ g
+one-grazed-same κs args f g e e′ p q = p ∙ sym q
+
+-- The grams of it.
+pub one-grazed-grams : (κs : Lfts 0) (args : Dens κs grazed-weight.ps) (f g : ℕ) (e e′ : AtExit (endedOf 0 grazed-weight.ps grazed-weight.r) κs)
+    → grazed-weight-contract.Learnt κs args f e → grazed-weight-contract.Learnt κs args g e′ → f ≡ g
+one-grazed-grams κs args f g e e′ p q = p ∙ sym q
+
+-- CO2e of grazing added.
+pub one-grazed-plus : (κs : Lfts 0) (args : Dens κs grazed-sum.ps) (f g : Grazed) (e e′ : AtExit (endedOf 0 grazed-sum.ps grazed-sum.r) κs)
+    → grazed-sum-contract.Learnt κs args f e → grazed-sum-contract.Learnt κs args g e′ → f ≡ g
+one-grazed-plus κs args f g e e′ p q = p ∙ sym q
+
+-- Grazing.
+pub one-grazing : (κs : Lfts 0) (args : Dens κs grass.ps) (f g : Grazed) (e e′ : AtExit (endedOf 0 grass.ps grass.r) κs)
+    → grass-contract.Learnt κs args f e → grass-contract.Learnt κs args g e′ → f ≡ g
+one-grazing κs args f g e e′ p q = p .exact ∙ sym (q .exact)

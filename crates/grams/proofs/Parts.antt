@@ -1,9 +1,12 @@
 -- The bound of each separately rounded figure, over the plain ranges of what goes into it. Assumes nothing.
 use Prim.Native.Nat.{ℕ, zero, suc, _-_, _*_, _/_, _^_, _≤_}
-use native.Mathlib.Nat.{sub-le}
+use native.Mathlib.Nat.{sub-le, not-suc-le-zero}
+use lib.Dec.{T, leb, leb→le}
 use Rattle.grams.specs.Cattle as cattle
 use Rattle.grams.specs.Pig as pig
 use Rattle.grams.specs.CarbonRate.{scale, steps, expOf, rateOf}
+use Rattle.grams.specs.Grazing.{pastureTable, pastureFactor}
+use Rattle.grams.proofs.Places.{both, every, at}
 use Rattle.grams.proofs.Bounds.{_⊗_, _⊕_, num, less, rounds}
 
 module _ {x head days : ℕ} (p : x ≤ 3200000000) (h : head ≤ 20000) (d : days ≤ 366) where
@@ -53,3 +56,14 @@ exp-most x = step-most x 20 scale (num _)
 pub rate-most : {lum : ℕ} → lum ≤ 1570 → (k y : ℕ) → rateOf lum k y ≤ 1570000
 unfolding rateOf
 rate-most p k y = rounds _ _ (p ⊗ less (expOf (k * y)) (exp-most (k * (y - 1)))) tt tt
+
+-- ---- grazing
+
+factors-test : T (every 7 (λ r. every 3 (λ c. leb (pastureFactor (suc r) (suc c)) 190)))
+unfolding every both pastureTable pastureFactor
+factors-test = tt
+
+pub factor-most : (region column : ℕ) → (1 ≤ region) × (region ≤ 7) → (1 ≤ column) × (column ≤ 3) → pastureFactor region column ≤ 190
+factor-most zero column r c = absurd (not-suc-le-zero (r .0))
+factor-most (suc r) zero i c = absurd (not-suc-le-zero (c .0))
+factor-most (suc r) (suc c) i j = leb→le _ 190 (at 3 _ (at 7 _ factors-test r (i .1)) c (j .1))

@@ -9,11 +9,13 @@ use Rattle.grams.specs.Cattle.{EntericIn, CattleIn, entericOf, keptOf}
 use Rattle.grams.specs.Pig as pig
 use Rattle.grams.specs.Pig.{PigIn, recordNitrogen}
 use Rattle.grams.specs.Units.{gramsCo2, co2Grams, plusCo2, Co2Within}
+use Rattle.grams.specs.Grazing.{GrazingIn, grazingOf}
 use Rattle.grams.specs.Farm.{EnergyIn, SoilIn, SumsIn, energyOf, soilOf, factorsOf, co2eOf}
 use Rattle.grams.specs.TillageTable.{Pair, PlaceIn, pairOf}
 use Rattle.grams.specs.CarbonRate.{mgOf}
 use Rattle.grams.specs.Tillage.{TillageIn, co2Of, tillageOf}
 use Rattle.grams.specs.declared.units.Co2.{Co2}
+use Rattle.grams.specs.declared.units.Grazed.{Grazed}
 use Rattle.grams.specs.declared.units.N2o.{N2o}
 use Rattle.grams.specs.declared.farm.Warming.{Warming}
 use Rattle.grams.specs.declared.farm.Warming.the-variants.{First, Second}
@@ -24,6 +26,7 @@ use Rattle.grams.proofs.TillagePairs.{lum-most}
 use Rattle.grams.proofs.Signs.{mg-amount, co2-amount}
 use Rattle.grams.proofs.Carbon.{within-grams, plus-grams}
 use Rattle.grams.proofs.Parts.{cattle-excreted-most, cattle-direct-most, cattle-indirect-most, pig-solids-most, pig-ch4-most, pig-nitrogen-most, pig-direct-most, pig-indirect-most, pig-land-most}
+use Rattle.grams.proofs.Parts.{factor-most}
 use Rattle.grams.proofs.Parts.{rate-most}
 
 pub enteric-small : {ge ym head days : ℕ} → EntericIn ge ym head days → entericOf ge ym head days ≤ 10 ^ 11
@@ -88,8 +91,12 @@ others-added c n p h =
     plus-grams c (gramsCo2 (pos n)) 4096 4096 (omega arith) p (within-grams (pos n) 4096 h) ∙ ap (λ (z : ℤ). co2Grams c +ℤ z) e
 
 -- CO2e of a total, which may be below zero, does not go round its 8 bytes
-module _ {co2 : Co2} {ch4 : ℕ} {n2o : N2o} (i : SumsIn co2 ch4 n2o) where
-  pub co2e-grams : (w : Warming) → co2Grams (co2eOf w co2 ch4 n2o) ≡ co2Grams co2 +ℤ pos (factorsOf w .ch4 * ch4 + factorsOf w .n2o * n2o .0)
+module _ {co2 : Co2} {ch4 : ℕ} {n2o : N2o} {grazing : Grazed} (i : SumsIn co2 ch4 n2o grazing) where
+  pub co2e-grams : (w : Warming) → co2Grams (co2eOf w co2 ch4 n2o grazing) ≡ co2Grams co2 +ℤ pos (factorsOf w .ch4 * ch4 + factorsOf w .n2o * n2o .0 + grazing .0)
   unfolding co2eOf
-  co2e-grams First = others-added co2 (21 * ch4 + 310 * n2o .0) (i .co2-in) (omega arith)
-  co2e-grams Second = others-added co2 (23 * ch4 + 296 * n2o .0) (i .co2-in) (omega arith)
+  co2e-grams First = others-added co2 (21 * ch4 + 310 * n2o .0 + grazing .0) (i .co2-in) (omega arith)
+  co2e-grams Second = others-added co2 (23 * ch4 + 296 * n2o .0 + grazing .0) (i .co2-in) (omega arith)
+
+pub grazing-small : {region column weight fraction head : ℕ} → GrazingIn region column weight fraction head → grazingOf region column weight fraction head .0 ≤ 10 ^ 11
+unfolding grazingOf
+grazing-small i = rounds _ _ (factor-most _ _ (i .region-in) (i .column-in) ⊗ i .weight-in ⊗ i .fraction-in ⊗ i .head-in) tt tt

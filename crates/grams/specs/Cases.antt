@@ -1,5 +1,5 @@
--- Document 01, "Figures to meet": P1 to P9 (P2 as document 02, W8, changes it), and worked values of a change of tillage (W7); for each the figures
--- that the rules give and those that are printed.
+-- Document 01, "Figures to meet": P1 to P9 (P2 as document 02, W8, changes it), and worked values of a change of tillage (W7) and of grazing (W10);
+-- for each the figures that the rules give and those that are printed.
 -- Assumes nothing.
 use mathlib.Core.Bool.{Bool, true, false}
 use mathlib.Core.List.{List, [], _∷_}
@@ -12,6 +12,7 @@ use Rattle.grams.specs.Cattle.{entericOf, nitrogenOf}
 use Rattle.grams.specs.Pig.{manureOf}
 use Rattle.grams.specs.Units.{co2Word}
 use Rattle.grams.specs.Farm.{soilOf}
+use Rattle.grams.specs.Grazing.{grazingOf}
 use Rattle.grams.specs.Tillage.{recordMg, tillageOf}
 use Rattle.grams.specs.declared.cattle.CattleNitrogen.{CattleNitrogen}
 use Rattle.grams.specs.declared.cattle.CattleNitrogen.the-variants.{BelowZero, Given}
@@ -109,6 +110,24 @@ tillageCases =
     -- 19343.5 above zero; and no area, which is no CO2 on either side
     ∷ row (co2Word (tillageOf 4 1 5 1 3) ∷ []) (above 19344 ∷ [])
     ∷ row (co2Word (tillageOf 1 1 1 1 0) ∷ co2Word (tillageOf 9 3 6 100 0) ∷ []) (0 ∷ 0 ∷ [])
+    ∷ []
+
+-- CO2e of grazing, a tonne of live weight on pasture all year: cows, heifers, calves
+abbrev pub pastureRow : ℕ → List ℕ
+pastureRow region = grazingOf region 1 1000 10000 1 .0 ∷ grazingOf region 2 1000 10000 1 .0 ∷ grazingOf region 3 1000 10000 1 .0 ∷ []
+
+-- document 02's worked value, table 2.4.6 in grams, the most and the least
+abbrev pub grazingCases : List Row
+grazingCases =
+    row (grazingOf 3 1 600 5000 1 .0 ∷ []) (570000 ∷ [])
+    ∷ row (pastureRow 1) (1900000 ∷ 1340000 ∷ 1160000 ∷ [])
+    ∷ row (pastureRow 2) (1900000 ∷ 1340000 ∷ 1160000 ∷ [])
+    ∷ row (pastureRow 3) (1900000 ∷ 1340000 ∷ 1160000 ∷ [])
+    ∷ row (pastureRow 4) (1870000 ∷ 1320000 ∷ 1150000 ∷ [])
+    ∷ row (pastureRow 5) (1830000 ∷ 1290000 ∷ 1120000 ∷ [])
+    ∷ row (pastureRow 6) (1800000 ∷ 1270000 ∷ 1100000 ∷ [])
+    ∷ row (pastureRow 7) (1810000 ∷ 1280000 ∷ 1110000 ∷ [])
+    ∷ row (grazingOf 1 1 2000 10000 20000 .0 ∷ grazingOf 6 3 2000 10000 0 .0 ∷ []) (76000000000 ∷ 0 ∷ [])
     ∷ []
 
 -- both tests hold

@@ -7,6 +7,7 @@ use Rattle.grams.specs.Round.{roundDiv}
 use Rattle.grams.specs.Units.{gramsCo2, plusCo2, Co2Within}
 use Rattle.grams.specs.Figure.{Carbon}
 use Rattle.grams.specs.declared.units.Co2.{Co2}
+use Rattle.grams.specs.declared.units.Grazed.{Grazed}
 use Rattle.grams.specs.declared.units.N2o.{N2o}
 use Rattle.grams.specs.declared.farm.Warming.{Warming}
 use Rattle.grams.specs.declared.farm.Warming.the-variants.{First, Second}
@@ -51,11 +52,12 @@ abbrev pub warmingOf : ℕ → Warming
 warmingOf set = pick (eqb set 1) First Second
 
 -- the most that the sums of 4,096 records reach
-pub record SumsIn (co2 : Co2) (ch4 : ℕ) (n2o : N2o) : Type 0 where
+pub record SumsIn (co2 : Co2) (ch4 : ℕ) (n2o : N2o) (grazing : Grazed) : Type 0 where
   pub co2-in : Co2Within 4096 co2
   pub ch4-in : ch4 ≤ 4096 * 10 ^ 11
   pub n2o-in : n2o .0 ≤ 4096 * 10 ^ 10
+  pub grazing-in : grazing .0 ≤ 4096 * 10 ^ 11
 
--- CO2e = CO2 + a × CH4 + b × N2O, below zero where more is taken up
-unfoldable pub co2eOf : Warming → Co2 → ℕ → N2o → Co2
-co2eOf w co2 ch4 n2o = plusCo2 co2 (gramsCo2 (pos (factorsOf w .ch4 * ch4 + factorsOf w .n2o * n2o .0)))
+-- CO2e = CO2 + a × CH4 + b × N2O + grazing, which is CO2e from the start (W10); below zero where more is taken up
+unfoldable pub co2eOf : Warming → Co2 → ℕ → N2o → Grazed → Co2
+co2eOf w co2 ch4 n2o grazing = plusCo2 co2 (gramsCo2 (pos (factorsOf w .ch4 * ch4 + factorsOf w .n2o * n2o .0 + grazing .0)))

@@ -7,4 +7,5 @@ pub mod Farm
 pub mod TillageTable
 pub mod CarbonRate
 pub mod Tillage
+pub mod Grazing
 pub mod Cases

@@ -5,6 +5,7 @@ use lib.Dec.{leb}
 use lib.IntN.{ℤ, pos, natAbs, _+ℤ_}
 use Rattle.base.specs.Signed.{wordOf, signedOf}
 use Rattle.grams.specs.declared.units.Co2.{Co2}
+use Rattle.grams.specs.declared.units.Grazed.{Grazed}
 use Rattle.grams.specs.declared.units.N2o.{N2o}
 use Rattle.grams.specs.declared.units.N2oN.{N2oN}
 use Rattle.grams.specs.Round.{roundDiv}
@@ -50,3 +51,9 @@ partsN2oN parts = record { 0 = parts }
 -- 44/28, which is 11/7, rounded to whole grams
 abbrev pub asN2o : N2oN → N2o
 asN2o n = gramsN2o (roundDiv (n .0 * 11) 700000000)
+
+-- ---- CO2e of grazing, which is no gas
+
+-- so many grams of it
+abbrev pub gramsGrazed : ℕ → Grazed
+gramsGrazed grams = record { 0 = grams }

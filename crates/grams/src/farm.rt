@@ -1,6 +1,7 @@
 // What belongs to the farm: energy, organic soil, and the total's CO2e.
 use crate::rounding::round_div;
 use crate::units::Co2;
+use crate::units::Grazed;
 use crate::units::N2o;
 ghost use mathlib.Core.Path.{_≡_};
 ghost use Rattle.grams.specs.Farm.{EnergyIn, Energy, SoilIn, Soil, SumsIn, co2eOf};
@@ -26,12 +27,13 @@ pub enum Warming {
 }
 
 // CO2e of a total: the CO2 that would warm as much.
-pub fn co2e(w: Warming, co2: Co2, ch4: u64, n2o: N2o) -> Co2
-    requires { ⌜ SumsIn co2 ch4 n2o ⌝ }
-    ensures { λ r. ⌜ r ≡ co2eOf w co2 ch4 n2o ⌝ }
+pub fn co2e(w: Warming, co2: Co2, ch4: u64, n2o: N2o, grazing: Grazed) -> Co2
+    requires { ⌜ SumsIn co2 ch4 n2o grazing ⌝ }
+    ensures { λ r. ⌜ r ≡ co2eOf w co2 ch4 n2o grazing ⌝ }
 {
+    let grazed = grazing.grams();
     match w {
-        Warming::First => co2.plus(Co2::of(21 * ch4 + 310 * n2o.grams())),
-        Warming::Second => co2.plus(Co2::of(23 * ch4 + 296 * n2o.grams())),
+        Warming::First => co2.plus(Co2::of(21 * ch4 + 310 * n2o.grams() + grazed)),
+        Warming::Second => co2.plus(Co2::of(23 * ch4 + 296 * n2o.grams() + grazed)),
     }
 }

@@ -2,6 +2,7 @@
 pub mod carbon_rate;
 pub mod cattle;
 pub mod farm;
+pub mod grazing;
 pub mod pig;
 pub mod rounding;
 pub mod tillage;

@@ -1,9 +1,9 @@
-// Grams of CO2, which may be below zero; grams of N2O, and N2O-N, the nitrogen in it. Only `to_n2o` leads from N2O-N to N2O.
+// Grams of CO2, which may be below zero; grams of N2O, and N2O-N, the nitrogen in it; grams of CO2e of grazing. Only `to_n2o` leads from N2O-N to N2O.
 use crate::rounding::round_div;
 ghost use mathlib.Core.Path.{_≡_};
 ghost use Prim.Native.Nat.{_+_, _*_, _^_, _<_, _≤_};
 ghost use lib.IntN.{pos, negℤ};
-ghost use Rattle.grams.specs.Units.{gramsCo2, plusCo2, Co2Within, co2Within, co2Word, gramsN2o, partsN2oN, asN2o};
+ghost use Rattle.grams.specs.Units.{gramsCo2, plusCo2, Co2Within, co2Within, co2Word, gramsN2o, gramsGrazed, partsN2oN, asN2o};
 
 // Grams of CO2, a word in two's complement. How they are added, bounded and laid into 8 bytes is said here alone.
 pub struct Co2(u64);
@@ -87,6 +87,40 @@ impl N2o {
         ensures { λ r. ⌜ r ≡ gramsN2o (self .0 + other .0) ⌝ }
     {
         N2o(self.0 + other.0)
+    }
+}
+
+// Grams of CO2e of grazing: CO2e from the start, and no gas.
+pub struct Grazed(u64);
+
+// None, as where a rule gives none.
+pub const NO_GRAZING: Grazed = Grazed(0);
+
+impl Grazed {
+    pub fn of(grams: u64) -> Grazed
+        ensures { λ r. ⌜ r ≡ gramsGrazed grams ⌝ }
+    {
+        Grazed(grams)
+    }
+
+    // The same, moved by itself.
+    pub fn same(self) -> Grazed
+        ensures { λ r. ⌜ r ≡ self ⌝ }
+    {
+        Grazed(self.0)
+    }
+
+    pub fn grams(self) -> u64
+        ensures { λ r. ⌜ r ≡ self .0 ⌝ }
+    {
+        self.0
+    }
+
+    pub fn plus(self, other: Grazed) -> Grazed
+        requires { ⌜ self .0 + other .0 < 2 ^ 64 ⌝ }
+        ensures { λ r. ⌜ r ≡ gramsGrazed (self .0 + other .0) ⌝ }
+    {
+        Grazed(self.0 + other.0)
     }
 }
 

@@ -15,14 +15,16 @@ use Rattle.base.proofs.Tests.{of-choice}
 use Rattle.codec.specs.Table.{lineFields, totalFields, size, lineSize, totalSize, isTotal, isKind}
 use Rattle.codec.specs.Codec.{be, bytesOf, lineBytes, totalBytes, valuesAt, frontSize, frontFields}
 use Rattle.codec.proofs.Rows.{sizes}
-use Rattle.codec.proofs.Round.{line-length, total-length}
 use Rattle.codec.proofs.Values.{values-same}
+use Rattle.grams.specs.declared.units.Co2.{Co2}
 use Rattle.account.specs.declared.Account.{Account}
+use Rattle.account.specs.declared.Figures.{Figures}
 use Rattle.account.specs.Sorts.{Sort, ofGroup, ofFarm, closes, sortOf}
-use Rattle.account.specs.Line.{subtotals, totalOf, joined}
+use Rattle.account.specs.Line.{lineWith, totalWith, subtotals, totalOf, joined}
 use Rattle.account.specs.Judge.{kindOf, valuesOf, first, refusals, Step, accepted, judge}
 use Rattle.codec.proofs.EachKind.{kind-most}
 use Rattle.account.proofs.Sorts.{by-sort}
+use Rattle.account.proofs.Told.{line-long, total-long}
 use Rattle.book.specs.declared.State.{State}
 use Rattle.book.specs.Front.{Front, unfinished, badLength, whole, need, front}
 use Rattle.book.specs.State.{InRange, inRange, noRecordYet}
@@ -48,20 +50,19 @@ wholes-append : (ls ms : List (List ℕ)) → Wholes ls → Wholes ms → Wholes
 wholes-append [] ms v w = w
 wholes-append (l ∷ ls) ms v w = (v .0, wholes-append ls ms (v .1) w)
 
-line-kind : (k g a b c d e : ℕ) → getD (lineBytes k g a b c d e) 3 0 ≡ k % 256
+line-kind : (k g : ℕ) (f : Figures) → getD (lineWith k g f) 3 0 ≡ k % 256
 unfolding lineBytes lineFields bytesOf be
-line-kind k g a b c d e = refl
+line-kind k g f = refl
 
-total-kind : (a b c d e f : ℕ) → getD (totalBytes a b c d e f) 3 0 ≡ 8
+total-kind : (f : Figures) (c : Co2) → getD (totalWith f c) 3 0 ≡ 8
 unfolding totalBytes totalFields bytesOf be
-total-kind a b c d e f = refl
+total-kind f c = refl
 
-line-whole : (k g a b c d e : ℕ) → k < 256 → (k ≡ 8 → ⊥) → Whole (lineBytes k g a b c d e)
-line-whole k g a b c d e h n =
-    size-detail (lineBytes k g a b c d e) (λ q. n (omega (arith, q, line-kind k g a b c d e))) ∙ sym (line-length k g a b c d e)
+line-whole : (k g : ℕ) (f : Figures) → k < 256 → (k ≡ 8 → ⊥) → Whole (lineWith k g f)
+line-whole k g f h n = size-detail (lineWith k g f) (λ q. n (omega (arith, q, line-kind k g f))) ∙ sym (line-long k g f)
 
-total-whole : (a b c d e f : ℕ) → Whole (totalBytes a b c d e f)
-total-whole a b c d e f = size-total (totalBytes a b c d e f) (total-kind a b c d e f) ∙ sym (total-length a b c d e f)
+total-whole : (f : Figures) (c : Co2) → Whole (totalWith f c)
+total-whole f c = size-total (totalWith f c) (total-kind f c) ∙ sym (total-long f c)
 
 -- ---- the lines of a run are whole
 
@@ -77,15 +78,15 @@ not-close k s e f q = ⊎-elim (λ (g : s ≡ ofGroup). no-sort (rw q at (f ∙ 
 
 subtotals-whole : (a : Account) → Wholes (subtotals a)
 subtotals-whole a =
-    of-choice Wholes (eqb (a .heading .group) 0) (λ e. tt) (λ e. (line-whole 16 _ _ _ _ _ _ (omega arith) (λ q. omega (arith, q)), tt))
+    of-choice Wholes (eqb (a .heading .group) 0) (λ e. tt) (λ e. (line-whole 16 _ _ (omega arith) (λ q. omega (arith, q)), tt))
 
 accepted-whole : (a : Account) (k : ℕ) (v : List ℕ) → isKind k ≡ true → Wholes (accepted a k v .lines)
 unfolding accepted
 accepted-whole a k v h =
     by-sort (λ (j : Step). Wholes (j .lines)) (sortOf k) (λ e. tt) (λ e. subtotals-whole a)
-    (λ e. (line-whole k _ _ _ _ _ _ (omega (arith, kind-most k h)) (not-close k ofGroup (inl refl) e), tt))
-    (λ e. (line-whole k _ _ _ _ _ _ (omega (arith, kind-most k h)) (not-close k ofFarm (inr refl) e), tt))
-    (λ e. wholes-append (subtotals a) (totalOf a ∷ []) (subtotals-whole a) (total-whole _ _ _ _ _ _, tt))
+    (λ e. (line-whole k _ _ (omega (arith, kind-most k h)) (not-close k ofGroup (inl refl) e), tt))
+    (λ e. (line-whole k _ _ (omega (arith, kind-most k h)) (not-close k ofFarm (inr refl) e), tt))
+    (λ e. wholes-append (subtotals a) (totalOf a ∷ []) (subtotals-whole a) (total-whole _ _, tt))
 
 judge-whole : (a : Account) (r : List ℕ) → Wholes (judge a r .lines)
 unfolding judge

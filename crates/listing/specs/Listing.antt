@@ -1,6 +1,7 @@
 -- Document 01, "Figures to meet": "The lister reads a book on standard input and prints a text line per line record: kind, group, the five
 -- figures, and for kind 8 CO2e; then `closed`, `unfinished`, or `refused` with code, records, field, one space between."
 -- Document 02, W7: "CO2 figures, their sum and CO2e become signed, eight bytes in two's complement."
+-- Document 02, W10: "Lines and the state gain it as a sixth figure, .., before CO2e in the total".
 use Prim.Native.Nat.{ℕ, zero, suc, _/_, _≤_}
 use mathlib.Core.Path.{_≡_}
 use mathlib.Core.List.{List, [], _∷_, _++_}
@@ -26,7 +27,7 @@ lineNumbers xs = drop 2 (valuesAt (frontFields xs) xs 0)
 
 -- the columns of the signed figures, counted from 0: CO2, and kind 8's CO2e
 abbrev pub isSigned : ℕ → Bool
-isSigned column = eqb column 4 || eqb column 7
+isSigned column = eqb column 4 || eqb column 8
 
 -- the number of a column as text
 abbrev pub columnText : ℕ → ℕ → List ℕ

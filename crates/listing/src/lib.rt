@@ -38,7 +38,7 @@ fn put_column(out: &mut [u8], at: usize, column: usize, v: u64) -> usize
     ensures { λ r. ⌜ Put (now (out .entry)) (now (out .exit)) at (columnText column v) r ⌝ }
     ensures { λ r. ⌜ r ≤ at + 20 ⌝ }
 {
-    if (column == 4) | (column == 7) {
+    if (column == 4) | (column == 8) {
         return put_signed(out, at, v);
     }
     put_decimal(out, at, v)

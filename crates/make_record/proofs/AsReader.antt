@@ -12,7 +12,7 @@ use lib.Dec.{ltb, leb, eqb}
 use lib.ListN.{length, replicate, length-replicate}
 use Rattle.base.specs.Choice.{pick}
 use Rattle.base.proofs.Tests.{and-false, or-cases}
-use Rattle.codec.specs.Table.{fields, lengthOf, Of, lastKind, isKind}
+use Rattle.codec.specs.Table.{fields, lengthOf, Of, lastKind, isKind, linesMost}
 use Rattle.codec.specs.Codec.{valAt, recordBytes, Fit}
 use Rattle.codec.proofs.Rows.{fit-kind}
 use Rattle.account.specs.declared.Refusal.{Refusal}
@@ -42,8 +42,8 @@ module _ (s : State) (k : ℕ) (v : List ℕ) (room : ℕ) (e : write s k v room
       let j = judge-is k v (w .of) (s .account) (fit-kind v k (w .ranges)) in
       rw (w .is) (run-one s (w .ready) (recordBytes k v) (is-kind k v (w .of) .whole) ∙ rw j)
 
-  -- A call of the reader with 100 bytes of room takes all of them and reaches it.
-  pub call-reaches : (lines : ℕ) → 100 ≤ lines
+  -- A call of the reader with linesMost bytes of room takes all of them and reaches it.
+  pub call-reaches : (lines : ℕ) → linesMost ≤ lines
       → (reader.call s (write s k v room .bytes) lines .state ≡ write s k v room .state) × (reader.call s (write s k v room .bytes) lines .taken ≡ length (write s k v room .bytes))
   call-reaches lines h =
       let w = written-so s k v room e in

@@ -5,7 +5,7 @@ use mathlib.Core.Path.{_≡_, ap, _∙_}
 use mathlib.Core.List.{List}
 use lib.ListN.{length}
 use lib.Seq.{sets}
-use Rattle.codec.specs.Table.{fields, lengthOf, Of}
+use Rattle.codec.specs.Table.{fields, lengthOf, linesMost, Of}
 use Rattle.codec.specs.Codec.{firstBad, recordBytes}
 use Rattle.account.specs.declared.Account.{Account}
 use Rattle.account.specs.declared.Judged.{Judged}
@@ -19,8 +19,8 @@ module _ {kind : ℕ} {v : List ℕ} (k : ℕ) (e : kind ≡ k) where
   counted n f o = o .count ∙ ap (λ (i : ℕ). length (fields i)) e ∙ f
 
   module _ {w : List ℕ} (s : w ≡ v) where
-    -- any record's lines fit 100 bytes
-    pub told : (a : Account) {j : Judged} → TellsIn 100 a (weigh a k w) j → Tells (weigh a kind v) j
+    -- any record's lines fit the most that one gives
+    pub told : (a : Account) {j : Judged} → TellsIn linesMost a (weigh a k w) j → Tells (weigh a kind v) j
     told a t = rw (e, ← s) (tells-fit t (lines-short t))
 
     pub fitting : {n : ℕ} → 2 + lengthOf kind ≤ n → firstBad (fields kind) v 0 ≡ 0 → (2 + lengthOf k ≤ n) × (firstBad (fields k) w 0 ≡ 0)

@@ -12,7 +12,7 @@ use lib.Dec.{leb}
 use lib.ListN.{length, getD, take}
 use lib.Seq.{take-all, take-length}
 use Rattle.base.proofs.Tests.{and-l, and-r, lt-or-ge}
-use Rattle.codec.specs.Table.{table, fields, size, lengthOf, Of, lastKind, isKind}
+use Rattle.codec.specs.Table.{table, fields, size, lengthOf, Of, lastKind, isKind, linesMost}
 use Rattle.codec.specs.Codec.{be, valuesAt, bytesOf, recordBytes, Fit}
 use Rattle.codec.proofs.BigEndian.{one-byte}
 use Rattle.codec.proofs.Rows.{length-most}
@@ -47,8 +47,8 @@ module _ (s : State) (y : Ready s) (r : List ℕ) (w : WholeRecord r) where
       let h : heldOf s ≡ [] = rw (y .none) in
       rw h (rw (t, append-nil) at (book-one r (need r) is-front refl (s .account) (y .range .account) (y .early)))
 
-  -- 100 bytes have room for its line
-  pub call-one : (room : ℕ) → 100 ≤ room
+  -- linesMost bytes have room for its lines
+  pub call-one : (room : ℕ) → linesMost ≤ room
       → reader.call s r room ≡ record {
         state = holding (judge (s .account) r .account) [];
         taken = length r;

@@ -25,6 +25,13 @@ fn three_values(v: &[u64]) -> [u64; 3]
     [v[0], v[1], v[2]]
 }
 
+fn four_values(v: &[u64]) -> [u64; 4]
+    requires { ⌜ length (now v) ≡ 4 ⌝ }
+    ensures { λ r. ⌜ r ≡ now (v .entry) ⌝ }
+{
+    [v[0], v[1], v[2], v[3]]
+}
+
 fn five_values(v: &[u64]) -> [u64; 5]
     requires { ⌜ length (now v) ≡ 5 ⌝ }
     ensures { λ r. ⌜ r ≡ now (v .entry) ⌝ }
@@ -73,7 +80,8 @@ pub(crate) fn weighed(a: Account, kind: u64, v: &[u64]) -> Judged
         6 => rules::energy::weigh(a, three_values(v), codec::LINES_MOST),
         7 => rules::soil::weigh(a, one_value(v), codec::LINES_MOST),
         8 => rules::close::weigh(a, one_value(v), codec::LINES_MOST),
-        _ => rules::tillage::weigh(a, five_values(v), codec::LINES_MOST),
+        9 => rules::tillage::weigh(a, five_values(v), codec::LINES_MOST),
+        _ => rules::grazing::weigh(a, four_values(v), codec::LINES_MOST),
     }
 }
 
@@ -91,6 +99,7 @@ pub(crate) fn put(out: &mut [u8], kind: u64, v: &[u64])
         6 => codec::energy::write(out, 0, three_values(v)),
         7 => codec::soil::write(out, 0, one_value(v)),
         8 => codec::close::write(out, 0, one_value(v)),
-        _ => codec::tillage::write(out, 0, five_values(v)),
+        9 => codec::tillage::write(out, 0, five_values(v)),
+        _ => codec::grazing::write(out, 0, four_values(v)),
     }
 }

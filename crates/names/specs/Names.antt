@@ -20,7 +20,7 @@ abbrev pub noKind : ℕ
 noKind = suc lastKind
 
 unfoldable pub kindTable : List ℕ
-kindTable = ascii "record\nfarm\nheading\nenteric\ncattle\npig\nenergy\nsoil\nclose\ntillage\nrecord"
+kindTable = ascii "record\nfarm\nheading\nenteric\ncattle\npig\nenergy\nsoil\nclose\ntillage\ngrazing\nrecord"
 
 abbrev pub kindName : ℕ → List ℕ
 kindName k = lineOf noKind k kindTable
@@ -46,7 +46,8 @@ fieldTable =
     ++ ascii " source, amount, factor\n"
     ++ ascii " area\n"
     ++ ascii " records before it\n"
-    ++ ascii " zone, texture, change, years, area"
+    ++ ascii " zone, texture, change, years, area\n"
+    ++ ascii " region, column, live weight, fraction"
 
 abbrev pub fieldNames : ℕ → List ℕ
 fieldNames k = lineOf noKind k fieldTable
@@ -69,7 +70,8 @@ expectedTable =
     ++ ascii " 1 to 8; 0 to 1000000.0 units; 0 to 10000000 g CO2 per unit\n"
     ++ ascii " 0 to 100000.00 ha\n"
     ++ ascii " 0 to 65535\n"
-    ++ ascii " 1 to 9; 1 to 3 (coarse, medium, fine); 1 to 6; 1 to 100; 0 to 100000.00 ha"
+    ++ ascii " 1 to 9; 1 to 3 (coarse, medium, fine); 1 to 6; 1 to 100; 0 to 100000.00 ha\n"
+    ++ ascii " 1 to 7; 1 to 3 (cows, heifers, calves); 0 to 2000 kg; 0 to 100.00 per cent"
 
 abbrev pub expectedTexts : ℕ → List ℕ
 expectedTexts k = lineOf noKind k expectedTable
@@ -79,7 +81,7 @@ expected k i = nthPart 59 i (expectedTexts k)
 
 -- how many decimals the fields of a kind have: a digit for each
 unfoldable pub decimalsTable : List ℕ
-decimalsTable = ascii "\n000\n000\n022\n022220222\n024332353535\n010\n2\n0\n00002"
+decimalsTable = ascii "\n000\n000\n022\n022220222\n024332353535\n010\n2\n0\n00002\n0002"
 
 abbrev pub decimalsOf : ℕ → List ℕ
 decimalsOf k = lineOf noKind k decimalsTable
@@ -103,15 +105,16 @@ sentenceTable =
     ascii "closed\n"
     ++ ascii "a length that no record has: it is 4 to 26\n"
     ++ ascii "the version is not 1\n"
-    ++ ascii "no such kind of record: kinds are 1 to 9\n"
+    ++ ascii "no such kind of record: kinds are 1 to 10\n"
     ++ ascii "a wrong length or count of values\n"
     ++ ascii "the book has 4096 records, and no more go in\n"
-    ++ ascii "out of its place: a book begins with its one farm record; enteric and cattle stand under a heading of class 1 to 3"
+    ++ ascii "out of its place: a book begins with its one farm record; enteric, cattle and grazing stand under a heading of class 1 to 3"
     ++ ascii ", pig under one of class 4\n"
     ++ ascii "a value is out of its range\n"
     ++ ascii "the group number must be above that of the heading before\n"
     ++ ascii "more than 366 days of this kind under the heading\n"
-    ++ ascii "cattle shares must be 100.00 per cent together; a pig's volatilised and leached parts at most 1.000\n"
+    ++ ascii "cattle shares must be 100.00 per cent together, grazing fractions under a heading at most that"
+    ++ ascii "; a pig's volatilised and leached parts at most 1.000\n"
     ++ ascii "more nitrogen in milk and gain than in the feed\n"
     ++ ascii "the close counts other records than there are before it; left out, the count is filled in\n"
     ++ ascii "a state outside its ranges\n"

@@ -18,7 +18,7 @@ ghost use Rattle.names.specs.Names.{className, sentence, printedByte, sh
 const NO_KIND: u64 = codec::LAST_KIND + 1;
 
 // The names of the kinds, a line for each.
-const KINDS: [u8; 71] = *b"record
+const KINDS: [u8; 79] = *b"record
 farm
 heading
 enteric
@@ -28,6 +28,7 @@ energy
 soil
 close
 tillage
+grazing
 record";
 
 // The line k of a text, counted from 0; from the last on all are the same.
@@ -92,7 +93,8 @@ fn say_names(out: &mut [u8], at: usize, kind: u64, all: bool, i: usize) -> usize
  source, amount, factor
  area
  records before it
- zone, texture, change, years, area",
+ zone, texture, change, years, area
+ region, column, live weight, fraction",
         NO_KIND,
         kind,
     );
@@ -134,7 +136,8 @@ pub fn say_expected(out: &mut [u8], at: usize, kind: u64, i: usize) -> usize
  1 to 8; 0 to 1000000.0 units; 0 to 10000000 g CO2 per unit
  0 to 100000.00 ha
  0 to 65535
- 1 to 9; 1 to 3 (coarse, medium, fine); 1 to 6; 1 to 100; 0 to 100000.00 ha",
+ 1 to 9; 1 to 3 (coarse, medium, fine); 1 to 6; 1 to 100; 0 to 100000.00 ha
+ 1 to 7; 1 to 3 (cows, heifers, calves); 0 to 2000 kg; 0 to 100.00 per cent",
         NO_KIND,
         kind,
     );
@@ -170,7 +173,8 @@ pub fn decimals(kind: u64, i: usize) -> usize
 010
 2
 0
-00002",
+00002
+0002",
         NO_KIND,
         kind,
     );
@@ -201,14 +205,16 @@ pub fn say_sentence(out: &mut [u8], at: usize, code: u64) -> usize
         b"closed
 a length that no record has: it is 4 to 26
 the version is not 1
-no such kind of record: kinds are 1 to 9
+no such kind of record: kinds are 1 to 10
 a wrong length or count of values
 the book has 4096 records, and no more go in
-out of its place: a book begins with its one farm record; enteric and cattle stand under a heading of class 1 to 3, pig under one of class 4
+out of its place: a book begins with its one farm record; enteric, cattle and grazing stand under a heading of class 1 to 3, \
+pig under one of class 4
 a value is out of its range
 the group number must be above that of the heading before
 more than 366 days of this kind under the heading
-cattle shares must be 100.00 per cent together; a pig's volatilised and leached parts at most 1.000
+cattle shares must be 100.00 per cent together, grazing fractions under a heading at most that; \
+a pig's volatilised and leached parts at most 1.000
 more nitrogen in milk and gain than in the feed
 the close counts other records than there are before it; left out, the count is filled in
 a state outside its ranges

@@ -8,11 +8,12 @@ use Rattle.grams.specs.Farm.{energyOf}
 use Rattle.grams.specs.TillageTable.{lessTillage, lessOf, pairOf}
 use Rattle.grams.specs.CarbonRate.{steps, expOf, rateOf, mgOf}
 use Rattle.grams.specs.Tillage.{co2Of, tillageOf}
+use Rattle.grams.specs.Grazing.{pastureTable, pastureFactor, grazingOf}
 use Rattle.grams.specs.Cases.{every}
 use Rattle.account.specs.Figures.{figuresOf}
 use Rattle.promises.specs.Halves.{halves}
 
 -- W8: each row of the table comes to its even number.
 pub halves-to-even : T (every halves)
-unfolding roundDiv cattle.entericOf cattle.manureOf pig.manureOf energyOf lessTillage lessOf pairOf steps expOf rateOf mgOf co2Of tillageOf figuresOf
+unfolding roundDiv cattle.entericOf cattle.manureOf pig.manureOf energyOf lessTillage lessOf pairOf steps expOf rateOf mgOf co2Of tillageOf pastureTable pastureFactor grazingOf figuresOf
 halves-to-even = tt

@@ -121,7 +121,7 @@ one-line xs before r l k d g =
 -- a detail of the farm has the same line under any heading
 farm-line : (g h : Heading) (k : ℕ) (v : List ℕ) → sortOf k ≡ ofFarm → lineOf g k v ≡ lineOf h k v
 unfolding figuresOf
-farm-line g h k v e = let n = not-of-group k e in rw (e, n .0, n .1 .0, n .1 .1) refl
+farm-line g h k v e = let n = not-of-group k e in rw (e, n .0, n .1 .0, n .1 .1 .0, n .1 .1 .1) refl
 
 same-under : (r g h : List ℕ) (s : Sort) → sortOf (kindOf r) ≡ s → bySort s false false true true false ≡ true
     → (sortOf (kindOf r) ≡ ofGroup → g ≡ h) → lineUnder g r ≡ lineUnder h r
@@ -148,7 +148,7 @@ same-line xs ys before before′ r l l′ k k′ d h g g′ =
 -- The pig record is accepted in both books, behind the records before it,
 pub shared-accepted : Accepts everyKind everyKindBefore sharedPig × Accepts otherBook otherBefore sharedPig
 unfolding table size valAt valuesAt firstBad first inPlace accepted cattle.belowZero sortOf judge front bookBy book run recordsBy recordsOf
-shared-accepted = (record { after = drop 7 (recordsOf everyKind); records = refl }, record { after = []; records = refl })
+shared-accepted = (record { after = drop 8 (recordsOf everyKind); records = refl }, record { after = []; records = refl })
 
 -- it is a detail of the group, and the last heading records before it are the same:
 pub shared-heading : (sortOf (kindOf sharedPig) ≡ ofGroup) × ((headingBefore everyKindBefore ≡ sharedHeading) × (headingBefore otherBefore ≡ sharedHeading))
@@ -158,4 +158,4 @@ shared-heading = (refl, (refl, refl))
 -- it gives the same line in both, byte for byte.
 pub shared-line : Gives everyKind everyKindBefore sharedLine × Gives otherBook otherBefore sharedLine
 unfolding table size valAt be valuesAt firstBad bytesOf lineBytes totalBytes lineFields totalFields roundDiv cattle.entericOf cattle.belowZero cattle.manureOf pig.manureOf energyOf soilOf co2eOf figuresOf first inPlace accepted sortOf judge front bookBy book run recordsBy recordsOf
-shared-line = (record { others = drop 5 (run noRecordYet everyKind .lines); lines = refl }, record { others = []; lines = refl })
+shared-line = (record { others = drop 6 (run noRecordYet everyKind .lines); lines = refl }, record { others = []; lines = refl })

@@ -51,7 +51,7 @@ sharedPig =
 
 -- one book is that with every kind, in set 2, where the pig record is the first under its heading; here are the records before it
 abbrev pub everyKindBefore : List (List ℕ)
-everyKindBefore = take 6 (recordsOf everyKind)
+everyKindBefore = take 7 (recordsOf everyKind)
 
 -- the other is of another farm and year, in set 1, with other records, another ration under the heading, and without a close
 abbrev pub otherBefore : List (List ℕ)
@@ -74,8 +74,9 @@ otherBefore =
 abbrev pub otherBook : List ℕ
 otherBook = joined otherBefore ++ sharedPig
 
--- the line, as the second program writes it: 5, group 515: 525053, 11489, 0, 1273983, 792417
+-- the line, as the second program writes it: 5, group 515: 525053, 11489, 0, 1273983, 792417, 0
 abbrev pub sharedLine : List ℕ
 sharedLine =
-    (0 ∷ 44 ∷ 1 ∷ 5 ∷ 2 ∷ 3 ∷ []) ++ (0 ∷ 0 ∷ 0 ∷ 0 ∷ 0 ∷ 8 ∷ 2 ∷ 253 ∷ []) ++ (0 ∷ 0 ∷ 0 ∷ 0 ∷ 0 ∷ 0 ∷ 44 ∷ 225 ∷ [])
+    (0 ∷ 52 ∷ 1 ∷ 5 ∷ 2 ∷ 3 ∷ []) ++ (0 ∷ 0 ∷ 0 ∷ 0 ∷ 0 ∷ 8 ∷ 2 ∷ 253 ∷ []) ++ (0 ∷ 0 ∷ 0 ∷ 0 ∷ 0 ∷ 0 ∷ 44 ∷ 225 ∷ [])
     ++ (0 ∷ 0 ∷ 0 ∷ 0 ∷ 0 ∷ 0 ∷ 0 ∷ 0 ∷ []) ++ (0 ∷ 0 ∷ 0 ∷ 0 ∷ 0 ∷ 19 ∷ 112 ∷ 127 ∷ []) ++ (0 ∷ 0 ∷ 0 ∷ 0 ∷ 0 ∷ 12 ∷ 23 ∷ 97 ∷ [])
+    ++ (0 ∷ 0 ∷ 0 ∷ 0 ∷ 0 ∷ 0 ∷ 0 ∷ 0 ∷ [])

@@ -6,25 +6,25 @@ use mathlib.Core.List.{List, [], _∷_}
 use mathlib.Core.Bool.{Bool, true, false, _&&_, _||_, not}
 use mathlib.Core.Logic.{_⊎_, inl, inr, ⊎-elim}
 use native.Mathlib.Omega.{arith}
-use borrow.Author.Tests.{eqb-true, eqb-false, eq-eqb, ne-eqb}
-use lib.Dec.{ltb, eqb}
+use borrow.Author.Tests.{leb-true, eqb-true, eqb-false, eq-eqb, ne-eqb}
+use lib.Dec.{ltb, leb, eqb}
 use lib.ListN.{length, getD}
 use Rattle.base.specs.Choice.{pick}
-use Rattle.base.proofs.Tests.{of-choice, no-bool, not-false, not-true}
+use Rattle.base.proofs.Tests.{and-l, and-r, of-choice, no-bool, not-false, not-true}
 use Rattle.codec.specs.Table.{table, fields, lengthOf, linesMost, isKind}
 use Rattle.codec.specs.Codec.{firstBad}
 use Rattle.codec.proofs.Within.{Within, ranges, bad-position}
 use Rattle.account.specs.declared.Account.{Account}
 use Rattle.account.specs.declared.Judged.{Judged}
 use Rattle.account.specs.Sorts.{sortOf}
-use Rattle.account.specs.Judge.{WholeRecord, kindOf, valuesOf, first, refusals, refused, partsWrong, NotRefused, Step, accepted, judge}
+use Rattle.account.specs.Judge.{WholeRecord, kindOf, valuesOf, first, refusals, refused, NotRefused, Step, accepted, judge}
 use Rattle.account.specs.Told.{TellsIn}
-use Rattle.account.specs.Compared.{badField}
+use Rattle.account.specs.Compared.{badField, sharesOf, partsOf, grazedWith}
 use Rattle.account.proofs.Told.{tells-fit, lines-short}
 use Rattle.codec.proofs.EachKind.{kind-least, kind-most, each-kind}
 use Rattle.account.proofs.Sorts.{by-sort}
 use Rattle.account.proofs.Refusals.{none-refuses, refused-by, number-most, judged-passes}
-use Rattle.reasons.specs.Inner.{Sized, Faulty}
+use Rattle.reasons.specs.Inner.{Sized, Parted, Faulty}
 
 -- the number of the first refusal
 abbrev pub numberOf : Account → List ℕ → ℕ
@@ -36,19 +36,20 @@ told-account t = tells-fit t (lines-short t) .account
 
 -- ---- a number is 2 at least
 
-abbrev Least : ℕ → List (Bool × ℕ) → Type 0
-Least n [] = Unit {0}
-Least n (t ∷ ts) = (n ≤ t .1) × Least n ts
+allLeast : ℕ → List (Bool × ℕ) → Bool
+allLeast n [] = true
+allLeast n (t ∷ ts) = leb n (t .1) && allLeast n ts
 
-first-least : (n : ℕ) (ts : List (Bool × ℕ)) → Least n ts → (first ts ≡ 0 → ⊥) → n ≤ first ts
-unfolding first
+first-least : (n : ℕ) (ts : List (Bool × ℕ)) → allLeast n ts ≡ true → (first ts ≡ 0 → ⊥) → n ≤ first ts
+unfolding first allLeast
 first-least n [] w = λ h. absurd (h refl)
-first-least n (t ∷ ts) w = of-choice (λ (c : ℕ). (c ≡ 0 → ⊥) → n ≤ c) (t .0) (λ e h. w .0) (λ e h. first-least n ts (w .1) h)
+first-least n (t ∷ ts) w =
+    of-choice (λ (c : ℕ). (c ≡ 0 → ⊥) → n ≤ c) (t .0) (λ e h. leb-true n (t .1) (and-l (leb n (t .1)) (allLeast n ts) w))
+    (λ e h. first-least n ts (and-r (leb n (t .1)) (allLeast n ts) w) h)
 
 number-least : (a : Account) (r : List ℕ) → (numberOf a r ≡ 0 → ⊥) → 2 ≤ numberOf a r
-number-least a r =
-    first-least 2 (refusals a r)
-    (omega arith, (omega arith, (omega arith, (omega arith, (omega arith, (omega arith, (omega arith, (omega arith, (omega arith, (omega arith, (omega arith, tt)))))))))))
+unfolding allLeast
+number-least a r = first-least 2 (refusals a r) refl
 
 -- ---- a record that is refused, or not
 
@@ -123,7 +124,7 @@ fields-few : (k : ℕ) → isKind k ≡ true → length (fields k) ≤ 12
 unfolding table
 fields-few =
     each-kind (λ (k : ℕ). length (fields k) ≤ 12) (omega arith) (omega arith) (omega arith) (omega arith) (omega arith) (omega arith) (omega arith)
-    (omega arith) (omega arith)
+    (omega arith) (omega arith) (omega arith)
 
 module _ {a : Account} {r : List ℕ} {code field : ℕ} (f : Faulty a r code field) where
   -- from 4 on its kind is one of the book's, from 5 on its length is the kind's
@@ -148,19 +149,20 @@ module _ {a : Account} {r : List ℕ} {code field : ℕ} (f : Faulty a r code fi
   pub in-range : 8 ≤ code → (i : ℕ) → i < length (fields (kindOf r)) → Within (getD (fields (kindOf r)) i (0, 0, 0)) (getD (valuesOf r) (0 + i) 0)
   in-range h = ranges (valuesOf r) (fields (kindOf r)) 0 (eqb-true _ _ (not-false _ (f .broken .values .inRange .0 (omega arith))))
 
-  -- 10 is of kind 4 or 5
-  pub of-parts : code ≡ 10 → (kindOf r ≡ 4) ⊎ (kindOf r ≡ 5)
-  of-parts e = go (eqb (kindOf r) 4) (eqb (kindOf r) 5) refl refl (f .broken .values .together .1 (sym e))
+  -- 10 is of kind 4, 5 or 10
+  pub of-parts : code ≡ 10 → Parted (kindOf r)
+  of-parts e = go (eqb (kindOf r) 4) (eqb (kindOf r) 5) (eqb (kindOf r) 10) refl refl refl (f .broken .values .together .1 (sym e))
     where
       v : List ℕ
       v = valuesOf r
 
-      go : (x y : Bool) → eqb (kindOf r) 4 ≡ x → eqb (kindOf r) 5 ≡ y
-          → pick x (not (eqb (getD v 6 0 + getD v 7 0 + getD v 8 0) 10000)) (pick y (ltb 1000 (getD v 8 0 + getD v 10 0)) false) ≡ true
-          → (kindOf r ≡ 4) ⊎ (kindOf r ≡ 5)
-      go true y p q t = inl (eqb-true _ _ p)
-      go false true p q t = inr (eqb-true _ _ q)
-      go false false p q t = no-bool t
+      go : (x y z : Bool) → eqb (kindOf r) 4 ≡ x → eqb (kindOf r) 5 ≡ y → eqb (kindOf r) 10 ≡ z
+          → pick x (not (eqb (sharesOf v) 10000)) (pick y (ltb 1000 (partsOf v)) false) || (z && ltb 10000 (grazedWith (a .days) v)) ≡ true
+          → Parted (kindOf r)
+      go true y z p q s t = inl (eqb-true _ _ p)
+      go false true z p q s t = inr (inl (eqb-true _ _ q))
+      go false false true p q s t = inr (inr (eqb-true _ _ s))
+      go false false false p q s t = no-bool t
 
   -- 9 is of kind 3, 4 or 5
   pub of-days : code ≡ 9 → (kindOf r ≡ 3) ⊎ ((kindOf r ≡ 4) ⊎ (kindOf r ≡ 5))

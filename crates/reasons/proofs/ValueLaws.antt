@@ -19,14 +19,14 @@ use Rattle.codec.proofs.Within.{Within, ranges}
 use Rattle.account.specs.declared.Account.{Account}
 use Rattle.account.specs.declared.Days.{Days}
 use Rattle.account.specs.Judge.{kindOf, versionOf, valuesOf}
-use Rattle.account.specs.Compared.{Compared, noNumbers, numbers, outside, badField, rangeOf, valueAt, daysWith, sharesOf, partsOf, valuesCompared, compared}
+use Rattle.account.specs.Compared.{Compared, noNumbers, numbers, outside, badField, rangeOf, valueAt, daysWith, valuesCompared, compared}
 use Rattle.book.specs.Front.{Front, unfinished, badLength, whole, front, bad}
 use Rattle.book.proofs.FrontLaws.{length-take-two}
 use Rattle.reasons.specs.declared.Reason.{Reason}
 use Rattle.reasons.specs.declared.compared.Numbers.{Numbers}
 use Rattle.reasons.specs.Why.{reason}
 use Rattle.reasons.specs.declared.Verdict.the-variants.{Missing, NextLength, Refused}
-use Rattle.reasons.specs.Inner.{told, Sized, Parted, unread}
+use Rattle.reasons.specs.Inner.{told, Sized, Parted, partsTold, unread}
 
 -- ---- one value, by its kind
 
@@ -49,18 +49,26 @@ module _ {k : ℕ} (v : List ℕ) where
   unfolding table
   parts-small e b = let w = ranges v (fields 5) 0 (rw e at b) in (w 8 (omega arith) .below, w 10 (omega arith) .below)
 
-  pub shares-told : {x y z : ℕ} {n : Numbers} → k ≡ 4 → x ≡ getD v 6 0 → y ≡ getD v 7 0 → z ≡ getD v 8 0 → n ≡ told (numbers (x + y + z) 10000)
-      → n ≡ told (pick (eqb k 4) (numbers (sharesOf v) 10000) (numbers (partsOf v) 1000))
-  shares-told e p q s t = t ∙ rw (p, q, s, eq-eqb _ _ e) refl
+  pub fraction-small : k ≡ 10 → badField k v ≡ 0 → getD v 3 0 ≤ 10000
+  unfolding table
+  fraction-small e b = ranges v (fields 10) 0 (rw e at b) 3 (omega arith) .below
 
-  pub parts-told : {x y : ℕ} {n : Numbers} → (k ≡ 4 → ⊥) → x ≡ getD v 8 0 → y ≡ getD v 10 0 → n ≡ told (numbers (x + y) 1000)
-      → n ≡ told (pick (eqb k 4) (numbers (sharesOf v) 10000) (numbers (partsOf v) 1000))
-  parts-told e p q t = t ∙ rw (p, q, ne-eqb _ _ e) refl
+  module _ (d : Days) {n : Numbers} where
+    pub shares-told : {x y z : ℕ} → k ≡ 4 → x ≡ getD v 6 0 → y ≡ getD v 7 0 → z ≡ getD v 8 0 → n ≡ told (numbers (x + y + z) 10000)
+        → n ≡ partsTold d k v
+    shares-told e p q s t = t ∙ rw (p, q, s, eq-eqb _ _ e) refl
 
--- the other of the two kinds
-pub other-part : {k : ℕ} → Parted k → (k ≡ 4 → ⊥) → k ≡ 5
-other-part (inl e) n = absurd (n e)
-other-part (inr e) n = e
+    pub parts-told : {x y : ℕ} → (k ≡ 4 → ⊥) → k ≡ 5 → x ≡ getD v 8 0 → y ≡ getD v 10 0 → n ≡ told (numbers (x + y) 1000) → n ≡ partsTold d k v
+    parts-told e f p q t = t ∙ rw (p, q, ne-eqb _ _ e, eq-eqb _ _ f) refl
+
+    pub fractions-told : {x : ℕ} → (k ≡ 4 → ⊥) → (k ≡ 5 → ⊥) → x ≡ getD v 3 0 → n ≡ told (numbers (d .grazed + x) 10000) → n ≡ partsTold d k v
+    fractions-told e f p t = t ∙ rw (p, ne-eqb _ _ e, ne-eqb _ _ f) refl
+
+-- the last of the three kinds
+pub last-part : {k : ℕ} → Parted k → (k ≡ 4 → ⊥) → (k ≡ 5 → ⊥) → k ≡ 10
+last-part (inl e) m n = absurd (m e)
+last-part (inr (inl e)) m n = absurd (n e)
+last-part (inr (inr e)) m n = e
 
 -- ---- what is compared of the values, by the number
 
@@ -77,7 +85,7 @@ module _ (a : Account) (k : ℕ) (v : List ℕ) {c : ℕ} {n : Numbers} where
   unfolding valuesCompared
   by-nine e p q t = t ∙ rw (e, q, p) refl
 
-  pub by-ten : c ≡ 10 → n ≡ told (pick (eqb k 4) (numbers (sharesOf v) 10000) (numbers (partsOf v) 1000)) → n ≡ told (valuesCompared c a k v)
+  pub by-ten : c ≡ 10 → n ≡ partsTold (a .days) k v → n ≡ told (valuesCompared c a k v)
   unfolding valuesCompared
   by-ten e t = t ∙ rw e refl
 

@@ -1,6 +1,6 @@
 -- Books of which each sort of answer is given: computed from the definitions. 5 wants 4,096 records, and is tried with the program alone.
 -- Assumes nothing.
-use Prim.Native.Nat.{ℕ}
+use Prim.Native.Nat.{ℕ, _+_}
 use mathlib.Core.Path.{_≡_, refl}
 use mathlib.Core.List.{List, [], _∷_, _++_}
 use mathlib.Core.Bool.{Bool, true, false}
@@ -32,6 +32,10 @@ ration days = 0 ∷ 10 ∷ 1 ∷ 3 ∷ 0 ∷ days ∷ 0 ∷ 0 ∷ 117 ∷ 48 ∷
 -- a hectare in zone 1, of medium texture
 abbrev tillage : ℕ → ℕ → List ℕ
 tillage change years = 0 ∷ 11 ∷ 1 ∷ 9 ∷ 1 ∷ 2 ∷ change ∷ 0 ∷ years ∷ 0 ∷ 0 ∷ 0 ∷ 100 ∷ []
+
+-- so much of the year, 5000 and a little, by cows in that region
+abbrev grazing : ℕ → ℕ → List ℕ
+grazing region more = 0 ∷ 8 ∷ 1 ∷ 10 ∷ region ∷ 1 ∷ 2 ∷ 88 ∷ 19 ∷ (136 + more) ∷ []
 
 abbrev close : ℕ → List ℕ
 close count = 0 ∷ 4 ∷ 1 ∷ 8 ∷ 0 ∷ count ∷ []
@@ -66,7 +70,7 @@ unfolding whyOf whyBy run book bookBy front valAt first judge accepted sortOf ta
 broken-2 = refl
 
 pub broken-3 : (whyOf (joined (farm ∷ heading 1 0 12 1 ∷ [])) ≡ told 3 1 11 19 0 0 0 1)
-    × (whyOf (joined (farm ∷ heading 1 10 12 1 ∷ [])) ≡ told 3 1 11 19 0 10 10 9)
+    × (whyOf (joined (farm ∷ heading 1 11 12 1 ∷ [])) ≡ told 3 1 11 19 0 11 11 10)
 unfolding whyOf whyBy run book bookBy front valAt first judge accepted sortOf table size valuesAt firstBad inPlace recordsOf recordsBy compared
 broken-3 = (refl, refl)
 
@@ -74,14 +78,15 @@ pub broken-4 : whyOf (joined (farm ∷ heading 1 3 12 1 ∷ [])) ≡ told 4 1 11
 unfolding whyOf whyBy run book bookBy front valAt first judge accepted sortOf table size valuesAt firstBad inPlace recordsOf recordsBy compared
 broken-4 = refl
 
--- below and above a range, a ration's days, a heading's class, and the change and the years of a change of tillage
+-- below and above a range, a ration's days, a heading's class, the change and the years of a change of tillage, and the region of grazing
 pub broken-7 : (whyOf (headed (ration 0 ∷ [])) ≡ told 7 2 20 31 1 3 0 1)
     × (whyOf (joined (farm ∷ heading 1 2 12 9 ∷ [])) ≡ told 7 1 11 19 2 2 9 4)
     × (whyOf (joined (farm ∷ tillage 7 10 ∷ [])) ≡ told 7 1 11 23 3 9 7 6)
     × (whyOf (joined (farm ∷ tillage 6 0 ∷ [])) ≡ told 7 1 11 23 4 9 0 1)
+    × (whyOf (headed (grazing 8 0 ∷ [])) ≡ told 7 2 20 29 1 10 8 7)
 unfolding whyOf whyBy run book bookBy front valAt first judge accepted sortOf table size valuesAt firstBad inPlace recordsOf recordsBy compared
     valuesCompared
-broken-7 = (refl, refl, refl, refl)
+broken-7 = (refl, refl, refl, refl, refl)
 
 pub broken-8 : whyOf (headed (heading 1 2 12 1 ∷ [])) ≡ told 8 2 20 28 0 2 12 12
 unfolding whyOf whyBy run book bookBy front valAt first judge accepted sortOf table size valuesAt firstBad inPlace recordsOf recordsBy compared
@@ -114,6 +119,12 @@ pub broken-10 : whyOf (headed (cattle 0 2 ∷ [])) ≡ told 10 2 20 41 0 4 10001
 unfolding whyOf whyBy run book bookBy front valAt first judge accepted sortOf table size valuesAt firstBad inPlace recordsOf recordsBy compared
     valuesCompared
 broken-10 = refl
+
+-- the fractions of two records come to more than the whole
+pub broken-10-grazed : whyOf (headed (grazing 3 0 ∷ grazing 3 1 ∷ [])) ≡ told 10 3 30 39 0 10 10001 10000
+unfolding whyOf whyBy run book bookBy front valAt first judge accepted sortOf table size valuesAt firstBad inPlace recordsOf recordsBy compared
+    valuesCompared
+broken-10-grazed = refl
 
 pub broken-11 : whyOf (headed (cattle 1 1 ∷ []))
     ≡ Refused (record { code = 11; number = 2; first = 20; last = 41; field = 0; kind = 4; some = false; value = 0; limit = 0 })

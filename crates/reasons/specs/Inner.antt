@@ -9,8 +9,9 @@ use lib.Dec.{eqb}
 use Rattle.base.specs.Choice.{pick}
 use Rattle.codec.specs.Table.{lastKind, lengthOf}
 use Rattle.account.specs.declared.Account.{Account}
+use Rattle.account.specs.declared.Days.{Days}
 use Rattle.account.specs.Judge.{WholeRecord, kindOf, valuesOf, RefusedBy}
-use Rattle.account.specs.Compared.{Compared, badField}
+use Rattle.account.specs.Compared.{Compared, numbers, badField, sharesOf, partsOf, grazedWith}
 use Rattle.book.specs.Front.{Front, unfinished, badLength, whole}
 use Rattle.reasons.specs.declared.Verdict.{Verdict}
 use Rattle.reasons.specs.declared.Verdict.the-variants.{Accepted, Missing, NextLength, Refused}
@@ -27,9 +28,13 @@ pub record Sized (r : List ℕ) : Type 0 where
   pub most : kindOf r ≤ lastKind
   pub long : length r ≡ lengthOf (kindOf r) + 2
 
--- a kind whose shares or parts are compared
+-- a kind whose shares, parts or fractions are compared
 abbrev pub Parted : ℕ → Type 0
-Parted k = (k ≡ 4) ⊎ (k ≡ 5)
+Parted k = (k ≡ 4) ⊎ ((k ≡ 5) ⊎ (k ≡ 10))
+
+-- what is compared of them, with the days d behind the records before
+abbrev pub partsTold : Days → ℕ → List ℕ → Numbers
+partsTold d k v = told (pick (eqb k 4) (numbers (sharesOf v) 10000) (pick (eqb k 5) (numbers (partsOf v) 1000) (numbers (grazedWith d v) 10000)))
 
 -- the whole record r is refused by the number code, with that field
 pub record Faulty (a : Account) (r : List ℕ) (code field : ℕ) : Type 0 where

@@ -51,15 +51,18 @@ unfoldable pub whereText : ℕ → ℕ → ℕ → ℕ → List ℕ
 whereText number kind first last =
     ascii "record " ++ (decimal number ++ (nameText kind ++ (ascii ", bytes " ++ (decimal first ++ (ascii " to " ++ decimal last)))))
 
--- what the value is of, by the number of the rule; a pig's parts have a line of their own
+-- what the value is of, by the number of the rule; a pig's parts and the grazed fractions have lines of their own
 unfoldable pub subjectTable : List ℕ
 subjectTable =
     ascii "\n the length\n the version\n the kind\n the length\n\n\n\n the group\n the sum of days with this record\n the sum of the shares\n\n"
-    ++ ascii " the count\n the sum of the volatilised and leached parts"
+    ++ ascii " the count\n the sum of the volatilised and leached parts\n the sum of fractions with this record"
+
+abbrev pub subjectLine : ℕ → ℕ → ℕ
+subjectLine code kind = pick (eqb code 10 && eqb kind 5) 13 (pick (eqb code 10 && eqb kind 10) 14 code)
 
 abbrev pub subjectText : ℕ → ℕ → ℕ → List ℕ
 subjectText code kind field =
-    pick (eqb code 7) (fieldName kind (field - 1)) (nthPart 10 (pick (eqb code 10 && eqb kind 5) 13 code) subjectTable)
+    pick (eqb code 7) (fieldName kind (field - 1)) (nthPart 10 (subjectLine code kind) subjectTable)
 
 -- how the value has to stand to the limit
 abbrev pub exactly : ℕ → ℕ → Bool

@@ -10,12 +10,10 @@ use codec::numbers::be8;
 use codec::numbers::be16;
 ghost use mathlib.Core.Path.{_≡_};
 ghost use Prim.Native.Nat.{_≤_};
-ghost use lib.Dec.{eqb};
-ghost use Rattle.base.specs.Choice.{pick};
 ghost use Rattle.codec.specs.Table.{lengthOf, lastKind};
 ghost use Rattle.account.specs.Judge.{kindOf, valuesOf};
-ghost use Rattle.account.specs.Compared.{noNumbers, numbers, outside, badField, rangeOf, valueAt, daysWith, sharesOf, partsOf, valuesCompared, compared};
-ghost use Rattle.reasons.specs.Inner.{told, Sized, Parted, Faulty};
+ghost use Rattle.account.specs.Compared.{noNumbers, numbers, outside, badField, rangeOf, valueAt, daysWith, valuesCompared, compared};
+ghost use Rattle.reasons.specs.Inner.{told, Sized, Parted, partsTold, Faulty};
 
 // The two numbers that are compared, where there are any.
 pub(crate) struct Numbers {
@@ -85,10 +83,10 @@ fn days_with(days: Days, kind: u8, more: u64) -> u64
     days.pig as u64 + more
 }
 
-// A cattle record's shares together, or a pig record's parts.
-fn together(r: &[u8], kind: u8) -> Numbers
+// A cattle record's shares together, a pig record's parts, or the grazed fractions with this record's.
+fn together(days: Days, r: &[u8], kind: u8) -> Numbers
     requires { ⌜ Sized (now r) × (kind ≡ kindOf (now r)) × (badField kind (valuesOf (now r)) ≡ 0) × Parted kind ⌝ }
-    ensures { λ n. ⌜ n ≡ told (pick (eqb kind 4) (numbers (sharesOf (valuesOf (now (r .entry)))) 10000) (numbers (partsOf (valuesOf (now (r .entry)))) 1000)) ⌝ }
+    ensures { λ n. ⌜ n ≡ partsTold days kind (valuesOf (now (r .entry))) ⌝ }
 {
     if kind == 4 {
         return both(
@@ -96,7 +94,10 @@ fn together(r: &[u8], kind: u8) -> Numbers
             10000,
         );
     }
-    both(value_at(r, kind, 8) + value_at(r, kind, 10), 1000)
+    if kind == 5 {
+        return both(value_at(r, kind, 8) + value_at(r, kind, 10), 1000);
+    }
+    both(days.grazed as u64 + value_at(r, kind, 3), 10000)
 }
 
 // The numbers from 5 on: what is compared of the values.
@@ -112,7 +113,7 @@ fn of_values(a: Account, r: &[u8], code: u8, field: u8) -> Numbers
         7 => out_of_range(r, kind, field),
         8 => both(first, heading.group as u64),
         9 => both(days_with(days, kind, first), 366),
-        10 => together(r, kind),
+        10 => together(days, r, kind),
         12 => both(first, a.records as u64),
         _ => none(),
     }

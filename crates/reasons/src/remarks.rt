@@ -9,14 +9,12 @@ use printing::say;
 use printing::say_number;
 use typed_words::part;
 ghost use mathlib.Core.Path.{_≡_};
-ghost use mathlib.Core.Bool.{_&&_};
 ghost use Prim.Native.Nat.{_-_, _≤_};
-ghost use lib.Dec.{eqb};
 ghost use lib.ListN.{length};
-ghost use Rattle.base.specs.Choice.{pick};
 ghost use Rattle.printing.specs.Said.{Said};
 ghost use Rattle.reasons.specs.Remarks.{placeText, positionText, numbersText, refusedText, missingText, machineText, nameText, whereText};
-ghost use Rattle.reasons.specs.Remarks.{subjectText, exactly, relationText, comparedText, faultText, reasonText, lackText, peopleText};
+ghost use Rattle.reasons.specs.Remarks.{subjectLine, subjectText};
+ghost use Rattle.reasons.specs.Remarks.{exactly, relationText, comparedText, faultText, reasonText, lackText, peopleText};
 ghost use Rattle.reasons.specs.Remarks.{isAccepted, statusByte};
 
 fn say_place(out: &mut [u8], at: usize, number: u64, first: u64, last: u64) -> usize
@@ -111,12 +109,15 @@ fn say_where(out: &mut [u8], number: u64, kind: u64, first: u64, last: u64) -> u
     say_number(out, f, last)
 }
 
-// Which line of the subjects: a pig's parts have one of their own.
+// Which line of the subjects: a pig's parts and the grazed fractions have their own.
 fn subject(code: u64, kind: u64) -> usize
-    ensures { λ r. ⌜ r ≡ pick (eqb code 10 && eqb kind 5) 13 code ⌝ }
+    ensures { λ r. ⌜ r ≡ subjectLine code kind ⌝ }
 {
     if (code == 10) & (kind == 5) {
         return 13;
+    }
+    if (code == 10) & (kind == 10) {
+        return 14;
     }
     code as usize
 }
@@ -143,7 +144,8 @@ fn say_subject(out: &mut [u8], at: usize, code: u64, kind: u64, field: usize) ->
  the sum of the shares
 
  the count
- the sum of the volatilised and leached parts",
+ the sum of the volatilised and leached parts
+ the sum of fractions with this record",
         b'\n',
         subject(code, kind),
     );

@@ -16,7 +16,7 @@ use Rattle.printing.specs.Said.{Said}
 use Rattle.printing.proofs.Puts.{none, put-length, and-then}
 use Rattle.printing.specs.Ascii.{ascii}
 use Rattle.names.specs.Names.{kindName, sentence}
-use Rattle.codec.specs.Table.{table, fields, lengthOf, isKind, lastKind}
+use Rattle.codec.specs.Table.{table, fields, lengthOf, isKind, lastKind, linesMost}
 use Rattle.codec.specs.Codec.{valAt, valuesAt}
 use Rattle.codec.proofs.Values.{values-length}
 use Rattle.codec.proofs.BigEndian.{one-byte}
@@ -89,7 +89,7 @@ length-inside xs = by-front (front xs) refl
 
 -- ---- the reader's call
 
-module _ (s : State) (n : ℕ) (xs lines : List ℕ) (l : length lines ≡ 100) {f : Fed} where
+module _ (s : State) (n : ℕ) (xs lines : List ℕ) (l : length lines ≡ linesMost) {f : Fed} where
   pub all-read : n ≡ 0 → f ≡ fedOf (call s xs (length lines)) → f ≡ fedOf (readOf s n xs)
   all-read z e = rw (eq-eqb n 0 z) (rw l at e)
 
@@ -118,7 +118,7 @@ is-ready s e =
 pub state-at : (s : State) (xs : List ℕ) (n : ℕ) → Ready s → Lies xs n → (n ≡ 0 → ⊥)
     → readOf s n xs .state ≡ holding (judge (s .account) (take n xs) .account) []
 state-at s xs n y l z =
-    rw (ne-eqb n 0 z) (ap (λ (c : Call). c .state) (call-one s y (take n xs) (record-whole xs n (l .is) (l .long)) 100 (omega arith)))
+    rw (ne-eqb n 0 z) (ap (λ (c : Call). c .state) (call-one s y (take n xs) (record-whole xs n (l .is) (l .long)) linesMost (omega arith)))
 
 taken-at : (s : State) (xs : List ℕ) (n : ℕ) → Ready s → Lies xs n → (n ≡ 0 → ⊥) → (readOf s n xs .state .account .stage ≡ 3 → ⊥) → Taken s xs n
 taken-at s xs n y l z h =

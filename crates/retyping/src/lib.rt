@@ -45,6 +45,12 @@ fn from_three(v: [u64; 3]) -> [u64; 12]
     [v[0], v[1], v[2], 0, 0, 0, 0, 0, 0, 0, 0, 0]
 }
 
+fn from_four(v: [u64; 4]) -> [u64; 12]
+    ensures { λ r. ⌜ r ≡ inTwelve v ⌝ }
+{
+    [v[0], v[1], v[2], v[3], 0, 0, 0, 0, 0, 0, 0, 0]
+}
+
 fn from_five(v: [u64; 5]) -> [u64; 12]
     ensures { λ r. ⌜ r ≡ inTwelve v ⌝ }
 {
@@ -84,7 +90,8 @@ fn values_of(bytes: &[u8], kind: u64) -> [u64; 12]
         6 => from_three(codec::energy::read(bytes, 4)),
         7 => from_one(codec::soil::read(bytes, 4)),
         8 => from_one(codec::close::read(bytes, 4)),
-        _ => from_five(codec::tillage::read(bytes, 4)),
+        9 => from_five(codec::tillage::read(bytes, 4)),
+        _ => from_four(codec::grazing::read(bytes, 4)),
     }
 }
 
@@ -130,7 +137,7 @@ fn read_piece(state: State, book: &[u8], n: usize) -> Fed
     ensures { λ r. ⌜ r ≡ fedOf (readOf state n (now (book .entry))) ⌝ }
     ensures { λ r. ⌜ r .taken ≤ length (now (book .entry)) ⌝ }
 {
-    let mut lines = [0u8; 100];
+    let mut lines = [0u8; 116];
     if n == 0 {
         return state.feed(book, &mut lines);
     }

@@ -35,7 +35,7 @@ pub record Grown (a : Account) (k : ℕ) (j : Step) : Type 0 where
 -- only kind 8 closes
 closes-eight : (k : ℕ) → sortOf k ≡ closes → k ≡ 8
 unfolding sortOf
-closes-eight k e = go (eqb k 1) (eqb k 2) (eqb k 3 || (eqb k 4 || eqb k 5)) (eqb k 8) refl e
+closes-eight k e = go (eqb k 1) (eqb k 2) (eqb k 3 || (eqb k 4 || (eqb k 5 || eqb k 10))) (eqb k 8) refl e
   where
     go : (a b c d : Bool) → eqb k 8 ≡ d → pick a opens (pick b heads (pick c ofGroup (pick d closes ofFarm))) ≡ closes → k ≡ 8
     go true b c d q e = let z : _≡_ {A = ℕ} 0 1 = cc in absurd (omega arith)
@@ -157,7 +157,10 @@ module _ (s : Reading) (r : List ℕ) where
                         λ z. inr refl,
                         (
                           λ z. inr refl,
-                          (λ z. absurd (k (eqb-true _ _ (and-l (eqb (kindOf r) 8) _ z))), tt),
+                          (
+                            λ z. inr refl,
+                            (λ z. absurd (k (eqb-true _ _ (and-l (eqb (kindOf r) 8) _ z))), tt),
+                          ),
                         ),
                       ),
                     ),

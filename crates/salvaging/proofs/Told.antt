@@ -25,7 +25,7 @@ use Rattle.codec.proofs.BigEndian.{valAt-lt, valAt-be, be-length}
 use Rattle.account.specs.declared.Account.{Account}
 use Rattle.account.specs.Judge.{kindOf, first, refusals}
 use Rattle.account.specs.Line.{joined}
-use Rattle.account.proofs.First.{first-most}
+use Rattle.account.proofs.Refusals.{number-most}
 use Rattle.book.specs.Front.{Front, unfinished, badLength, whole, need, front}
 use Rattle.book.specs.WholeRecords.{beginsWith, recordsBy, recordsOf}
 use Rattle.book.proofs.FrontLaws.{meaning}
@@ -54,9 +54,7 @@ AllFit [] = Unit {0}
 AllFit (e ∷ es) = Fits e × AllFit es
 
 would-get-most : (a : Account) (r : List ℕ) → wouldGet a r ≤ 12
-would-get-most a r =
-    first-most 12 (refusals a r)
-    (omega arith, (omega arith, (omega arith, (omega arith, (omega arith, (omega arith, (omega arith, (omega arith, (omega arith, (omega arith, (omega arith, tt)))))))))))
+would-get-most a r = number-most a r
 
 drops-most : (c k : ℕ) (lost : Bool) → c ≤ 12 → first (drops c k lost) < 256
 unfolding first

@@ -1,5 +1,5 @@
--- The premises of the promises are met. A damaged book, computed: a ration of no days, a heading of a wrong version with a ration under it, a
--- close that counts wrong, and a farm record behind it. And a right book, which comes back as it is.
+-- The premises of the promises are met. A damaged book, computed: a ration of no days, a heading of a wrong version with a ration and grazing
+-- under it, a close that counts wrong, and a farm record behind it. And a right book, which comes back as it is.
 -- Assumes nothing.
 use Prim.Native.Nat.{ℕ}
 use mathlib.Core.Path.{_≡_, refl}
@@ -39,6 +39,10 @@ energy = 0 ∷ 11 ∷ 1 ∷ 6 ∷ 1 ∷ 0 ∷ 0 ∷ 0 ∷ 125 ∷ 0 ∷ 1 ∷ 17
 abbrev tillage : List ℕ
 tillage = 0 ∷ 11 ∷ 1 ∷ 9 ∷ 1 ∷ 2 ∷ 3 ∷ 0 ∷ 10 ∷ 0 ∷ 0 ∷ 0 ∷ 100 ∷ []
 
+-- cows of 600 kg in the third region, half of the year's intake
+abbrev grazing : List ℕ
+grazing = 0 ∷ 8 ∷ 1 ∷ 10 ∷ 3 ∷ 1 ∷ 2 ∷ 88 ∷ 19 ∷ 136 ∷ []
+
 abbrev close : ℕ → List ℕ
 close count = 0 ∷ 4 ∷ 1 ∷ 8 ∷ 0 ∷ count ∷ []
 
@@ -47,13 +51,14 @@ abbrev entry : ℕ → ℕ → List ℕ
 entry number code = 0 ∷ 0 ∷ 0 ∷ 0 ∷ 0 ∷ 0 ∷ 0 ∷ number ∷ code ∷ []
 
 abbrev damaged : List ℕ
-damaged = joined (farm ∷ heading 1 ∷ ration 31 ∷ ration 0 ∷ energy ∷ heading 2 ∷ ration 28 ∷ tillage ∷ close 9 ∷ farm ∷ [])
+damaged = joined (farm ∷ heading 1 ∷ ration 31 ∷ ration 0 ∷ energy ∷ heading 2 ∷ ration 28 ∷ grazing ∷ tillage ∷ close 9 ∷ farm ∷ [])
 
 abbrev clean : List ℕ
 clean = joined (farm ∷ heading 1 ∷ ration 31 ∷ energy ∷ tillage ∷ close 5 ∷ [])
 
--- it is saved, what salvaged-accepted and heading-kept ask: a dropped heading takes its ration along, not the farm's change of tillage
-pub damaged-saved : salvageOf damaged 64 27 ≡ saving clean (joined (entry 3 7 ∷ entry 5 2 ∷ entry 6 6 ∷ []))
+-- it is saved, what salvaged-accepted and heading-kept ask: a dropped heading takes its ration and its grazing along, not the farm's
+-- change of tillage
+pub damaged-saved : salvageOf damaged 64 36 ≡ saving clean (joined (entry 3 7 ∷ entry 5 2 ∷ entry 6 6 ∷ entry 7 6 ∷ []))
 unfolding salvageOf answering found recordsOf recordsBy front valAt droppedBy first judge accepted sortOf table size valuesAt firstBad inPlace
     listOf farmAmong be bytesOf recordBytes
 damaged-saved = refl
@@ -64,7 +69,7 @@ unfolding recordsOf recordsBy front valAt underHeadings details sortOf
 detail-kept = refl
 
 -- a byte less of room
-pub damaged-16 : (salvageOf damaged 63 27 ≡ refusing 16) × (salvageOf damaged 64 26 ≡ refusing 16)
+pub damaged-16 : (salvageOf damaged 63 36 ≡ refusing 16) × (salvageOf damaged 64 35 ≡ refusing 16)
 unfolding salvageOf answering found recordsOf recordsBy front valAt droppedBy first judge accepted sortOf table size valuesAt firstBad inPlace
     listOf farmAmong be bytesOf recordBytes
 damaged-16 = (refl, refl)

@@ -25,7 +25,7 @@ unlisted (e ∷ es) n [] = []
 unlisted (e ∷ es) n (x ∷ xs) = pick (eqb (e .number) n) (unlisted es (n + 1) xs) (x ∷ unlisted (e ∷ es) (n + 1) xs)
 
 -- why r is listed with the code c, a being the account of the kept records before it: it would get c, one of 2 to 4 or 6 to 11; or c is 6, r is
--- a record of kind byte 3, 4 or 5, and the last record of kind byte 2 before it is listed
+-- a record of kind byte 3, 4, 5 or 10, and the last record of kind byte 2 before it is listed
 abbrev pub Reason : Account → Bool → List ℕ → ℕ → Type 0
 Reason a lost r c =
     ((wouldGet a r ≡ c) × (oneOf 2 4 c || oneOf 6 11 c ≡ true)) ⊎ ((c ≡ 6) × (lost ≡ true) × (ofGroupKind (kindOf r) ≡ true))
@@ -51,7 +51,7 @@ unfoldable pub underHeadings : List ℕ → List (List ℕ) → List Under
 underHeadings h [] = []
 underHeadings h (r ∷ rs) = record { detail = r; heading = h } ∷ underHeadings (pick (eqb (kindOf r) 2) r h) rs
 
--- those of kinds 3 to 5
+-- those of kinds 3 to 5 and 10
 unfoldable pub details : List Under → List Under
 details [] = []
 details (u ∷ us) = pick (ofGroupKind (kindOf (u .detail))) (u ∷ details us) (details us)

@@ -27,7 +27,7 @@ wouldGet a r = first (refusals a r)
 abbrev pub oneOf : ℕ → ℕ → ℕ → Bool
 oneOf lowest highest n = leb lowest n && leb n highest
 
--- "kind 3, 4 and 5": the kinds that are details of a group
+-- "kind 3, 4 and 5", and kind 10 (W10: "It needs a cattle heading, with which W5 drops it."): the kinds that are details of a group
 abbrev pub ofGroupKind : ℕ → Bool
 ofGroupKind k = bySort (sortOf k) false false true false false
 

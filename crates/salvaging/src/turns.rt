@@ -24,7 +24,7 @@ pub(crate) struct Turn {
 fn of_group(kind: u8) -> bool
     ensures { λ r. ⌜ r ≡ ofGroupKind kind ⌝ }
 {
-    (3 <= kind) & (kind <= 5)
+    ((3 <= kind) & (kind <= 5)) | (kind == 10)
 }
 
 // The number that drops a record of a kind byte that would get a code; 0 where it is not dropped.

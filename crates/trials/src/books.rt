@@ -16,6 +16,7 @@ use account::Subtotal;
 use book::Answer;
 use book::State;
 use grams::units::Co2;
+use grams::units::Grazed;
 use grams::units::N2o;
 use libc::STDOUT_FILENO;
 ghost use Prim.Native.Nat.{_≤_};
@@ -42,7 +43,7 @@ struct Stepped {
     w: usize,
 }
 
-fn heading_of(v: [u64; 22]) -> Heading {
+fn heading_of(v: [u64; 24]) -> Heading {
     Heading {
         group: (v[3] % 65536) as u16,
         class: (v[4] % 256) as u8,
@@ -50,45 +51,48 @@ fn heading_of(v: [u64; 22]) -> Heading {
     }
 }
 
-fn days_of(v: [u64; 22]) -> Days {
+fn days_of(v: [u64; 24]) -> Days {
     Days {
         enteric: (v[6] % 65536) as u16,
         nitrogen: (v[7] % 65536) as u16,
         pig: (v[8] % 65536) as u16,
+        grazed: (v[9] % 65536) as u32,
     }
 }
 
-fn subtotal_of(v: [u64; 22]) -> Subtotal {
-    let n2o = N2o::of(v[10]);
+fn subtotal_of(v: [u64; 24]) -> Subtotal {
+    let n2o = N2o::of(v[11]);
     Subtotal {
-        ch4: v[9],
+        ch4: v[10],
         n2o: n2o,
-        excreted: v[11],
-        land: v[12],
+        excreted: v[12],
+        land: v[13],
     }
 }
 
-fn sums_of(v: [u64; 22]) -> Figures {
-    let n2o = N2o::of(v[14]);
-    let co2 = Co2::of(v[15]);
+fn sums_of(v: [u64; 24]) -> Figures {
+    let n2o = N2o::of(v[15]);
+    let co2 = Co2::of(v[16]);
+    let grazing = Grazed::of(v[19]);
     Figures {
-        ch4: v[13],
+        ch4: v[14],
         n2o: n2o,
         co2: co2,
-        excreted: v[16],
-        land: v[17],
+        excreted: v[17],
+        land: v[18],
+        grazing: grazing,
     }
 }
 
-fn refusal_of(v: [u64; 22]) -> Refusal {
+fn refusal_of(v: [u64; 24]) -> Refusal {
     Refusal {
-        code: (v[18] % 256) as u8,
-        accepted: (v[19] % 65536) as u16,
-        field: (v[20] % 256) as u8,
+        code: (v[20] % 256) as u8,
+        accepted: (v[21] % 65536) as u16,
+        field: (v[22] % 256) as u8,
     }
 }
 
-fn account_of(v: [u64; 22]) -> Account {
+fn account_of(v: [u64; 24]) -> Account {
     let heading = heading_of(v);
     let days = days_of(v);
     let subtotal = subtotal_of(v);
@@ -107,7 +111,7 @@ fn account_of(v: [u64; 22]) -> Account {
 }
 
 pub(crate) fn read_state(line: &[u8], at: usize) -> Resumed {
-    let mut values = [0u64; 22];
+    let mut values = [0u64; 24];
     let mut held = [0u8; 27];
     let after = read_numbers(line, at, &mut values);
     let h = read_bytes(line, after, &mut held);
@@ -115,7 +119,7 @@ pub(crate) fn read_state(line: &[u8], at: usize) -> Resumed {
     let state = State {
         account: account,
         held: held,
-        count: values[21] as usize,
+        count: values[23] as usize,
     };
     Resumed {
         state: state,
@@ -136,6 +140,7 @@ fn put_head(out: &mut [u8], at: usize, a: Account) -> usize {
         d.enteric as u64,
         d.nitrogen as u64,
         d.pig as u64,
+        d.grazed as u64,
     ];
     put_words(out, at, &values)
 }
@@ -149,7 +154,15 @@ fn put_subtotal(out: &mut [u8], at: usize, s: Subtotal) -> usize {
 fn put_sums(out: &mut [u8], at: usize, f: Figures) -> usize {
     let n2o = f.n2o;
     let co2 = f.co2;
-    let values = [f.ch4, n2o.grams(), co2.word(), f.excreted, f.land];
+    let grazing = f.grazing;
+    let values = [
+        f.ch4,
+        n2o.grams(),
+        co2.word(),
+        f.excreted,
+        f.land,
+        grazing.grams(),
+    ];
     put_words(out, at, &values)
 }
 

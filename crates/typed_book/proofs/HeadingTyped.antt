@@ -10,7 +10,7 @@ use borrow.Author.Tests.{eq-eqb, ne-eqb, eqb-true, eqb-false, leb-true, not-true
 use lib.ListN.{length, getD}
 use lib.Dec.{eqb, leb, ltb}
 use Rattle.base.specs.Choice.{pick, oneMore}
-use Rattle.base.proofs.Tests.{and-l, and-r, of-choice, or-l, or-r}
+use Rattle.base.proofs.Tests.{and-l, and-r, of-choice, or-l, or-r, or-cases}
 use Rattle.codec.specs.Table.{lastKind}
 use Rattle.codec.specs.Codec.{recordBytes}
 use Rattle.account.specs.declared.Account.{Account}
@@ -44,10 +44,20 @@ use Rattle.typed_book.specs.Headings.{Mark, none, unknown, heading, mark
 
 -- ---- kinds
 
+-- 3 to 5, or 10
+grouped-kinds : (k : ℕ) → inGroup k ≡ true → ((3 ≤ k) × (k ≤ 5)) ⊎ (k ≡ 10)
+grouped-kinds k g =
+    ⊎-elim (λ (t : leb 3 k && leb k 5 ≡ true). inl (leb-true 3 k (and-l (leb 3 k) (leb k 5) t), leb-true k 5 (and-r (leb 3 k) (leb k 5) t)))
+    (λ (t : eqb k 10 ≡ true). inr (eqb-true k 10 t)) (or-cases (leb 3 k && leb k 5) (eqb k 10) g)
+
+grouped-most : (k : ℕ) → inGroup k ≡ true → (3 ≤ k) × (k ≤ lastKind)
+grouped-most k g =
+    ⊎-elim (λ (b : (3 ≤ k) × (k ≤ 5)). (omega (arith, b .0), omega (arith, b .1))) (λ (e : k ≡ 10). (omega arith, omega arith)) (grouped-kinds k g)
+
 group-no-head : (k : ℕ) → inGroup k ≡ true → (eqb k 2 ≡ false) × (mayHead k ≡ false)
 group-no-head k g =
-    let low = leb-true 3 k (and-l (leb 3 k) (leb k 5) g) in
-    let high = leb-true k 5 (and-r (leb 3 k) (leb k 5) g) in
+    let low : 3 ≤ k = grouped-most k g .0 in
+    let high : k ≤ lastKind = grouped-most k g .1 in
     let two : eqb k 2 ≡ false = ne-eqb k 2 (λ (e : k ≡ 2). omega arith) in
     (two, rw (two, le-ltb k 1 (omega arith), le-ltb lastKind k (omega arith)))
 
@@ -65,11 +75,10 @@ needs-class : (a : Account) (k : ℕ) (v : List ℕ) → (weigh a k v .account .
 unfolding inPlace
 needs-class a k v h g z =
     let place = passed a k v (weighed-passes a k v h) .place in
-    let low = leb-true 3 k (and-l (leb 3 k) (leb k 5) g) in
-    let high = leb-true k 5 (and-r (leb 3 k) (leb k 5) g) in
+    let low : 3 ≤ k = grouped-most k g .0 in
     let one : eqb k 1 ≡ false = ne-eqb k 1 (λ (e : k ≡ 1). omega arith) in
     let serves = and-l (headingServes (a .heading .class) k) _ (rw one at place) in
-    no-class k low high (rw z at serves)
+    no-class k (grouped-kinds k g) (rw z at serves)
   where
     zero-one : false ≡ true → ⊥
     zero-one q = let z : _≡_ {A = ℕ} 0 1 = cc in omega arith
@@ -79,13 +88,18 @@ needs-class a k v h g z =
     by-tests false true f q = zero-one q
     by-tests false false f q = zero-one (f refl)
 
-    no-class : (k : ℕ) → 3 ≤ k → k ≤ 5 → headingServes 0 k ≡ true → ⊥
-    no-class k low high q =
-        by-tests (eqb k 3 || eqb k 4) (eqb k 5)
-        (λ f. let three = eqb-false k 3 (or-l (eqb k 3) (eqb k 4) f) in let four = eqb-false k 4 (or-r (eqb k 3) (eqb k 4) f) in eq-eqb k 5 (only k low high three four)) q
+    no-class : (k : ℕ) → ((3 ≤ k) × (k ≤ 5)) ⊎ (k ≡ 10) → headingServes 0 k ≡ true → ⊥
+    no-class k b q =
+        by-tests (eqb k 3 || (eqb k 4 || eqb k 10)) (eqb k 5)
+        (λ f.
+        let rest = or-r (eqb k 3) (eqb k 4 || eqb k 10) f in
+        let three = eqb-false k 3 (or-l (eqb k 3) (eqb k 4 || eqb k 10) f) in
+        let four = eqb-false k 4 (or-l (eqb k 4) (eqb k 10) rest) in
+        eq-eqb k 5 (only k three four (eqb-false k 10 (or-r (eqb k 4) (eqb k 10) rest)) b)) q
       where
-        only : (k : ℕ) → 3 ≤ k → k ≤ 5 → (k ≡ 3 → ⊥) → (k ≡ 4 → ⊥) → k ≡ 5
-        only k low high three four = omega arith
+        only : (k : ℕ) → (k ≡ 3 → ⊥) → (k ≡ 4 → ⊥) → (k ≡ 10 → ⊥) → ((3 ≤ k) × (k ≤ 5)) ⊎ (k ≡ 10) → k ≡ 5
+        only k three four ten (inl b) = omega (arith, b .0, b .1)
+        only k three four ten (inr e) = absurd (ten e)
 
 -- ---- what is kept from line to line
 

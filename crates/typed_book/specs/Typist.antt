@@ -28,7 +28,7 @@ use Rattle.typed_book.specs.declared.Entered.{Entered}
 
 -- a detail of the group, which needs a heading
 abbrev pub inGroup : ℕ → Bool
-inGroup k = leb 3 k && leb k 5
+inGroup k = (leb 3 k && leb k 5) || eqb k 10
 
 -- a heading, or none of the book's kinds: it may have been a heading
 abbrev pub mayHead : ℕ → Bool

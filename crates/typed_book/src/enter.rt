@@ -30,7 +30,7 @@ fn first_failed(failed: u64, number: u64) -> u64
 fn in_group(kind: u64) -> bool
     ensures { λ r. ⌜ r ≡ inGroup kind ⌝ }
 {
-    (3 <= kind) & (kind <= 5)
+    ((3 <= kind) & (kind <= 5)) | (kind == 10)
 }
 
 fn may_head(kind: u64) -> bool

@@ -39,6 +39,15 @@ pub by-hectares : lineOf (ascii "Tillage 1 2 3 10 50.00") ≡ record { said = Re
 unfolding lineOf kindOf kindTable namedFrom valuesFrom leadingOf nthWord sameText lowered amountOf numberFrom decimalsTable nthPart indexOf indexAfter
 by-hectares = refl
 
+-- half of the year's intake, in hundredths of a per cent or in per cent
+pub grazing : lineOf (ascii "grazing 3 1 600 5000") ≡ record { said = Record; entry = entry 10 (3 ∷ 1 ∷ 600 ∷ 5000 ∷ []) }
+unfolding lineOf kindOf kindTable namedFrom valuesFrom leadingOf nthWord sameText lowered amountOf numberFrom decimalsTable nthPart indexOf indexAfter
+grazing = refl
+
+pub by-percent : lineOf (ascii "10 3 1 600 50.00") ≡ record { said = Record; entry = entry 10 (3 ∷ 1 ∷ 600 ∷ 5000 ∷ []) }
+unfolding lineOf kindOf kindTable namedFrom valuesFrom leadingOf nthWord sameText lowered amountOf numberFrom decimalsTable nthPart indexOf indexAfter
+by-percent = refl
+
 pub no-kind : lineOf (ascii "cow 1") ≡ noRecord (Wrong 0 1)
 unfolding lineOf kindOf kindTable namedFrom valuesFrom leadingOf nthWord sameText lowered amountOf numberFrom decimalsTable nthPart indexOf indexAfter
 no-kind = refl

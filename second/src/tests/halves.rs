@@ -8,7 +8,7 @@ use crate::halves::{PLACES, RECORDS};
 use crate::trial::Case;
 
 fn figures(ch4: u64, n2o: u64, co2: i64, excreted: u64, land: u64) -> Figures {
-    Figures { ch4, n2o, co2, excreted, land }
+    Figures { ch4, n2o, co2, excreted, land, grazing: 0 }
 }
 
 #[test]
@@ -55,6 +55,9 @@ fn worked_halves() {
         figures(0, 0, -248, 0, 0),
         figures(0, 0, 82, 0, 0),
         figures(0, 0, 248, 0, 0),
+        // Grazing 28.5, 9.5.
+        Figures { grazing: 28, ..Figures::default() },
+        Figures { grazing: 10, ..Figures::default() },
     ];
     for ((class, head, kind, values), wanted) in RECORDS.into_iter().zip(wanted) {
         assert_eq!(adds(&under(class, head), kind, values), wanted, "{kind} {values:?}");

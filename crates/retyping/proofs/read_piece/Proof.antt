@@ -4,6 +4,7 @@ use mathlib.Core.Path.{ap}
 use native.Mathlib.Omega.{arith}
 use borrow.Author.Needs.{needs}
 use lib.ListN.{length, replicate, length-replicate, length-take}
+use Rattle.codec.specs.Table.{linesMost}
 use Rattle.retyping.proofs.Steps.{all-read, first-read}
 use Rattle.retyping.proofs.read_piece.Statement.{statement}
 use Rattle.retyping.proofs.read_piece.Tie as tie
@@ -19,7 +20,7 @@ read-piece-spec =
     let c5 = c3 .before .before in
     let a = c5 .args in
     let f = c .before .feed .ensures in (
-      all-read (a .state) (a .n) (a .book .now) (replicate 100 0) (length-replicate {A = ℕ} 100 0)
+      all-read (a .state) (a .n) (a .book .now) (replicate linesMost 0) (length-replicate {A = ℕ} linesMost 0)
           (c3 .if1 .taken) (f .0),
       f .1 .1 .0,
     ))
@@ -33,7 +34,7 @@ read-piece-spec =
     let a = c6 .args in
     let f = c .before .feed2 .ensures in
     let p = c3 .first-of .ensures in (
-      first-read (a .state) (a .n) (a .book .now) (replicate 100 0) (length-replicate {A = ℕ} 100 0)
+      first-read (a .state) (a .n) (a .book .now) (replicate linesMost 0) (length-replicate {A = ℕ} linesMost 0)
           (c4 .if1 .left) p (f .0),
       omega (arith, f .1 .1 .0, ap length p, length-take (a .n) (a .book .now)),
     )))

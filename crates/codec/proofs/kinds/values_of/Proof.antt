@@ -18,7 +18,8 @@ values-of-spec =
     (λ c. rw (c .match .keys7))
     (λ c. rw (c .match .keys8))
     (λ c. rw (c .match .keys9))
+    (λ c. rw (c .match .keys10))
     (λ c.
     let r = c .match .rest in
     let s = r .0 .0 .0 .0 in
-    other-kind _ (s .0 .0 .0 .0 .1) (s .0 .0 .0 .1) (s .0 .0 .1) (s .0 .1) (s .1) (r .0 .0 .0 .1) (r .0 .0 .1) (r .0 .1) (r .1)))
+    other-kind _ (s .0 .0 .0 .0 .0 .1) (s .0 .0 .0 .0 .1) (s .0 .0 .0 .1) (s .0 .0 .1) (s .0 .1) (s .1) (r .0 .0 .0 .1) (r .0 .0 .1) (r .0 .1) (r .1)))

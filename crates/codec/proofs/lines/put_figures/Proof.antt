@@ -1,4 +1,4 @@
--- `codec::lines::put_figures` meets its contract: five numbers.
+-- `codec::lines::put_figures` meets its contract: six numbers.
 -- Assumes nothing.
 use mathlib.Core.Path.{refl}
 use native.Mathlib.Omega.{arith}
@@ -20,4 +20,6 @@ put-figures-spec =
     (λ c. omega arith)
     (λ c κs. omega arith)
     (λ c. omega arith)
-    (λ c. rw (c .before .before .put85 .ensures, c .before .before .before .before .before .before .put84 .ensures, c .before .before .before .before .before .before .before .before .before .before .put83 .ensures, c .before .before .before .before .before .before .before .before .before .before .before .before .before .before .put82 .ensures, c .before .before .before .before .before .before .before .before .before .before .before .before .before .before .before .before .before .before .put8 .ensures) refl))
+    (λ c κs. omega arith)
+    (λ c. omega arith)
+    (λ c. rw (c .before .before .put86 .ensures, c .before .before .before .before .before .before .put85 .ensures, c .before .before .before .before .before .before .before .before .before .before .put84 .ensures, c .before .before .before .before .before .before .before .before .before .before .before .before .before .before .put83 .ensures, c .before .before .before .before .before .before .before .before .before .before .before .before .before .before .before .before .before .before .put82 .ensures, c .before .before .before .before .before .before .before .before .before .before .before .before .before .before .before .before .before .before .before .before .before .before .put8 .ensures) refl))

@@ -18,32 +18,41 @@ counted c grams e h = rw e (within-grams (pos grams) 4096 h)
 returns : tie.Need-returns
 unfolding co2eOf
 returns c =
-    rw (c .before .before .before .enum-told .given .1, ← c .before .before .grams .ensures)
-    (c .plus .ensures ∙ ap (plusCo2 (c .before .before .before .before .before .args .co2)) (c .before .of .ensures))
+    rw (c .before .before .before .enum-told .given .1, ← c .before .before .grams2 .ensures, ← c .before .before .before .before .before .grams .ensures)
+    (c .plus .ensures ∙ ap (plusCo2 (c .before .before .before .before .before .before .args .co2)) (c .before .of .ensures))
 
 returns-2 : tie.Need-returns-2
 unfolding co2eOf
 returns-2 c =
-    rw (c .before .before .before .enum-told2 .given .1, ← c .before .before .grams2 .ensures)
-    (c .plus2 .ensures ∙ ap (plusCo2 (c .before .before .before .before .before .args .co2)) (c .before .of2 .ensures))
+    rw (c .before .before .before .enum-told2 .given .1, ← c .before .before .grams3 .ensures, ← c .before .before .before .before .before .grams .ensures)
+    (c .plus2 .ensures ∙ ap (plusCo2 (c .before .before .before .before .before .before .args .co2)) (c .before .of2 .ensures))
 
 pub co2e-spec : {M : Type 1} → statement M
 co2e-spec =
     tie.close
     (tie.spec
-    (λ c. search needs)
-    (λ c. search needs)
     (λ c κs. tt)
     (λ c. search needs)
     (λ c. search needs)
     (λ c κs. tt)
-    (λ c κs. let p = c .before .before .before .before .pre in (p .co2-in, counted _ _ (c .of .ensures) (omega arith)))
+    (λ c. omega (arith, c .grams2 .ensures, c .before .before .before .before .pre .n2o-in))
+    (λ c. omega (arith, c .grams2 .ensures, c .before .before .before .before .pre .n2o-in, c .before .before .before .before .pre .ch4-in))
+    (λ c. let p = c .before .before .before .before .pre in omega (arith, c .grams2 .ensures, c .before .before .before .grams .ensures, p .n2o-in, p .ch4-in, p .grazing-in))
+    (λ c κs. tt)
+    (λ c κs.
+    let d = c .before in
+    let p = d .before .before .before .before .pre in
+    (p .co2-in, counted _ _ (c .of .ensures) (omega (arith, d .grams2 .ensures, d .before .before .before .grams .ensures, p .n2o-in, p .ch4-in, p .grazing-in))))
     (λ c. search needs)
     (λ c. search needs)
     (λ c κs. tt)
-    (λ c. search needs)
-    (λ c. search needs)
+    (λ c. omega (arith, c .grams3 .ensures, c .before .before .before .before .pre .n2o-in))
+    (λ c. omega (arith, c .grams3 .ensures, c .before .before .before .before .pre .n2o-in, c .before .before .before .before .pre .ch4-in))
+    (λ c. let p = c .before .before .before .before .pre in omega (arith, c .grams3 .ensures, c .before .before .before .grams .ensures, p .n2o-in, p .ch4-in, p .grazing-in))
     (λ c κs. tt)
-    (λ c κs. let p = c .before .before .before .before .pre in (p .co2-in, counted _ _ (c .of2 .ensures) (omega arith)))
+    (λ c κs.
+    let d = c .before in
+    let p = d .before .before .before .before .pre in
+    (p .co2-in, counted _ _ (c .of2 .ensures) (omega (arith, d .grams3 .ensures, d .before .before .before .grams .ensures, p .n2o-in, p .ch4-in, p .grazing-in))))
     returns
     returns-2)

@@ -7,4 +7,5 @@ subject-spec =
     tie.close
     (tie.spec
     (λ c. rw (c .if1 .taken))
-    (λ c. rw (c .if1 .left)))
+    (λ c. rw (c .before .if1 .left, c .if2 .taken))
+    (λ c. rw (c .before .if1 .left, c .if2 .left)))

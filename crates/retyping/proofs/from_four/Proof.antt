@@ -1,0 +1,17 @@
+-- The values one by one, and zeros. Assumes nothing.
+use mathlib.Core.Path.{_≡_}
+use borrow.Author.Needs.{needs}
+use lib.ListN.{length}
+use Rattle.retyping.proofs.Steps.{in-places}
+use Rattle.retyping.proofs.from_four.Statement.{statement}
+use Rattle.retyping.proofs.from_four.Tie as tie
+
+pub from-four-spec : {M : Type 1} → statement M
+from-four-spec =
+    tie.close
+    (tie.spec
+    (λ c. search needs)
+    (λ c. search needs)
+    (λ c. search needs)
+    (λ c. search needs)
+    (λ c. let l : length (c .args .t1) ≡ 4 = search needs in in-places 4 (c .args .t1) l))
