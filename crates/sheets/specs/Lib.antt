@@ -1,0 +1,5 @@
+pub mod Numbers
+pub mod Rows
+pub mod Sheets
+pub mod Refusals
+pub mod Code
