@@ -5,8 +5,8 @@ use native.Mathlib.Nat.{zero-add}
 use mathlib.Core.Bool.{Bool, true, false}
 use mathlib.Core.Path.{_≡_, refl, sym, ap, _∙_}
 use mathlib.Core.List.{List, [], _∷_, _++_}
-use lib.ListN.{length, take, drop, length-append, length-drop}
-use lib.Seq.{drop-drop, take-at}
+use lib.ListN.{length, drop, length-append, length-drop}
+use lib.Seq.{drop-drop}
 use Rattle.base.specs.Choice.{pick}
 use Rattle.base.proofs.Tests.{of-choice}
 use Rattle.printing.specs.Decimal.{Put}
@@ -28,10 +28,6 @@ use Rattle.sheets.proofs.Writing.{Run, writes-all}
 pub row-of : (s : List ℕ) (k : ℕ) (vs : List ℕ) → k ≡ kindAt s → vs ≡ values (columns k) (drop 3 s) → rowText (columns k) vs ≡ lineRow s
 unfolding lineRow
 row-of s k vs e f = rw (f, e)
-
--- what stands at the front of a buffer
-pub put-front : {xs zs s : List ℕ} {r : ℕ} → Put xs zs 0 s r → take r zs ≡ s
-put-front {xs} {zs} {s} {r} p = rw (p .text) (take-at s (drop r xs) r (omega (arith, p .next)))
 
 pub no-line : (s : List ℕ) → isLine s ≡ false → lineItem s ≡ wrong 23
 unfolding lineItem

@@ -119,6 +119,15 @@ written-fits (made t) room n =
     (λ b e. let z : _≡_ {A = ℕ} 0 1 = cc in absurd (omega arith))
 written-fits (refused c r) room n = λ e. omega arith
 
+-- what is written lies in the buffer
+pub written-within : (m : Made) (room n : ℕ) → answer m room ≡ Written n → n ≤ room
+unfolding answer
+written-within (made t) room n =
+    of-choice (λ (a : Answer). a ≡ Written n → n ≤ room) (leb (length t) room)
+    (λ b e. let same : length t ≡ n = cc in omega (arith, leb-true (length t) room b))
+    (λ b e. let z : _≡_ {A = ℕ} 0 1 = cc in absurd (omega arith))
+written-within (refused c r) room n = λ e. let z : _≡_ {A = ℕ} 0 1 = cc in absurd (omega arith)
+
 -- what the plan promises where it is to be written
 pub record Promised (m : Made) (room : ℕ) : Type 0 where
   pub all : m ≡ made (madeOf m)

@@ -3,6 +3,7 @@ pub mod numbers; // numbers.rt: numbers read off a text
 pub mod rows; // rows.rt: a row of columns read off a text
 pub mod lines; // lines.rt: a line record from its values
 pub mod texts; // texts.rt: its row as text
+pub mod remarks; // remarks.rt: what is told of a sheet that is read
 
 use base::rest_of;
 use lines::Total;

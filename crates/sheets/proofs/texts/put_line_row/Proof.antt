@@ -1,7 +1,7 @@
 use mathlib.Core.Path.{_≡_, _∙_}
 use native.Mathlib.Omega.{arith}
 use Rattle.printing.proofs.Puts.{put-length}
-use Rattle.sheets.proofs.Exporting.{put-front}
+use Rattle.printing.proofs.Sayings.{text-at-start}
 use borrow.Author.Needs.{needs}
 use Rattle.sheets.proofs.texts.put_line_row.Statement.{statement}
 use Rattle.sheets.proofs.texts.put_line_row.Tie as tie
@@ -9,13 +9,13 @@ use Rattle.sheets.proofs.texts.put_line_row.Tie as tie
 room : tie.Need-put-text-requires
 room c κs =
     let row = c .before .before .before .before .put-roomy .ensures in
-    rw (c .first-of .ensures ∙ put-front row) (c .before .before .before .before .before .before .before .before .pre .1)
+    rw (c .first-of .ensures ∙ text-at-start row) (c .before .before .before .before .before .before .before .before .pre .1)
 
 returns : tie.Need-returns
 returns c =
     let first = c .before .before .before in
     let row = first .before .before .before .before .put-roomy .ensures in
-    rw (first .first-of .ensures ∙ put-front row) at (c .before .before .put-text .ensures)
+    rw (first .first-of .ensures ∙ text-at-start row) at (c .before .before .put-text .ensures)
 
 pub put-line-row-spec : {M : Type 1} → statement M
 put-line-row-spec =
