@@ -1,7 +1,7 @@
 /* The proved reader against the plain one, on the same books, in one process.
 
    bench time ROUNDS DETAILS PART..    checks that both agree, then takes their times in turns and prints the best of each
-   bench count DETAILS BOOK PART       runs each once on one book (m, 3..7 or 9), for an instruction count
+   bench count DETAILS BOOK PART       runs each once on one book (m, 3..7, 9 or 10), for an instruction count
    bench stack DETAILS                 prints the stack that each uses
 
    A book is read in parts of PART bytes; 0 stands for the whole book at once, by herd_desk itself. */
@@ -53,7 +53,7 @@ static void put(struct book *b, unsigned width, uint64_t value) {
 }
 
 static void start_record(struct book *b, unsigned kind) {
-    static const uint8_t lengths[10] = {0, 9, 7, 10, 20, 26, 11, 6, 4, 11};
+    static const uint8_t lengths[11] = {0, 9, 7, 10, 20, 26, 11, 6, 4, 11, 8};
     put(b, 2, lengths[kind]);
     put(b, 1, 1);
     put(b, 1, kind);
@@ -101,6 +101,11 @@ static void put_detail(struct book *b, unsigned kind) {
         put(b, 1, 1 + below(6));
         put(b, 2, 1 + below(100));
         put(b, 4, below(10000001));
+    } else if (kind == 10) {
+        put(b, 1, 1 + below(7));
+        put(b, 1, 1 + below(3));
+        put(b, 2, below(2001));
+        put(b, 2, below(1001));
     } else {
         put(b, 4, below(10000001));
     }
@@ -113,7 +118,8 @@ static void put_heading(struct book *b, unsigned group, unsigned class) {
     put(b, 2, below(20001));
 }
 
-/* Groups of ten records under a heading: one kind alone, or where `kind` is 0 kinds 3 to 7 as the heading allows; kind 9 has a book of its own. */
+/* Groups of ten records under a heading: one kind alone, or where `kind` is 0 kinds 3 to 7 as the heading allows;
+   kinds 9 and 10 have books of their own. */
 static struct book make_book(const char *name, unsigned kind, unsigned details) {
     struct book b = {name, malloc(LARGE), 0, 0};
     unsigned class = 1;
@@ -239,15 +245,20 @@ static void print_stacks(const struct book *book) {
 }
 
 static struct book book_named(const char *name, unsigned details) {
-    static const char *names[] = {"mixed", "", "", "kind 3", "kind 4", "kind 5", "kind 6", "kind 7", "", "kind 9"};
-    unsigned kind = name[0] >= '3' && name[0] <= '9' && name[0] != '8' ? (unsigned)(name[0] - '0') : 0;
-    return make_book(names[kind], kind, details);
+    static const char *names[11] = {"mixed", NULL, NULL, "kind 3", "kind 4", "kind 5", "kind 6", "kind 7", NULL, "kind 9", "kind 10"};
+    int kind = atoi(name);
+    if (kind < 0 || kind > 10 || names[kind] == NULL) {
+        fprintf(stderr, "bench: there is no book %s\n", name);
+        exit(2);
+    }
+    return make_book(names[kind], (unsigned)kind, details);
 }
 
 /* Every book in each of the parts, whose words end with NULL. */
 static void time_all(int rounds, unsigned details, char **parts) {
-    for (const char *name = "m345679"; *name; name++) {
-        struct book book = book_named(name, details);
+    static const char *names[] = {"m", "3", "4", "5", "6", "7", "9", "10"};
+    for (size_t i = 0; i < sizeof names / sizeof *names; i++) {
+        struct book book = book_named(names[i], details);
         for (char **part = parts; *part; part++) {
             compare_times(&book, (size_t)atoi(*part), rounds);
         }

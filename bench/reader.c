@@ -4,13 +4,13 @@
 
 #include <string.h>
 
-enum { MOST_RECORDS = 4096, DETAIL_LINE = 46, TOTAL_LINE = 54, SUBTOTAL = 16 };
+enum { MOST_RECORDS = 4096, DETAIL_LINE = 54, TOTAL_LINE = 62, SUBTOTAL = 16 };
 
 /* A fault is a refusal's code with its field above it; no fault is 0. */
 #define FAULT(code) (code)
 #define OUT_OF_RANGE(field) (7 | (field) << 8)
 
-static const uint8_t lengths[10] = {0, 9, 7, 10, 20, 26, 11, 6, 4, 11};
+static const uint8_t lengths[11] = {0, 9, 7, 10, 20, 26, 11, 6, 4, 11, 8};
 
 static uint64_t be16(const uint8_t *p) {
     return (uint64_t)p[0] << 8 | p[1];
@@ -31,10 +31,10 @@ static void put64(uint8_t *p, uint64_t v) {
     memcpy(p, &swapped, sizeof swapped);
 }
 
-/* Nearest whole number, a half going up. */
+/* Nearest whole number, a half going to the even one. */
 static uint64_t rounded(uint64_t n, uint64_t d) {
-    uint64_t rest = n % d;
-    return n / d + (rest >= d - rest);
+    uint64_t whole = n / d, rest = n % d;
+    return whole + (rest + (whole & 1) > d - rest);
 }
 
 /* The 2-byte fields of kinds 4 and 5: days first, the others from 0 up to their highest. */
@@ -75,7 +75,7 @@ static int heading(const struct reader *r, const uint8_t *p, struct heading *h) 
     if (group <= r->heading.group) {
         return FAULT(8);
     }
-    *h = (struct heading){(uint16_t)group, p[2], (uint16_t)head, {0, 0, 0}};
+    *h = (struct heading){(uint16_t)group, p[2], (uint16_t)head, {0, 0, 0}, 0};
     return 0;
 }
 
@@ -250,13 +250,46 @@ static int tillage(const uint8_t *p, struct figures *f) {
     return 0;
 }
 
+/* Table 2.4.6 by region and column (cows, heifers, calves), in hundredths of a tonne of CO2e per tonne of live weight and year. */
+static const uint8_t pasture_factors[7][3] = {
+    {190, 134, 116}, /* Atlantic provinces */
+    {190, 134, 116}, /* Quebec */
+    {190, 134, 116}, /* Ontario */
+    {187, 132, 115}, /* Manitoba */
+    {183, 129, 112}, /* Saskatchewan */
+    {180, 127, 110}, /* Alberta */
+    {181, 128, 111}, /* British Columbia */
+};
+
+static int grazing(const struct reader *r, const uint8_t *p, struct figures *f, uint64_t *fraction) {
+    uint64_t weight = be16(p + 2);
+    *fraction = be16(p + 4);
+    if (p[0] < 1 || p[0] > 7) {
+        return OUT_OF_RANGE(1);
+    }
+    if (p[1] < 1 || p[1] > 3) {
+        return OUT_OF_RANGE(2);
+    }
+    if (weight > 2000) {
+        return OUT_OF_RANGE(3);
+    }
+    if (*fraction > 10000) {
+        return OUT_OF_RANGE(4);
+    }
+    if (r->heading.grazed + *fraction > 10000) {
+        return FAULT(10);
+    }
+    f->grazing = rounded(pasture_factors[p[0] - 1][p[1] - 1] * weight * *fraction * r->heading.head, 1000);
+    return 0;
+}
+
 /* Version, kind, length, count and place: faults 2 to 6. */
 static int misplaced(const struct reader *r, const uint8_t *record) {
     unsigned kind = record[3], class = r->heading.class;
     if (record[2] != 1) {
         return FAULT(2);
     }
-    if (kind < 1 || kind > 9) {
+    if (kind < 1 || kind > 10) {
         return FAULT(3);
     }
     if (be16(record) != lengths[kind]) {
@@ -268,7 +301,7 @@ static int misplaced(const struct reader *r, const uint8_t *record) {
     if ((r->stage == NO_RECORD) != (kind == 1)) {
         return FAULT(6);
     }
-    if ((kind == 3 || kind == 4) && (class < 1 || class > 3)) {
+    if ((kind == 3 || kind == 4 || kind == 10) && (class < 1 || class > 3)) {
         return FAULT(6);
     }
     return kind == 5 && class != 4 ? FAULT(6) : 0;
@@ -284,6 +317,7 @@ static void put_line(uint8_t *line, unsigned length, unsigned kind, unsigned gro
     put64(line + 22, (uint64_t)f->co2);
     put64(line + 30, f->excreted);
     put64(line + 38, f->land);
+    put64(line + 46, f->grazing);
 }
 
 static enum answer refuse(struct reader *r, int fault) {
@@ -318,7 +352,7 @@ static enum answer new_group(struct reader *r, const uint8_t *p, uint8_t *line, 
         *written += size;
     }
     r->heading = next;
-    r->subtotal = (struct figures){0, 0, 0, 0, 0};
+    r->subtotal = (struct figures){0, 0, 0, 0, 0, 0};
     r->records++;
     return MORE;
 }
@@ -338,7 +372,7 @@ static enum answer close_book(struct reader *r, const uint8_t *p, uint8_t *line,
     }
     uint64_t per_ch4 = r->set == 1 ? 21 : 23, per_n2o = r->set == 1 ? 310 : 296;
     put_line(line, TOTAL_LINE - 2, 8, 0, sums);
-    put64(line + DETAIL_LINE, (uint64_t)(sums->co2 + (int64_t)(per_ch4 * sums->ch4 + per_n2o * sums->n2o)));
+    put64(line + DETAIL_LINE, (uint64_t)(sums->co2 + (int64_t)(per_ch4 * sums->ch4 + per_n2o * sums->n2o + sums->grazing)));
     *written += size + TOTAL_LINE;
     r->stage = CLOSED_BOOK;
     r->records++;
@@ -351,23 +385,26 @@ static void add(struct figures *sums, const struct figures *f) {
     sums->co2 += f->co2;
     sums->excreted += f->excreted;
     sums->land += f->land;
+    sums->grazing += f->grazing;
 }
 
-/* What the record says, by its kind; heading and close are not among them. */
-static int read_record(struct reader *r, unsigned kind, const uint8_t *p, struct figures *f, uint64_t *days) {
+/* What the record says, by its kind; heading and close are not among them. `more` is what a heading sums: days, or a fraction. */
+static int read_record(struct reader *r, unsigned kind, const uint8_t *p, struct figures *f, uint64_t *more) {
     switch (kind) {
     case 1:
         return farm(r, p);
     case 3:
-        return enteric(r, p, f, days);
+        return enteric(r, p, f, more);
     case 4:
-        return cattle(r, p, f, days);
+        return cattle(r, p, f, more);
     case 5:
-        return pig(r, p, f, days);
+        return pig(r, p, f, more);
     case 6:
         return energy(p, f);
     case 9:
         return tillage(p, f);
+    case 10:
+        return grazing(r, p, f, more);
     default:
         return soil(p, f);
     }
@@ -375,8 +412,8 @@ static int read_record(struct reader *r, unsigned kind, const uint8_t *p, struct
 
 /* One whole record whose length is 4..26. MORE: accepted, and `written` grew by its lines. FULL: nothing has changed. */
 static enum answer judge(struct reader *r, const uint8_t *record, uint8_t *line, size_t room, size_t *written) {
-    struct figures f = {0, 0, 0, 0, 0};
-    uint64_t days = 0;
+    struct figures f = {0, 0, 0, 0, 0, 0};
+    uint64_t more = 0;
     unsigned kind = record[3];
     int fault = misplaced(r, record);
     if (!fault && kind == 2) {
@@ -386,7 +423,7 @@ static enum answer judge(struct reader *r, const uint8_t *record, uint8_t *line,
         return close_book(r, record + 4, line, room, written);
     }
     if (!fault) {
-        fault = read_record(r, kind, record + 4, &f, &days);
+        fault = read_record(r, kind, record + 4, &f, &more);
     }
     if (fault) {
         return refuse(r, fault);
@@ -395,13 +432,15 @@ static enum answer judge(struct reader *r, const uint8_t *record, uint8_t *line,
         if (room < DETAIL_LINE) {
             return FULL;
         }
-        put_line(line, DETAIL_LINE - 2, kind, kind < 6 ? r->heading.group : 0, &f);
+        put_line(line, DETAIL_LINE - 2, kind, kind < 6 || kind == 10 ? r->heading.group : 0, &f);
         *written += DETAIL_LINE;
         add(&r->sums, &f);
     }
     if (kind >= 3 && kind <= 5) {
         add(&r->subtotal, &f);
-        r->heading.days[kind - 3] += (uint16_t)days;
+        r->heading.days[kind - 3] += (uint16_t)more;
+    } else if (kind == 10) {
+        r->heading.grazed += (uint16_t)more;
     }
     r->records++;
     return MORE;

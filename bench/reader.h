@@ -9,6 +9,7 @@ struct figures {
     uint64_t ch4, n2o;
     int64_t co2; /* below zero where tillage binds carbon */
     uint64_t excreted, land;
+    uint64_t grazing; /* CO2e from the start */
 };
 
 struct heading {
@@ -16,6 +17,7 @@ struct heading {
     uint8_t class;
     uint16_t head;
     uint16_t days[3]; /* of kinds 3, 4 and 5 */
+    uint16_t grazed;  /* fractions of kind 10 */
 };
 
 enum stage { NO_RECORD, OPEN, CLOSED_BOOK, REFUSED_BOOK };
@@ -26,7 +28,7 @@ struct reader {
     uint8_t set;
     uint16_t records;
     struct heading heading;
-    struct figures subtotal; /* of kinds 3 to 5 under the heading, so its CO2 stays 0 */
+    struct figures subtotal; /* of kinds 3 to 5 under the heading, so its CO2 and grazing stay 0 */
     struct figures sums;
     uint8_t code, field; /* of the refusal */
     uint8_t held_count;

@@ -8,29 +8,31 @@
 
    Every book starts from no record: nothing is kept from one call to the next, and calls may run side by side.
 
-   Lines.  A detail record (enteric, cattle nitrogen, pig, energy, soil, tillage) gives a line of 46 bytes, the close a total of 54.
-   Where a group ends, at the next heading or at the close, a subtotal of 46 bytes comes first: the heading then gives 46 bytes in
-   all, the close 100. The first heading gives nothing, and without any heading the close gives its 54 bytes alone. All numbers are
-   big-endian. They are unsigned, but for CO2 and CO2e, which are below zero where less tillage binds more carbon than all else
-   sets free: these are in two's complement, and herd_desk_signed takes them from their bytes.
+   Lines.  A detail record (enteric, cattle nitrogen, pig, energy, soil, tillage, grazing) gives a line of 54 bytes, the close a
+   total of 62. Where a group ends, at the next heading or at the close, a subtotal of 54 bytes comes first: the heading then gives
+   54 bytes in all, the close 116. The first heading gives nothing, and without any heading the close gives its 62 bytes alone.
+   All numbers are big-endian. They are unsigned, but for CO2 and CO2e, which are below zero where less tillage binds more carbon
+   than all else sets free: these are in two's complement, and herd_desk_signed takes them from their bytes.
 
-       bytes 0..1    length of what follows: 44, or 52 for the total
+       bytes 0..1    length of what follows: 52, or 60 for the total
        byte  2       version 1
-       byte  3       kind: 3 to 7 and 9 for a detail record, 16 for a subtotal, 8 for the total
+       byte  3       kind: 3 to 7, 9 and 10 for a detail record, 16 for a subtotal, 8 for the total
        bytes 4..5    group, for a subtotal that of the group that ends; 0 for kinds 6 to 9
        bytes 6..45   grams of CH4, N2O, CO2 (bytes 22..29, signed), excreted nitrogen, nitrogen for land, 8 bytes each
-       bytes 46..53  for the total: grams of CO2e (signed)
+       bytes 46..53  grams of CO2e of grazing, which is in no gas
+       bytes 54..61  for the total: grams of CO2e (signed), with that of grazing
 
-   A subtotal's grams are the sums over the group's records of kinds 3 to 5, all zero where it has none, and its CO2 is always 0;
-   energy, soil and tillage belong to the farm. The total's grams are the sums over all detail records: subtotals are not added again.
+   A subtotal's grams are the sums over the group's records of kinds 3 to 5, all zero where it has none, and its CO2 and
+   grazing are always 0; energy, soil and tillage belong to the farm. The total's grams are the sums over all detail records:
+   subtotals are not added again.
 
    Lines given before a refusal, a full buffer or a missing close stay in the buffer and are counted. Only whole lines are
    written, and a close's subtotal never without its total. Bytes of the buffer past those written are untouched.
 
-   Sizes.  A book has at most 4,096 records, a farm record and the close among them. Each detail record gives 46 bytes, and so does
-   each heading, sooner or later, by its group's subtotal. So 4,094 × 46 bytes and the total's 54 always suffice:
-   HERD_DESK_LINES_MAX. (A book without a close can have 4,095 × 46, which is 8 bytes less.) For a book of n bytes so do
-   n / 8 × 46 + 54, since neither heading nor detail record is shorter than 8 bytes.
+   Sizes.  A book has at most 4,096 records, a farm record and the close among them. Each detail record gives 54 bytes, and so does
+   each heading, sooner or later, by its group's subtotal. So 4,094 × 54 bytes and the total's 62 always suffice:
+   HERD_DESK_LINES_MAX. (A book without a close can have 4,095 × 54, which is 8 bytes less.) For a book of n bytes so do
+   n / 8 × 54 + 62, since neither heading nor detail record is shorter than 8 bytes.
 
    Pointers.  Both must be good for their lengths. NULL is fine with length 0. The two must not overlap. The book is not
    changed. Nothing is allocated, no file is touched, and every call ends.
@@ -52,14 +54,14 @@ enum {
     HERD_DESK_CLOSED = 0,               /* the book is right: it ends with its close */
     HERD_DESK_NO_SUCH_LENGTH = 1,       /* refused: a length that no record has */
     HERD_DESK_OTHER_VERSION = 2,        /* refused: another version than 1 */
-    HERD_DESK_NO_SUCH_KIND = 3,         /* refused: no such kind of record, which is 1 to 9 */
+    HERD_DESK_NO_SUCH_KIND = 3,         /* refused: no such kind of record, which is 1 to 10 */
     HERD_DESK_WRONG_LENGTH = 4,         /* refused: another length than the kind's */
     HERD_DESK_TOO_MANY_RECORDS = 5,     /* refused: more than 4,096 records */
     HERD_DESK_OUT_OF_PLACE = 6,         /* refused: a record out of its place */
     HERD_DESK_OUT_OF_RANGE = 7,         /* refused: a value out of its range */
     HERD_DESK_GROUP_NOT_ABOVE = 8,      /* refused: a group number not above that before */
     HERD_DESK_TOO_MANY_DAYS = 9,        /* refused: more than 366 days of a kind under a heading */
-    HERD_DESK_WRONG_SHARES = 10,        /* refused: cattle shares or pig parts that do not add up */
+    HERD_DESK_WRONG_SHARES = 10,        /* refused: cattle shares or pig parts that do not add up, or too much grazing under a heading */
     HERD_DESK_NITROGEN_BELOW_ZERO = 11, /* refused: more nitrogen in milk and gain than in the feed */
     HERD_DESK_WRONG_COUNT = 12,         /* refused: the close counts other records than there are before it */
     HERD_DESK_FULL = 16,                /* no room: the lines of the next record do not fit */
@@ -69,7 +71,7 @@ enum {
 
 /* The most bytes of a book, 4,096 records of 28 bytes, and room for the lines of any book. */
 #define HERD_DESK_BOOK_MAX (4096 * 28)
-#define HERD_DESK_LINES_MAX (4094 * 46 + 54)
+#define HERD_DESK_LINES_MAX (4094 * 54 + 62)
 
 uint64_t herd_desk(const uint8_t *book, size_t book_len, uint8_t *lines, size_t lines_len);
 
@@ -81,7 +83,7 @@ static inline size_t herd_desk_written(uint64_t answer) {
     return (size_t)(answer & 0xffffffff);
 }
 
-/* The grams of CO2 or CO2e at eight bytes of a line: of CO2 at line + 22, of a total's CO2e at line + 46. */
+/* The grams of CO2 or CO2e at eight bytes of a line: of CO2 at line + 22, of a total's CO2e at line + 54. */
 static inline int64_t herd_desk_signed(const uint8_t *bytes) {
     uint64_t word = 0;
     for (int i = 0; i < 8; i++) {
@@ -96,15 +98,16 @@ static inline const char *herd_desk_words(uint32_t code) {
     case HERD_DESK_CLOSED: return "closed";
     case HERD_DESK_NO_SUCH_LENGTH: return "a length that no record has: it is 4 to 26";
     case HERD_DESK_OTHER_VERSION: return "the version is not 1";
-    case HERD_DESK_NO_SUCH_KIND: return "no such kind of record: kinds are 1 to 9";
+    case HERD_DESK_NO_SUCH_KIND: return "no such kind of record: kinds are 1 to 10";
     case HERD_DESK_WRONG_LENGTH: return "a wrong length or count of values";
     case HERD_DESK_TOO_MANY_RECORDS: return "the book has 4096 records, and no more go in";
     case HERD_DESK_OUT_OF_PLACE: return "out of its place: a book begins with its one farm record; "
-                                    "enteric and cattle stand under a heading of class 1 to 3, pig under one of class 4";
+                                    "enteric, cattle and grazing stand under a heading of class 1 to 3, pig under one of class 4";
     case HERD_DESK_OUT_OF_RANGE: return "a value is out of its range";
     case HERD_DESK_GROUP_NOT_ABOVE: return "the group number must be above that of the heading before";
     case HERD_DESK_TOO_MANY_DAYS: return "more than 366 days of this kind under the heading";
-    case HERD_DESK_WRONG_SHARES: return "cattle shares must be 100.00 per cent together; a pig's volatilised and leached parts at most 1.000";
+    case HERD_DESK_WRONG_SHARES: return "cattle shares must be 100.00 per cent together, grazing fractions under a heading at most that; "
+                                    "a pig's volatilised and leached parts at most 1.000";
     case HERD_DESK_NITROGEN_BELOW_ZERO: return "more nitrogen in milk and gain than in the feed";
     case HERD_DESK_WRONG_COUNT: return "the close counts other records than there are before it; left out, the count is filled in";
     case HERD_DESK_FULL: return "no room";

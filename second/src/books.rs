@@ -5,10 +5,7 @@ use crate::feed::feed;
 use crate::figures::x_of;
 use crate::kind;
 use crate::record::{fields_of, length_of, record_of};
-use crate::state::{State, MOST_RECORDS, NO_RECORD, OPEN};
-
-/// A line buffer that holds any book's lines.
-pub const LARGE: usize = 54 * MOST_RECORDS as usize;
+use crate::state::{State, LARGE, MOST_RECORDS, NO_RECORD, OPEN};
 
 /// The state after these bytes, however many lines they give.
 pub fn after(state: &State, bytes: &[u8]) -> State {
@@ -18,6 +15,11 @@ pub fn after(state: &State, bytes: &[u8]) -> State {
 /// Days left under the heading for kind 3, 4 or 5.
 fn days_left(state: &State, kind: u8) -> u64 {
     366 - u64::from(state.heading.days[kind::days_at(kind)])
+}
+
+/// What grazing records may still take under the heading.
+fn fraction_left(state: &State) -> u64 {
+    10_000 - u64::from(state.heading.grazed)
 }
 
 /// The kinds, the close left out, that this open state can accept, of those that the dice draw.
@@ -38,6 +40,9 @@ fn kinds_allowed(dice: &Dice, state: &State) -> Vec<u8> {
         _ => &[kind::ENTERIC, kind::ENTERIC, kind::CATTLE, kind::CATTLE],
     };
     kinds.extend(details.iter().filter(|&&kind| days_left(state, kind) > 0));
+    if dice.knows(kind::GRAZING) && (1..=3).contains(&state.heading.class) {
+        kinds.extend([kind::GRAZING; 2]);
+    }
     kinds
 }
 
@@ -64,6 +69,7 @@ pub fn right_values(dice: &mut Dice, state: &State, kind: u8) -> Vec<u64> {
         }
         kind::CLOSE => v[0] = u64::from(state.records),
         kind::TILLAGE if dice.one_in(6) => half_of_tillage(dice, &mut v),
+        kind::GRAZING => v[3] = some_fraction(dice, state),
         _ => (),
     }
     v
@@ -86,6 +92,13 @@ fn some_days(dice: &mut Dice, state: &State, kind: u8) -> u64 {
     let left = days_left(state, kind).max(1);
     let most = if dice.one_in(3) { left } else { left.min(31) };
     dice.edgy(1, most)
+}
+
+/// Mostly a part of what is left, so that a heading has room for several records.
+fn some_fraction(dice: &mut Dice, state: &State) -> u64 {
+    let left = fraction_left(state);
+    let most = if dice.one_in(3) { left } else { left.min(3_000) };
+    dice.edgy(0, most)
 }
 
 fn share(dice: &mut Dice, v: &mut [u64]) {
@@ -154,7 +167,7 @@ pub fn wrong_record(dice: &mut Dice, state: &State, number: u8) -> Option<Vec<u8
     match number {
         1 => Some(bad_length(dice, state)),
         2 => Some(with_byte(dice, state, 2, &[0, 2, 3, 128, 255])),
-        3 => Some(with_byte(dice, state, 3, &[0, 11, 10, 16, 128, 255])),
+        3 => Some(with_byte(dice, state, 3, &[0, 11, 12, 16, 128, 255])),
         4 => Some(length_of_another(dice, state)),
         5 => full.then(|| any_record(dice, state)),
         _ if full => None,
@@ -204,13 +217,13 @@ fn length_of_another(dice: &mut Dice, state: &State) -> Vec<u8> {
 
 fn out_of_place(dice: &mut Dice, state: &State) -> Option<Vec<u8>> {
     let kinds: &[u8] = match (state.records, state.heading.class) {
-        (0, _) if dice.knows(kind::TILLAGE) => &[2, 3, 4, 5, 6, 7, 8, 9],
-        (0, _) => &[2, 3, 4, 5, 6, 7, 8],
-        (_, 0) => &[kind::FARM, kind::ENTERIC, kind::CATTLE, kind::PIG],
-        (_, 4) => &[kind::FARM, kind::ENTERIC, kind::CATTLE],
+        (0, _) => &[2, 3, 4, 5, 6, 7, 8, kind::TILLAGE, kind::GRAZING],
+        (_, 0) => &[kind::FARM, kind::ENTERIC, kind::CATTLE, kind::PIG, kind::GRAZING],
+        (_, 4) => &[kind::FARM, kind::ENTERIC, kind::CATTLE, kind::GRAZING],
         _ => &[kind::FARM, kind::PIG],
     };
-    let kind = dice.of(kinds);
+    let known: Vec<u8> = kinds.iter().copied().filter(|&kind| dice.knows(kind)).collect();
+    let kind = dice.of(&known);
     Some(record_of(kind, &right_values(dice, state, kind)))
 }
 
@@ -261,6 +274,10 @@ fn too_many_days(dice: &mut Dice, state: &State) -> Option<Vec<u8>> {
 }
 
 fn bad_parts(dice: &mut Dice, state: &State) -> Option<Vec<u8>> {
+    let may_graze = dice.knows(kind::GRAZING) && (1..=3).contains(&state.heading.class);
+    if may_graze && state.heading.grazed > 0 && dice.one_in(2) {
+        return Some(too_much_grazing(dice, state));
+    }
     let kind = if state.heading.class == 4 { kind::PIG } else { kind::CATTLE };
     if state.heading.class == 0 || days_left(state, kind) == 0 {
         return None;
@@ -276,6 +293,13 @@ fn bad_parts(dice: &mut Dice, state: &State) -> Option<Vec<u8>> {
         v[7] = (v[7] + 1).min(10_000);
     }
     (kind == kind::PIG || v[6] + v[7] + v[8] != 10_000).then(|| record_of(kind, &v))
+}
+
+/// A fraction that is right in itself and too much with those before it.
+fn too_much_grazing(dice: &mut Dice, state: &State) -> Vec<u8> {
+    let mut v = right_values(dice, state, kind::GRAZING);
+    v[3] = dice.edgy(fraction_left(state) + 1, 10_000);
+    record_of(kind::GRAZING, &v)
 }
 
 fn below_zero(dice: &mut Dice, state: &State) -> Option<Vec<u8>> {

@@ -2,12 +2,12 @@
 
 use crate::dice::Dice;
 use crate::feed::{feed, Answer};
-use crate::state::State;
+use crate::state::{State, SURE, TOTAL};
 use crate::trial::Call;
 
 /// Around one line, one total, two lines, a subtotal with its total, and a line before those.
 pub const ROOMS: [usize; 17] =
-    [0, 1, 45, 46, 47, 53, 54, 55, 91, 92, 93, 99, 100, 101, 145, 146, 1_000];
+    [0, 1, 53, 54, 55, 61, 62, 63, 107, 108, 109, 115, 116, 117, 169, 170, 1_000];
 
 /// The most room that a trial gives; its other limits are in the notes.
 pub const MOST_ROOM: usize = 16_384;
@@ -36,7 +36,7 @@ fn offer(dice: &mut Dice, style: Style, left: usize) -> usize {
 fn room(dice: &mut Dice, style: Style) -> usize {
     match style {
         Style::OneCall => dice.of(&[4_096, 4_096, MOST_ROOM]),
-        Style::SmallParts | Style::ByteByByte => dice.of(&[54, 100, 100, 1_000]),
+        Style::SmallParts | Style::ByteByByte => dice.of(&[TOTAL, SURE, SURE, 1_000]),
         Style::ShortRooms => dice.of(&ROOMS),
         Style::AnyParts => dice.below(300) as usize,
     }

@@ -5,6 +5,8 @@ use crate::calls::{some_calls, MOST_ROOM, ROOMS};
 use crate::damages;
 use crate::dice::{Dice, Seed};
 use crate::figures::Subtotal;
+use crate::grazings;
+use crate::halves;
 use crate::kind;
 use crate::parts;
 use crate::plain::{
@@ -12,7 +14,9 @@ use crate::plain::{
 };
 use crate::record::record_of;
 use crate::slips;
-use crate::state::{Heading, Refusal, State, CLOSED, MOST_RECORDS, NO_RECORD, OPEN, REFUSED};
+use crate::state::{
+    Heading, Refusal, State, CLOSED, LINE, MOST_RECORDS, NO_RECORD, OPEN, REFUSED, SURE,
+};
 use crate::states::{
     bare_states, beside_bounds, heading_beside, most_subtotal, most_sums, right_state, some_beside,
     subtotal_beside,
@@ -21,7 +25,12 @@ use crate::tillages;
 use crate::trial::{Call, Case};
 use crate::writes;
 
-/// The case of this seed and index.
+/// The fresh case of this seed and index.
+pub fn fresh(seed: u64, index: u64) -> Case {
+    halves::now_and_then(seed.into(), index).unwrap_or_else(|| case(seed, index))
+}
+
+/// A case by chance, of those that are stored too.
 pub fn case(seed: impl Into<Seed>, index: u64) -> Case {
     let seed = seed.into();
     if let Some(case) = writes::in_a_row(seed, index)
@@ -167,7 +176,7 @@ fn longest_book(dice: &mut Dice) -> Case {
     }
     input.extend(record_of(kind::CLOSE, &[details + 1]));
     let offer = input.len();
-    let calls = vec![Call { offer, room: MOST_ROOM }; 13];
+    let calls = vec![Call { offer, room: MOST_ROOM }; 15];
     Case::Book { state: State::default(), input, calls }
 }
 
@@ -191,6 +200,8 @@ pub fn stored() -> Vec<Case> {
     cases.extend((0..60).map(|_| slips::some_slip(&mut dice)));
     cases.extend((1..=150).map(|index| case(seed, index)));
     cases.extend(tillages::stored(&clause_bases()));
+    cases.extend(halves::stored());
+    cases.extend(grazings::stored(&clause_bases()));
     cases
 }
 
@@ -203,7 +214,7 @@ pub fn whole(state: State, input: Vec<u8>, room: usize) -> Case {
 fn sample_cases() -> Vec<Case> {
     let start = State::default();
     let mut cases = vec![whole(start, sample(), 4_096), whole(start, Vec::new(), 0)];
-    for room in ROOMS.into_iter().chain([191, 192, 237, 238]) {
+    for room in ROOMS.into_iter().chain([223, 224, 277, 278]) {
         let calls = vec![Call { offer: 1_000, room }; 5];
         cases.push(Case::Book { state: start, input: sample(), calls });
     }
@@ -213,7 +224,7 @@ fn sample_cases() -> Vec<Case> {
 
 /// With the room that makes each step sure.
 fn byte_by_byte(input: Vec<u8>) -> Case {
-    let calls = vec![Call { offer: 1, room: 100 }; input.len() + 1];
+    let calls = vec![Call { offer: 1, room: SURE }; input.len() + 1];
     Case::Book { state: State::default(), input, calls }
 }
 
@@ -251,7 +262,7 @@ fn groups() -> Vec<Case> {
 pub fn in_every_room(input: Vec<u8>) -> Vec<Case> {
     let start = State::default();
     let mut cases = vec![whole(start, input.clone(), 4_096)];
-    for room in [46, 54, 92, 99, 100, 101, 146] {
+    for room in [54, 62, 108, 115, 116, 117, 170] {
         let calls = vec![Call { offer: 1_000, room }; 12];
         cases.push(Case::Book { state: start, input: input.clone(), calls });
     }
@@ -289,12 +300,12 @@ fn group_ends() -> Vec<Case> {
     ];
     let mut cases = Vec::new();
     for wrong in [heading(6, 20_001), heading(5, 40), close(5)] {
-        cases.extend([0, 100].map(|room| whole(with_group, wrong.clone(), room)));
+        cases.extend([0, SURE].map(|room| whole(with_group, wrong.clone(), room)));
     }
     for (state, input) in ends {
-        for room in ROOMS.into_iter().chain([147]) {
+        for room in ROOMS.into_iter().chain([171]) {
             let first = Call { offer: input.len(), room };
-            let calls = vec![first, Call { room: 100, ..first }];
+            let calls = vec![first, Call { room: SURE, ..first }];
             cases.push(Case::Book { state, input: input.clone(), calls });
         }
     }
@@ -303,7 +314,7 @@ fn group_ends() -> Vec<Case> {
 
 fn field_ends() -> Vec<Case> {
     let cases_of = |kind| {
-        field_end_records(kind).into_iter().map(move |record| whole(place_of(kind), record, 100))
+        field_end_records(kind).into_iter().map(move |record| whole(place_of(kind), record, SURE))
     };
     kind::ALL.flat_map(cases_of).collect()
 }
@@ -316,7 +327,7 @@ fn each_place() -> Vec<Case> {
     let mut cases = Vec::new();
     for kind in kind::ALL {
         let record = record_of(kind, &plain_values(kind));
-        cases.extend(places.iter().map(|&state| whole(state, record.clone(), 100)));
+        cases.extend(places.iter().map(|&state| whole(state, record.clone(), SURE)));
     }
     cases
 }
@@ -341,7 +352,7 @@ fn heaviest() -> Vec<Case> {
         state.subtotal = most_subtotal(state.records);
         state.sums = most_sums(state.records);
         let input = [record_of(kind, values), record_of(kind::CLOSE, &[3])].concat();
-        cases.push(whole(state, input, 146));
+        cases.push(whole(state, input, LINE + SURE));
     }
     cases
 }
@@ -396,5 +407,5 @@ fn each_clause() -> Vec<Case> {
     let without_heading = State { heading: Heading::default(), ..under(1) };
     states.extend(heading_beside(&without_heading));
     states.extend(subtotal_beside(&without_heading));
-    states.into_iter().map(|state| whole(state, vec![0], 100)).collect()
+    states.into_iter().map(|state| whole(state, vec![0], SURE)).collect()
 }

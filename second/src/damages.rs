@@ -49,10 +49,22 @@ fn short_records(dice: &mut Dice) -> Vec<u8> {
     for _ in 0..dice.between(1, 60) {
         let length = dice.between(4, 26);
         book.extend([0, length as u8]);
-        book.extend([dice.of(&[1, 1, 1, 0, 2]), dice.of(&[0, 1, 2, 2, 3, 4, 5, 6, 7, 8, 9, 255])]);
+        book.extend([
+            dice.of(&[1, 1, 1, 0, 2]),
+            some_kind(dice, &[0, 1, 2, 2, 3, 4, 5, 6, 7, 8, 9, 255]),
+        ]);
         book.extend((2..length).map(|_| dice.of(&[0, 0, 1, 2, 100, 255])));
     }
     book
+}
+
+/// A kind byte of these, or grazing's where the dice know it.
+fn some_kind(dice: &mut Dice, kinds: &[u8]) -> u8 {
+    let mut kinds = kinds.to_vec();
+    if dice.knows(kind::GRAZING) {
+        kinds.push(kind::GRAZING);
+    }
+    dice.of(&kinds)
 }
 
 fn turned_over(dice: &mut Dice, mut book: Vec<u8>) -> Vec<u8> {
@@ -134,7 +146,7 @@ fn spoil(dice: &mut Dice, state: &State, right: &[u8]) -> Vec<u8> {
         2 => [record_of(1, &plain_values(1)), right.to_vec()].concat(),
         3 => group(dice, state),
         4 => with(right, 2, dice.of(&[0, 2, 255])),
-        5 => with(right, 3, dice.of(&[0, 1, 2, 3, 4, 5, 6, 7, 8, 9, 255])),
+        5 => with(right, 3, some_kind(dice, &[0, 1, 2, 3, 4, 5, 6, 7, 8, 9, 255])),
         6 if dice.one_in(6) => vec![0, dice.of(&[0, 3, 27, 255])],
         7 if dice.one_in(4) => record_of(8, &[dice.below(40)]),
         8 => group(dice, state),
@@ -162,7 +174,7 @@ fn group(dice: &mut Dice, state: &State) -> Vec<u8> {
     };
     for _ in 0..dice.between(1, 5) {
         let last = if dice.knows(kind::TILLAGE) { kind::TILLAGE } else { kind::ENTERIC };
-        let kind = dice.of(&[3, 4, 5, 6, 7, last]);
+        let kind = some_kind(dice, &[3, 4, 5, 6, 7, last]);
         let detail = record_of(kind, &plain_values(kind));
         book.extend(if dice.one_in(5) { with(&detail, 2, 7) } else { detail });
     }

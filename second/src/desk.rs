@@ -4,6 +4,7 @@ use crate::books::{closed_run, damaged_run, right_run};
 use crate::calls::ROOMS;
 use crate::dice::Dice;
 use crate::feed::herd_desk;
+use crate::halves::{Half, RECORDS};
 use crate::kind;
 use crate::plain::{field_end_records, plain_values, sample, several_groups};
 use crate::record::record_of;
@@ -74,6 +75,16 @@ pub fn field_end_text() -> String {
         }
     }
     text
+}
+
+/// A closed book for each figure that comes to an exact half, a line each.
+pub fn half_text() -> String {
+    let book = |&(class, head, kind, values): &Half| {
+        let farm = record_of(kind::FARM, &plain_values(kind::FARM));
+        let heading = record_of(kind::HEADING, &[5, class.into(), head.into()]);
+        [farm, heading, record_of(kind, values), record_of(kind::CLOSE, &[3])].concat()
+    };
+    RECORDS.iter().map(|half| desk_line(&book(half), 1_000)).collect()
 }
 
 /// A book made by dice of its own.

@@ -1,6 +1,6 @@
 //! Document 01, "The arithmetic": every figure in whole grams, computed in 128 bits so that nothing can overflow.
 
-/// The five figures of a line, and the five sums of a book; CO2 alone may be below zero (document 02, W7).
+/// The six figures of a line, and the six sums of a book; CO2 alone may be below zero (document 02, W7). Grazing is CO2e from the start (W10).
 #[derive(Clone, Copy, Debug, Default, PartialEq, Eq)]
 pub struct Figures {
     pub ch4: u64,
@@ -8,6 +8,7 @@ pub struct Figures {
     pub co2: i64,
     pub excreted: u64,
     pub land: u64,
+    pub grazing: u64,
 }
 
 impl Figures {
@@ -18,12 +19,13 @@ impl Figures {
             co2: self.co2 + more.co2,
             excreted: self.excreted + more.excreted,
             land: self.land + more.land,
+            grazing: self.grazing + more.grazing,
         }
     }
 
     /// As eight bytes each say them.
-    pub fn in_order(self) -> [u64; 5] {
-        [self.ch4, self.n2o, word(self.co2), self.excreted, self.land]
+    pub fn in_order(self) -> [u64; 6] {
+        [self.ch4, self.n2o, word(self.co2), self.excreted, self.land, self.grazing]
     }
 }
 
@@ -37,7 +39,7 @@ pub fn signed(word: u64) -> i64 {
     i64::from_be_bytes(word.to_be_bytes())
 }
 
-/// Grams of the records of kinds 3 to 5 under one heading, which give no CO2.
+/// Grams of the records of kinds 3 to 5 under one heading, which give no CO2 and no CO2e.
 #[derive(Clone, Copy, Debug, Default, PartialEq, Eq)]
 pub struct Subtotal {
     pub ch4: u64,
@@ -48,7 +50,7 @@ pub struct Subtotal {
 
 impl Subtotal {
     pub fn plus(self, more: Figures) -> Subtotal {
-        assert_eq!(more.co2, 0, "a group has no CO2");
+        assert_eq!((more.co2, more.grazing), (0, 0), "a subtotal has neither");
         Subtotal {
             ch4: self.ch4 + more.ch4,
             n2o: self.n2o + more.n2o,
@@ -57,16 +59,18 @@ impl Subtotal {
         }
     }
 
-    /// The five figures of its line.
+    /// The six figures of its line.
     pub fn figures(self) -> Figures {
         let Subtotal { ch4, n2o, excreted, land } = self;
-        Figures { ch4, n2o, co2: 0, excreted, land }
+        Figures { ch4, n2o, co2: 0, excreted, land, grazing: 0 }
     }
 }
 
-/// round(n/d): the nearest whole number, a half going up.
+/// round(n/d): the nearest whole number, a half going to the even one (document 02, W8).
 pub fn round(n: u128, d: u128) -> u64 {
-    u64::try_from((2 * n + d) / (2 * d)).expect("a figure fits 64 bits")
+    let (below, twice_the_rest) = (n / d, 2 * (n % d));
+    let up = twice_the_rest > d || (twice_the_rest == d && below % 2 == 1);
+    u64::try_from(below + u128::from(up)).expect("a figure fits 64 bits")
 }
 
 /// Enteric CH4; `v` is days, GE, Ym.
@@ -114,6 +118,7 @@ pub fn pig(head: u128, v: &[u128]) -> Figures {
         co2: 0,
         excreted,
         land: round(n * (1_000 - volatilised - leached), 1_000),
+        grazing: 0,
     }
 }
 
@@ -137,8 +142,8 @@ pub fn positive(grams: u64) -> i64 {
     i64::try_from(grams).expect("a figure fits 63 bits")
 }
 
-/// CO2e of the sums, by the warming set.
+/// CO2e of the sums, by the warming set; grazing is CO2e already.
 pub fn co2e(set: u8, sums: Figures) -> i64 {
     let (a, b) = if set == 1 { (21, 310) } else { (23, 296) };
-    sums.co2 + positive(a * sums.ch4 + b * sums.n2o)
+    sums.co2 + positive(a * sums.ch4 + b * sums.n2o + sums.grazing)
 }

@@ -1,6 +1,8 @@
-//! Document 01, "Refusal numbers, in the order they are tried": what one whole record does, from 2 to 12; document 02's W2: subtotals; W7: tillage.
+//! Document 01, "Refusal numbers, in the order they are tried": what one whole record does, from 2 to 12;
+//! document 02's W2: subtotals; W7: tillage; W10: grazing.
 
 use crate::figures::{self, Figures, Subtotal};
+use crate::grazing;
 use crate::kind;
 use crate::record::{big_endian, fields_of, length_of, values_of};
 use crate::state::{Heading, State, CLOSED, MOST_RECORDS, OPEN};
@@ -21,7 +23,7 @@ pub fn judge(state: &State, record: &[u8]) -> Result<Accepted, Fault> {
     judge_values(state, kind, &values_of(kind, record))
 }
 
-/// Judges the values of a kind 1..9, as many as it has fields: from 5 to 12.
+/// Judges the values of a kind 1..10, as many as it has fields: from 5 to 12.
 pub fn judge_values(state: &State, kind: u8, values: &[u128]) -> Result<Accepted, Fault> {
     in_its_place(state, kind)?;
     in_their_ranges(kind, values)?;
@@ -52,7 +54,7 @@ fn in_its_place(state: &State, kind: u8) -> Result<(), Fault> {
     let first = state.records == 0;
     refuse_if(first != (kind == kind::FARM), 6)?;
     let heading_fits = match kind {
-        kind::ENTERIC | kind::CATTLE => (1..=3).contains(&state.heading.class),
+        kind::ENTERIC | kind::CATTLE | kind::GRAZING => (1..=3).contains(&state.heading.class),
         kind::PIG => state.heading.class == 4,
         _ => true,
     };
@@ -83,6 +85,7 @@ fn makes_sense(state: &State, kind: u8, v: &[u128]) -> Result<(), Fault> {
             days_fit(state, kind, v)?;
             refuse_if(v[8] + v[10] > 1_000, 10)
         }
+        kind::GRAZING => refuse_if(u128::from(state.heading.grazed) + v[3] > 10_000, 10),
         kind::CLOSE => refuse_if(v[0] != u128::from(state.records), 12),
         _ => Ok(()),
     }
@@ -106,13 +109,14 @@ fn accept(state: &State, kind: u8, v: &[u128]) -> Accepted {
         kind::ENERGY => of_farm(counted, kind, figures::energy(v)),
         kind::SOIL => of_farm(counted, kind, figures::soil(v)),
         kind::TILLAGE => of_farm(counted, kind, tillage::figures(v)),
+        kind::GRAZING => grazed(counted, v[3] as u16, grazing::figures(head, v)),
         _ => close(counted),
     }
 }
 
-/// A new heading begins with day sums of zero.
+/// A new heading begins with day sums and fractions of zero.
 fn heading_of(v: &[u128]) -> Heading {
-    Heading { group: v[0] as u16, class: v[1] as u8, head: v[2] as u16, days: [0; 3] }
+    Heading { group: v[0] as u16, class: v[1] as u8, head: v[2] as u16, days: [0; 3], grazed: 0 }
 }
 
 fn with_days(mut state: State, kind: u8, v: &[u128]) -> State {
@@ -136,6 +140,13 @@ fn of_group(state: State, kind: u8, made: Figures) -> Accepted {
 /// A detail record of the farm, kinds 6, 7 and 9, which no subtotal counts.
 fn of_farm(state: State, kind: u8, made: Figures) -> Accepted {
     let lines = line_of(kind, 0, &made.in_order());
+    Accepted { state: State { sums: state.sums.plus(made), ..state }, lines }
+}
+
+/// A grazing record stands under the heading, whose group its line has, but no subtotal counts it.
+fn grazed(mut state: State, fraction: u16, made: Figures) -> Accepted {
+    state.heading.grazed += fraction;
+    let lines = line_of(kind::GRAZING, state.heading.group, &made.in_order());
     Accepted { state: State { sums: state.sums.plus(made), ..state }, lines }
 }
 

@@ -3,11 +3,11 @@
 use crate::feed::{feed, Answer};
 use crate::figures::signed;
 use crate::record::number;
-use crate::state::{State, MOST_RECORDS};
+use crate::state::{State, LARGE};
 
 /// The text for a whole book; bytes after the close are ignored.
 pub fn list(book: &[u8]) -> String {
-    let reply = feed(&State::default(), book, 54 * usize::from(MOST_RECORDS));
+    let reply = feed(&State::default(), book, LARGE);
     let mut text = String::new();
     let mut at = 0;
     while at < reply.lines.len() {
@@ -20,7 +20,7 @@ pub fn list(book: &[u8]) -> String {
 }
 
 /// The places of CO2 and CO2e among a line's figures.
-const SIGNED: [usize; 2] = [2, 5];
+const SIGNED: [usize; 2] = [2, 6];
 
 /// Kind, group, and every 8-byte figure of one line, with a minus sign where it is below zero.
 fn line_text(line: &[u8]) -> String {

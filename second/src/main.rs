@@ -8,6 +8,9 @@ mod desk;
 mod dice;
 mod feed;
 mod figures;
+mod grazing;
+mod grazings;
+mod halves;
 mod judge;
 mod kind;
 mod lister;
@@ -111,7 +114,7 @@ fn list(file: &str) -> Result<(), String> {
 
 fn fresh(seed: &str, count: &str, first: &str) -> Result<(), String> {
     let (seed, count, first) = (whole_number(seed)?, whole_number(count)?, whole_number(first)?);
-    write_all((first..first + count).map(|index| cases::case(seed, index).text()))
+    write_all((first..first + count).map(|index| cases::fresh(seed, index).text()))
 }
 
 /// One case at a time, so that any number of them can stream through.
@@ -132,7 +135,7 @@ fn desk_books(seed: &str, count: &str) -> Result<(), String> {
         let book = desk::some_book(&mut dice, index);
         desk::book_text(&mut dice, &book)
     }))?;
-    write_all(std::iter::once(desk::field_end_text()))?;
+    write_all([desk::field_end_text(), desk::half_text()].into_iter())?;
     let mut dice = dice::Dice::of_case(seed, count);
     let long_books = [desk::long_book(4_094), desk::long_book(4_095), desk::many_groups(4_094)];
     write_all(long_books.into_iter().map(|book| desk::book_text(&mut dice, &book)))

@@ -6,7 +6,7 @@ use crate::dice::{Dice, Seed};
 use crate::kind;
 use crate::plain::{book_of, plain_values, under};
 use crate::record::record_of;
-use crate::state::{State, MOST_RECORDS, NO_RECORD, OPEN};
+use crate::state::{State, LINE, MOST_RECORDS, NO_RECORD, OPEN, SURE, TOTAL};
 use crate::states::right_state;
 use crate::trial::{Call, Case};
 use std::ops::RangeInclusive;
@@ -17,7 +17,7 @@ pub const SIZES: RangeInclusive<usize> = 1..=60;
 pub const ENOUGH: &[usize] = &[1_000];
 
 /// Around a line and a subtotal with its total, so that records wait; the last makes each step sure.
-pub const SHORT: &[usize] = &[45, 46, 99, 54, 0, 100];
+pub const SHORT: &[usize] = &[LINE - 1, LINE, SURE - 1, TOTAL, 0, SURE];
 
 /// How many fresh cases there are from one run through the sizes to the next, and where in them it begins.
 const RUN: u64 = 400;
@@ -40,7 +40,7 @@ pub fn of_each_size(seed: impl Into<Seed>, index: u64) -> Option<Case> {
     }
     let mut dice = Dice::of_case(seed, index);
     let (state, input) = some_book(&mut dice, size);
-    let rooms = dice.of(&[ENOUGH, ENOUGH, SHORT, &[100], &[0, 100]]);
+    let rooms = dice.of(&[ENOUGH, ENOUGH, SHORT, &[SURE], &[0, SURE]]);
     let beyond = dice.below(3);
     Some(in_parts(state, input, size, rooms, beyond))
 }
@@ -71,8 +71,8 @@ pub fn every_part_size() -> Vec<Case> {
     SIZES.flat_map(part_size).collect()
 }
 
-/// The first two right books change places from size to size, and with the third have all kinds together; the unfinished one lacks as many bytes.
-fn part_size(size: usize) -> [Case; 5] {
+/// The first two right books change places from size to size, and with the last two have all kinds together; the unfinished one lacks as many bytes.
+fn part_size(size: usize) -> [Case; 6] {
     let start = State::default();
     let mut books = [cattle_book(), pig_book()];
     let mut rooms = [ENOUGH, SHORT];
@@ -87,6 +87,7 @@ fn part_size(size: usize) -> [Case; 5] {
         in_parts(start, unfinished, size, rooms[0], 0),
         in_parts(place, refused, size, rooms[1], 0),
         in_parts(start, tillage_book(), size, rooms[1], 0),
+        in_parts(start, grazing_book(), size, rooms[0], 0),
     ]
 }
 
@@ -117,6 +118,18 @@ fn tillage_book() -> Vec<u8> {
         (kind::TILLAGE, 0, 0),
         (kind::HEADING, 12, 2),
         (kind::TILLAGE, 0, 0),
+        (kind::CLOSE, 0, 0),
+    ])
+}
+
+fn grazing_book() -> Vec<u8> {
+    book_of(&[
+        (kind::FARM, 0, 0),
+        (kind::HEADING, 12, 3),
+        (kind::GRAZING, 0, 0),
+        (kind::GRAZING, 0, 0),
+        (kind::HEADING, 13, 1),
+        (kind::GRAZING, 0, 0),
         (kind::CLOSE, 0, 0),
     ])
 }

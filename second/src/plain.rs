@@ -31,6 +31,7 @@ pub fn plain_values(kind: u8) -> Vec<u64> {
         kind::ENERGY => vec![1, 125, 70_000],
         kind::SOIL => vec![100],
         kind::TILLAGE => vec![1, 1, 1, 1, 100],
+        kind::GRAZING => vec![3, 1, 600, 5_000],
         _ => vec![2],
     }
 }
@@ -71,7 +72,7 @@ pub fn several_groups() -> Vec<u8> {
 
 /// Twelve heads of cattle or pigs, and nothing eaten yet.
 pub fn under(class: u8) -> State {
-    let heading = Heading { group: 5, class, head: 12, days: [0; 3] };
+    let heading = Heading { group: 5, class, head: 12, days: [0; 3], grazed: 0 };
     State { stage: OPEN, records: 2, set: 1, heading, ..State::default() }
 }
 

@@ -6,7 +6,7 @@ use crate::dice::Dice;
 use crate::feed::{feed, Answer};
 use crate::lister::list;
 use crate::record::{number, values_of};
-use crate::state::{State, MOST_RECORDS};
+use crate::state::{State, LARGE};
 use crate::texts::text;
 use crate::words::kind_name;
 
@@ -80,7 +80,7 @@ pub fn retyped(book: &[u8]) -> Told {
 }
 
 fn read(state: &State, bytes: &[u8]) -> crate::feed::Reply {
-    feed(state, bytes, 54 * usize::from(MOST_RECORDS))
+    feed(state, bytes, LARGE)
 }
 
 /// As many bytes as the first two say, or all where they are not there.

@@ -1,4 +1,4 @@
-//! Document 01, "The book": the table of the kinds, with document 02's W7, and numbers to bytes and back.
+//! Document 01, "The book": the table of the kinds, with document 02's W7 and W10, and numbers to bytes and back.
 
 use crate::kind;
 
@@ -51,10 +51,13 @@ const CLOSE_FIELDS: [Field; 1] = [field(2, 0, 65_535)];
 const TILLAGE_FIELDS: [Field; 5] =
     [field(1, 1, 9), field(1, 1, 3), field(1, 1, 6), field(2, 1, 100), AREA];
 
+const GRAZING_FIELDS: [Field; 4] =
+    [field(1, 1, 7), field(1, 1, 3), field(2, 0, 2_000), field(2, 0, 10_000)];
+
 /// The lengths that a record may state at all.
 pub const LENGTHS: std::ops::RangeInclusive<u16> = 4..=26;
 
-/// The fields of a kind 1..9, in order.
+/// The fields of a kind 1..10, in order.
 pub fn fields_of(kind: u8) -> &'static [Field] {
     match kind {
         kind::FARM => &FARM_FIELDS,
@@ -66,6 +69,7 @@ pub fn fields_of(kind: u8) -> &'static [Field] {
         kind::SOIL => &SOIL_FIELDS,
         kind::CLOSE => &CLOSE_FIELDS,
         kind::TILLAGE => &TILLAGE_FIELDS,
+        kind::GRAZING => &GRAZING_FIELDS,
         _ => panic!("{kind} is no kind"),
     }
 }

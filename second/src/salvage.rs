@@ -45,7 +45,7 @@ fn fate(state: &State, heading_dropped: bool, record: &[u8]) -> Fate {
     let code = judged.as_ref().err().map_or(0, |fault| fault.0);
     match (code, kind) {
         (2..=4, _) => Fate::Dropped(code),
-        _ if heading_dropped && kind::OF_GROUP.contains(&kind) => Fate::Dropped(6),
+        _ if heading_dropped && kind::of_group(kind) => Fate::Dropped(6),
         (6..=11, _) => Fate::Dropped(code),
         (_, kind::CLOSE) => Fate::End,
         _ => Fate::Kept(judged.ok().expect("what is left is accepted").state),

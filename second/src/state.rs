@@ -1,4 +1,4 @@
-//! Document 01, "Lines, calls and state", with document 02's W2: what a state holds, and the ranges it must lie in.
+//! Document 01, "Lines, calls and state", with document 02's W2 and W10: what a state holds, the ranges it must lie in, and the sizes of lines.
 
 use crate::figures::{Figures, Subtotal};
 use crate::record::LENGTHS;
@@ -11,13 +11,24 @@ pub const REFUSED: u8 = 3;
 /// The most records of a book, the close among them.
 pub const MOST_RECORDS: u16 = 4_096;
 
-/// The last heading and its day sums for kinds 3, 4 and 5; all zero where there is none.
+/// The bytes of a detail record's line or a subtotal, and of the total.
+pub const LINE: usize = 54;
+pub const TOTAL: usize = 62;
+
+/// With so much room any input byte can be taken: a close's subtotal and total fit.
+pub const SURE: usize = LINE + TOTAL;
+
+/// Room for the lines of any book.
+pub const LARGE: usize = TOTAL * MOST_RECORDS as usize;
+
+/// The last heading, its day sums for kinds 3, 4 and 5, and the sum of its grazing fractions; all zero where there is none.
 #[derive(Clone, Copy, Debug, Default, PartialEq, Eq)]
 pub struct Heading {
     pub group: u16,
     pub class: u8,
     pub head: u16,
     pub days: [u16; 3],
+    pub grazed: u16,
 }
 
 impl Heading {
@@ -111,6 +122,7 @@ impl State {
             && (1..=4).contains(&heading.class)
             && heading.head <= 20_000
             && heading.days.iter().all(|&days| days <= 366)
+            && heading.grazed <= 10_000
     }
 
     /// Bounded as the sums, and zero where there is no heading.
@@ -129,6 +141,7 @@ impl State {
         figures.ch4 <= records * grams
             && figures.excreted <= records * grams
             && figures.land <= records * grams
+            && figures.grazing <= records * grams
             && figures.n2o <= records * n2o
             && figures.co2.unsigned_abs() <= records * co2
     }

@@ -5,12 +5,13 @@ use crate::figures::{signed, Figures, Subtotal};
 use crate::kind;
 use crate::state::{Heading, Refusal, State, CLOSED, MOST_RECORDS, NO_RECORD, OPEN, REFUSED};
 
-/// Grams that a record can add: CH4, N2O, CO2, excreted N, land N.
+/// Grams that a record can add: CH4, N2O, CO2, excreted N, land N; and grazing's CO2e.
 const BOUNDS: [u64; 5] =
     [100_000_000_000, 10_000_000_000, 10_000_000_000_000, 100_000_000_000, 100_000_000_000];
+const GRAZING_BOUND: u64 = 100_000_000_000;
 
-fn figures_of([ch4, n2o, co2, excreted, land]: [u64; 5]) -> Figures {
-    Figures { ch4, n2o, co2: signed(co2), excreted, land }
+fn figures_of([ch4, n2o, co2, excreted, land]: [u64; 5], grazing: u64) -> Figures {
+    Figures { ch4, n2o, co2: signed(co2), excreted, land, grazing }
 }
 
 /// The subtotal's part of them, which leaves out CO2.
@@ -25,7 +26,8 @@ pub fn most_subtotal(records: u16) -> Subtotal {
 
 /// The sums at their bounds.
 pub fn most_sums(records: u16) -> Figures {
-    figures_of(BOUNDS.map(|bound| u64::from(records) * bound))
+    let records = u64::from(records);
+    figures_of(BOUNDS.map(|bound| records * bound), records * GRAZING_BOUND)
 }
 
 /// The same, CO2 at its bound below zero.
@@ -46,7 +48,7 @@ pub fn right_state(dice: &mut Dice, stage: u8) -> State {
     let mut state = State { stage, records, ..State::default() };
     if records > 0 {
         state.set = dice.of(&[1, 2]);
-        state.sums = figures_of(BOUNDS.map(|bound| some_sum(dice, u64::from(records) * bound)));
+        state.sums = some_sums(dice, u64::from(records));
         if dice.knows(kind::TILLAGE) && dice.one_in(2) {
             state.sums.co2 = -state.sums.co2;
         }
@@ -62,6 +64,12 @@ pub fn right_state(dice: &mut Dice, stage: u8) -> State {
     state
 }
 
+fn some_sums(dice: &mut Dice, records: u64) -> Figures {
+    let five = BOUNDS.map(|bound| some_sum(dice, records * bound));
+    let known = dice.knows(kind::GRAZING);
+    figures_of(five, if known { some_sum(dice, records * GRAZING_BOUND) } else { 0 })
+}
+
 fn some_sum(dice: &mut Dice, bound: u64) -> u64 {
     match dice.below(4) {
         0 => 0,
@@ -71,12 +79,16 @@ fn some_sum(dice: &mut Dice, bound: u64) -> u64 {
     }
 }
 
+/// Sums of fractions, with room for more and without.
+const GRAZED: [u16; 7] = [0, 0, 1, 5_000, 9_000, 9_999, 10_000];
+
 fn some_heading(dice: &mut Dice) -> Heading {
     Heading {
         group: dice.edgy(1, 65_535) as u16,
         class: dice.between(1, 4) as u8,
         head: dice.edgy(0, 20_000) as u16,
         days: [0; 3].map(|_| dice.of(&[0, 0, 1, 100, 365, 366])),
+        grazed: if dice.knows(kind::GRAZING) { dice.of(&GRAZED) } else { 0 },
     }
 }
 
@@ -105,12 +117,14 @@ pub fn beside_bounds(base: &State) -> Vec<State> {
     states
 }
 
-/// One of those, of the bare ones, or of those with another CO2, by chance.
+/// One of those, of the bare ones, or of those with another CO2 or other grazing, by chance.
 pub fn some_beside(dice: &mut Dice, base: &State) -> State {
     let states = if dice.one_in(10) {
         bare_states()
     } else if dice.knows(kind::TILLAGE) && dice.one_in(8) {
         co2_beside(base)
+    } else if dice.knows(kind::GRAZING) && dice.one_in(8) {
+        grazing_beside(base)
     } else {
         beside_bounds(base)
     };
@@ -155,7 +169,7 @@ pub fn heading_beside(base: &State) -> Vec<State> {
     }
     states.push(with(Heading::default()));
     states.push(State { subtotal: Subtotal::default(), ..with(Heading::default()) });
-    states.push(with(Heading { group: 1, class: 1, head: 0, days: [0; 3] }));
+    states.push(with(Heading { group: 1, class: 1, head: 0, days: [0; 3], grazed: 0 }));
     states
 }
 
@@ -165,7 +179,7 @@ pub fn subtotal_beside(base: &State) -> Vec<State> {
     for (i, bound) in BOUNDS.iter().enumerate() {
         let most = u64::from(base.records) * bound;
         for value in [0, 1, most, most + 1, u64::MAX] {
-            let mut figures = base.subtotal.figures().in_order();
+            let mut figures = first_five(base.subtotal.figures());
             figures[i] = value;
             states.push(State { subtotal: subtotal_of(figures), ..*base });
         }
@@ -173,14 +187,20 @@ pub fn subtotal_beside(base: &State) -> Vec<State> {
     states
 }
 
+/// The figures but for grazing.
+fn first_five(figures: Figures) -> [u64; 5] {
+    let [ch4, n2o, co2, excreted, land, _] = figures.in_order();
+    [ch4, n2o, co2, excreted, land]
+}
+
 fn sums_beside(base: &State) -> Vec<State> {
     let mut states = Vec::new();
     for (i, bound) in BOUNDS.iter().enumerate() {
         let most = u64::from(base.records) * bound;
         for value in [0, most, most + 1, u64::MAX] {
-            let mut sums = base.sums.in_order();
+            let mut sums = first_five(base.sums);
             sums[i] = value;
-            states.push(State { sums: figures_of(sums), ..*base });
+            states.push(State { sums: figures_of(sums, base.sums.grazing), ..*base });
         }
     }
     states
@@ -191,6 +211,19 @@ pub fn co2_beside(base: &State) -> Vec<State> {
     let most = most_sums(base.records).co2;
     let values = [most, most + 1, -1, -most, -most - 1, i64::MAX, i64::MIN];
     values.map(|co2| State { sums: Figures { co2, ..base.sums }, ..*base }).to_vec()
+}
+
+/// The sum of fractions and the grazing sum at and beside their bounds.
+pub fn grazing_beside(base: &State) -> Vec<State> {
+    let mut states = Vec::new();
+    for grazed in [0, 1, 5_000, 9_999, 10_000, 10_001, 65_535] {
+        states.push(State { heading: Heading { grazed, ..base.heading }, ..*base });
+    }
+    let most = u64::from(base.records) * GRAZING_BOUND;
+    for grazing in [0, 1, most, most + 1, u64::MAX] {
+        states.push(State { sums: Figures { grazing, ..base.sums }, ..*base });
+    }
+    states
 }
 
 fn refusal_beside(base: &State) -> Vec<State> {

@@ -33,14 +33,14 @@ const NO_KINDS: [&[u8]; 16] = [
 /// First words that are numbers and no kind, some of which would be one if they were cut to their last bits.
 const OTHER_KINDS: [&[u8]; 9] = [
     b"0",
-    b"10",
+    b"11",
     b"77",
     b"000",
     b"258",
     b"4294967298",
     b"18446744073709551618",
     b"99999999999999999999",
-    b"00000000000000000000000000000000000000000000000000000000000000000000000000000000000000000010",
+    b"00000000000000000000000000000000000000000000000000000000000000000000000000000000000000000011",
 ];
 
 /// Words that are no numbers.
@@ -83,8 +83,8 @@ pub fn text(seed: u64, index: u64) -> Vec<u8> {
         0 => odd_text(dice, index / 100),
         1 => too_many_records(dice),
         2 => any_bytes(dice),
-        place @ 4..=12 => each_field(place as u8 - 3, no_number),
-        place @ 13..=21 => each_field(place as u8 - 12, out_of_range),
+        place @ 4..=13 => each_field(place as u8 - 3, no_number),
+        place @ 14..=23 => each_field(place as u8 - 13, out_of_range),
         _ => typed_book(dice),
     }
 }
@@ -213,7 +213,7 @@ fn planned_record(dice: &mut Dice, state: &State, year: u64) -> Vec<u8> {
     if kind == kind::FARM {
         record[8..10].copy_from_slice(&(year as u16).to_be_bytes());
     }
-    if kind::OF_GROUP.contains(&kind)
+    if kind::WITH_DAYS.contains(&kind)
         && state.heading.days[kind::days_at(kind)] == 0
         && dice.one_in(3)
     {

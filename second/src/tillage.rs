@@ -83,7 +83,7 @@ pub fn rate((lum_c_max, k): Pair, year: u128) -> i64 {
     lum_c_max.signum() * positive(amount)
 }
 
-/// CO2 for this much carbon bound on each square metre of an area: as many grams are taken from the air, to the nearest, halves away from zero.
+/// CO2 for this much carbon bound on each square metre of an area: as many grams are taken from the air, to the nearest.
 fn taken_up(mg: i64, area: u128) -> i64 {
     let amount = round(u128::from(mg.unsigned_abs()) * area * 11, 30);
     -mg.signum() * positive(amount)

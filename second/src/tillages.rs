@@ -6,7 +6,7 @@ use crate::dice::{Dice, Seed};
 use crate::kind;
 use crate::plain::{book_of, plain_values, under};
 use crate::record::record_of;
-use crate::state::{Heading, State};
+use crate::state::{Heading, State, LINE, SURE};
 use crate::states::{co2_beside, least_co2, most_sums};
 use crate::trial::Case;
 
@@ -20,7 +20,7 @@ pub fn stored(bases: &[State]) -> Vec<Case> {
     cases.extend(at_both_bounds());
     cases.extend(books().into_iter().flat_map(in_every_room));
     let beside = bases.iter().flat_map(co2_beside);
-    cases.extend(beside.map(|state| whole(state, vec![0], 100)));
+    cases.extend(beside.map(|state| whole(state, vec![0], SURE)));
     cases.extend(damages::stored_of(SEED, (0..20).chain(200..210)));
     cases.extend((1..=100).map(|index| crate::cases::case(SEED, index)));
     cases
@@ -33,7 +33,7 @@ fn tillage(values: [u64; 5]) -> Vec<u8> {
 /// A record without a heading before it, and the close.
 fn with_close(values: [u64; 5]) -> Case {
     let state = State { heading: Heading::default(), ..under(1) };
-    whole(state, [tillage(values), record_of(kind::CLOSE, &[3])].concat(), 100)
+    whole(state, [tillage(values), record_of(kind::CLOSE, &[3])].concat(), SURE)
 }
 
 /// Each zone, texture and change, with years and areas by chance.
@@ -85,7 +85,7 @@ fn at_both_bounds() -> Vec<Case> {
         for record in &records {
             let input = [record.clone(), record_of(kind::CLOSE, &[3])].concat();
             for set in [1, 2] {
-                cases.push(whole(State { set, sums, ..under(4) }, input.clone(), 146));
+                cases.push(whole(State { set, sums, ..under(4) }, input.clone(), LINE + SURE));
             }
         }
     }

@@ -67,13 +67,17 @@ fn digit(c: u8) -> Result<u8, Fault> {
 fn state_text(s: &State) -> String {
     let (h, r) = (&s.heading, &s.refusal);
     let [d3, d4, d5] = h.days;
-    let [ch4, n2o, co2, excreted, land] = s.sums.in_order();
+    let [ch4, n2o, co2, excreted, land, grazing] = s.sums.in_order();
     let Subtotal { ch4: sub_ch4, n2o: sub_n2o, excreted: sub_excreted, land: sub_land } =
         s.subtotal;
     let mut text = format!("{:x} {:x} {:x}", s.stage, s.records, s.set);
-    let _ = write!(text, " {:x} {:x} {:x} {d3:x} {d4:x} {d5:x}", h.group, h.class, h.head);
+    let _ = write!(
+        text,
+        " {:x} {:x} {:x} {d3:x} {d4:x} {d5:x} {:x}",
+        h.group, h.class, h.head, h.grazed
+    );
     let _ = write!(text, " {sub_ch4:x} {sub_n2o:x} {sub_excreted:x} {sub_land:x}");
-    let _ = write!(text, " {ch4:x} {n2o:x} {co2:x} {excreted:x} {land:x}");
+    let _ = write!(text, " {ch4:x} {n2o:x} {co2:x} {excreted:x} {land:x} {grazing:x}");
     let _ = write!(text, " {:x} {:x} {:x}", r.code, r.record, r.field);
     let _ = write!(text, " {:x} {}", s.held_count, hex(&s.held));
     text
@@ -160,6 +164,7 @@ impl<'a> Tokens<'a> {
                 class: self.number()?,
                 head: self.number()?,
                 days: [self.number()?, self.number()?, self.number()?],
+                grazed: self.number()?,
             },
             subtotal: Subtotal {
                 ch4: self.number()?,
@@ -173,6 +178,7 @@ impl<'a> Tokens<'a> {
                 co2: signed(self.number()?),
                 excreted: self.number()?,
                 land: self.number()?,
+                grazing: self.number()?,
             },
             refusal: Refusal {
                 code: self.number()?,

@@ -142,7 +142,7 @@ impl Clerk {
                         let why = "failed, and a book with a failed line is not closed";
                         self.tell(number, &format!("close withheld: line {failed} {why}"));
                     }
-                    (Some(kind::ENTERIC..=kind::PIG), _, Some(lost_by)) => {
+                    (Some(kind), _, Some(lost_by)) if kind::of_group(kind) => {
                         self.note_without_heading(number, lost_by)
                     }
                     _ => self.judge(number, typed),
@@ -217,7 +217,7 @@ impl Clerk {
 
     /// The group that ends here, where there is one: its days, with a word where they are not the year's.
     fn say_group(&mut self) {
-        let Heading { group, class, head, days } = self.state.heading;
+        let Heading { group, class, head, days, .. } = self.state.heading;
         if group == 0 {
             return;
         }
@@ -227,7 +227,7 @@ impl Clerk {
             format!("{} {days} days{of}", kind_name(kind.into()))
         };
         let kinds: Vec<String> =
-            kind::OF_GROUP.zip(days).filter(|&(_, days)| days > 0).map(days_text).collect();
+            kind::WITH_DAYS.zip(days).filter(|&(_, days)| days > 0).map(days_text).collect();
         let kinds = if kinds.is_empty() { "no days".to_string() } else { kinds.join(", ") };
         self.said += &format!("group {group} {}, {head} head: {kinds}\n", class_name(class));
     }

@@ -1,6 +1,6 @@
 //! Document 02, W6: why a book is refused, and books to ask it of.
 
-use crate::books::{after, closed_run, damaged_run, right_close, values_outside};
+use crate::books::{after, closed_run, damaged_run, right_close, right_values, values_outside};
 use crate::damages::damaged;
 use crate::dice::Dice;
 use crate::judge::judge;
@@ -54,7 +54,12 @@ fn what_is_compared(state: &State, record: &[u8], code: u8, field: u8) -> Option
         (7, _) => {
             let at = usize::from(field) - 1;
             let f = &fields_of(kind)[at];
-            outside(spoken_of(u64::from(kind))[at].name, v[at], u128::from(f.low), u128::from(f.high))
+            outside(
+                spoken_of(u64::from(kind))[at].name,
+                v[at],
+                u128::from(f.low),
+                u128::from(f.high),
+            )
         }
         (8, _) => compared("the group", v[0], Asked::Above, u128::from(state.heading.group)),
         (9, _) => {
@@ -64,16 +69,30 @@ fn what_is_compared(state: &State, record: &[u8], code: u8, field: u8) -> Option
         (10, kind::CATTLE) => {
             compared("the sum of the shares", v[6] + v[7] + v[8], Asked::Exactly, 10_000)
         }
-        (10, _) => {
-            compared("the sum of the volatilised and leached parts", v[8] + v[10], Asked::AtMost, 1_000)
+        (10, kind::GRAZING) => {
+            let fractions = v[3] + u128::from(state.heading.grazed);
+            compared("the sum of fractions with this record", fractions, Asked::AtMost, 10_000)
         }
+        (10, _) => compared(
+            "the sum of the volatilised and leached parts",
+            v[8] + v[10],
+            Asked::AtMost,
+            1_000,
+        ),
         (12, _) => compared("the count", v[0], Asked::Exactly, u128::from(state.records)),
         _ => None,
     }
 }
 
 /// Both lines of a refusal: its code, record number, bytes, field, kind's name and what is compared.
-fn refused(code: u8, number: u16, bytes: (usize, usize), field: u8, name: &str, numbers: Option<Compared>) -> String {
+fn refused(
+    code: u8,
+    number: u16,
+    bytes: (usize, usize),
+    field: u8,
+    name: &str,
+    numbers: Option<Compared>,
+) -> String {
     let (first, last) = bytes;
     let mut line = format!("refused {code} record {number} bytes {first} to {last}");
     if field > 0 {
@@ -121,9 +140,16 @@ pub fn why(book: &[u8]) -> (String, bool) {
             Ok(accepted) => state = accepted.state,
             Err((code, field)) => {
                 let kind = record[3];
-                let name = if kind::ALL.contains(&kind) { format!(" ({})", kind_name(u64::from(kind))) } else { String::new() };
+                let name = if kind::ALL.contains(&kind) {
+                    format!(" ({})", kind_name(u64::from(kind)))
+                } else {
+                    String::new()
+                };
                 let numbers = what_is_compared(&state, record, code, field);
-                return (refused(code, state.records, (at, at + size - 1), field, &name, numbers), false);
+                return (
+                    refused(code, state.records, (at, at + size - 1), field, &name, numbers),
+                    false,
+                );
             }
         }
         at += size;
@@ -139,7 +165,7 @@ fn beyond_each_end() -> Vec<Vec<u8>> {
         if kind != kind::FARM {
             start.extend(record_of(kind::FARM, &plain_values(kind::FARM)));
         }
-        if kind::OF_GROUP.contains(&kind) {
+        if kind::of_group(kind) {
             let class = if kind == kind::PIG { 4 } else { 1 };
             start.extend(record_of(kind::HEADING, &[12, class, 40]));
         }
@@ -163,6 +189,20 @@ fn one_too_many() -> Vec<u8> {
     book
 }
 
+/// Grazing records whose fractions pass the whole with the last, which may be one of several.
+fn too_much_grazing(dice: &mut Dice) -> Vec<u8> {
+    let farm = record_of(kind::FARM, &plain_values(kind::FARM));
+    let mut book = [farm, record_of(kind::HEADING, &[12, dice.between(1, 3), 40])].concat();
+    let mut state = after(&State::default(), &book);
+    while state.heading.grazed == 0 || dice.one_in(3) {
+        let record = record_of(kind::GRAZING, &right_values(dice, &state, kind::GRAZING));
+        state = after(&state, &record);
+        book.extend(record);
+    }
+    let fraction = dice.edgy(10_001 - u64::from(state.heading.grazed), 10_000);
+    [book, record_of(kind::GRAZING, &[1, 1, 1, fraction])].concat()
+}
+
 /// A book to ask it of, by chance: refused by each number, beyond each end, cut, right, or with bytes behind it.
 pub fn doubtful(seed: u64, index: u64) -> Vec<u8> {
     let mut dice = Dice::of_case(seed, index);
@@ -179,10 +219,12 @@ pub fn doubtful(seed: u64, index: u64) -> Vec<u8> {
         2 => [closed_run(dice, &start, count), vec![0, 0, 1]].concat(),
         3 => damaged(seed, index),
         7 if index % 100 == 7 => one_too_many(),
+        13 if index % 40 == 13 => too_much_grazing(dice),
         4..=15 => damaged_run(dice, &start, (index % 20 - 3) as u8),
         _ => {
             let books = beyond_each_end();
-            let mut book = books[((index / 20) * 4 + index % 20 - 16) as usize % books.len()].clone();
+            let mut book =
+                books[((index / 20) * 4 + index % 20 - 16) as usize % books.len()].clone();
             book.extend(right_close(&after(&start, &book)));
             book
         }

@@ -14,8 +14,9 @@ const fn spoken(name: &'static str, decimals: usize, expected: &'static str) -> 
 }
 
 /// By their numbers.
-pub const KINDS: [&str; 9] =
-    ["farm", "heading", "enteric", "cattle", "pig", "energy", "soil", "close", "tillage"];
+pub const KINDS: [&str; 10] = [
+    "farm", "heading", "enteric", "cattle", "pig", "energy", "soil", "close", "tillage", "grazing",
+];
 
 const CLASSES: [&str; 4] = ["milking", "dry", "heifer", "pig"];
 
@@ -77,6 +78,13 @@ const TILLAGE: [Spoken; 5] = [
     AREA,
 ];
 
+const GRAZING: [Spoken; 4] = [
+    spoken("region", 0, "1 to 7"),
+    spoken("column", 0, "1 to 3 (cows, heifers, calves)"),
+    spoken("live weight", 0, "0 to 2000 kg"),
+    spoken("fraction", 2, "0 to 100.00 per cent"),
+];
+
 /// The fields of a kind, in order; a kind that the book has not has none.
 pub fn spoken_of(kind: u64) -> &'static [Spoken] {
     match kind::of(kind) {
@@ -89,6 +97,7 @@ pub fn spoken_of(kind: u64) -> &'static [Spoken] {
         Some(kind::SOIL) => &SOIL,
         Some(kind::CLOSE) => &CLOSE,
         Some(kind::TILLAGE) => &TILLAGE,
+        Some(kind::GRAZING) => &GRAZING,
         _ => &[],
     }
 }
@@ -105,15 +114,18 @@ pub fn class_name(class: u8) -> &'static str {
 /// The sentence of a number that the writer can give to a typed line; 4 and 7 have longer ones.
 pub fn sentence(code: u8) -> &'static str {
     match code {
-        3 => "no such kind of record: kinds are 1 to 9",
+        3 => "no such kind of record: kinds are 1 to 10",
         5 => "the book has 4096 records, and no more go in",
         6 => concat!(
             "out of its place: a book begins with its one farm record; ",
-            "enteric and cattle stand under a heading of class 1 to 3, pig under one of class 4"
+            "enteric, cattle and grazing stand under a heading of class 1 to 3, pig under one of class 4"
         ),
         8 => "the group number must be above that of the heading before",
         9 => "more than 366 days of this kind under the heading",
-        10 => "cattle shares must be 100.00 per cent together; a pig's volatilised and leached parts at most 1.000",
+        10 => concat!(
+            "cattle shares must be 100.00 per cent together, grazing fractions under a heading at most that; ",
+            "a pig's volatilised and leached parts at most 1.000"
+        ),
         11 => "more nitrogen in milk and gain than in the feed",
         12 => "the close counts other records than there are before it; left out, the count is filled in",
         22 => "the book is closed already",

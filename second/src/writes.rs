@@ -2,16 +2,18 @@
 
 use crate::books::{after, closed_run, right_close, right_record, values_outside, wrong_record};
 use crate::dice::{Dice, Seed};
+use crate::grazings;
 use crate::kind;
 use crate::plain::{place_of, plain_values, sample, under};
 use crate::record::{fields_of, length_of, values_of};
 use crate::state::{Heading, Refusal, State, CLOSED, MOST_RECORDS, NO_RECORD, OPEN, REFUSED};
 use crate::states::{right_state, some_beside, some_refusal};
+use crate::tillages;
 use crate::trial::Case;
 use crate::writer::write;
 
 /// Numbers that are no kind, some of which end in a kind's byte.
-const NO_KINDS: [u64; 9] = [0, 11, 10, 16, 255, 256 + 1, (1 << 32) + 3, 1 << 63, u64::MAX];
+const NO_KINDS: [u64; 9] = [0, 11, 12, 16, 255, 256 + 1, (1 << 32) + 3, 1 << 63, u64::MAX];
 
 /// The most values that a case offers.
 const MOST_VALUES: usize = 20;
@@ -152,11 +154,10 @@ pub fn stored() -> Vec<Case> {
     cases.extend(every_sort_of_state());
     cases.extend(in_order());
     cases.extend(row(&sample()));
-    let mut before_tillage = Dice::of_case(Seed::up_to(kind::CLOSE, 4), 0);
-    let mut dice = Dice::of_case(Seed::up_to(kind::TILLAGE, 7), 0);
-    for dice in [&mut before_tillage, &mut dice] {
+    for seed in [Seed::up_to(kind::CLOSE, 4), tillages::SEED, grazings::SEED] {
+        let mut dice = Dice::of_case(seed, 0);
         for count in [9, 12] {
-            cases.extend(row(&closed_run(dice, &State::default(), count)));
+            cases.extend(row(&closed_run(&mut dice, &State::default(), count)));
         }
     }
     cases
@@ -260,7 +261,8 @@ pub fn in_order() -> Vec<Case> {
     let late = State { heading: Heading { days: [366; 3], ..open.heading }, ..open };
     let pig = State { heading: Heading { class: 4, ..late.heading }, ..open };
     let full = State { records: MOST_RECORDS, ..open };
-    let offered: [(State, u8, &[u64]); 16] = [
+    let grazed = State { heading: Heading { grazed: 10_000, ..open.heading }, ..open };
+    let offered: [(State, u8, &[u64]); 19] = [
         (State { set: 3, ..refused(open, 6, 0) }, 0, &[]),
         (refused(open, 6, 0), 0, &[]),
         (State { stage: CLOSED, ..open }, 0, &[]),
@@ -277,6 +279,9 @@ pub fn in_order() -> Vec<Case> {
         (open, kind::CATTLE, &[1, 0, 0, 0, 0, 1, 0, 0, 0]),
         (open, kind::CATTLE, &[1, 0, 0, 0, 0, 1, 0, 0, 10_000]),
         (open, kind::CLOSE, &[3]),
+        (pig, kind::GRAZING, &[8, 4, 2_001, 10_001]),
+        (grazed, kind::GRAZING, &[1, 1, 2_001, 1]),
+        (grazed, kind::GRAZING, &[1, 1, 2_000, 1]),
     ];
     let no_room = |(state, kind, values): (State, u8, &[u64])| Case::Write {
         state,

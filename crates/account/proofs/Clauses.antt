@@ -83,6 +83,7 @@ module _ (h : Heading) (d : Days) where
       ∷ leb (d .enteric) 366
       ∷ leb (d .nitrogen) 366
       ∷ leb (d .pig) 366
+      ∷ leb (d .grazed) 10000
       ∷ leb 2 records
       ∷ []
 
@@ -99,18 +100,19 @@ module _ (h : Heading) (d : Days) where
         enteric-most = leb-true _ _ (u .1 .0);
         nitrogen-most = leb-true _ _ (u .1 .1 .0);
         pig-most = leb-true _ _ (u .1 .1 .1 .0);
-        records-least = leb-true _ _ (u .1 .1 .1 .1 .0);
+        grazed-most = leb-true _ _ (u .1 .1 .1 .1 .0);
+        records-least = leb-true _ _ (u .1 .1 .1 .1 .1 .0);
       }
 
   headed-test : (records : ℕ) → Headed h d records → headedTest h d records ≡ true
   headed-test records p =
-      let u : Each (leb (h .head) 20000 ∷ leb (d .enteric) 366 ∷ leb (d .nitrogen) 366 ∷ leb (d .pig) 366 ∷ leb 2 records ∷ []) =
-      (le-leb _ _ (p .head-most), (le-leb _ _ (p .enteric-most), (le-leb _ _ (p .nitrogen-most), (le-leb _ _ (p .pig-most), (le-leb _ _ (p .records-least), tt))))) in
+      let u : Each (leb (h .head) 20000 ∷ leb (d .enteric) 366 ∷ leb (d .nitrogen) 366 ∷ leb (d .pig) 366 ∷ leb (d .grazed) 10000 ∷ leb 2 records ∷ []) =
+      (le-leb _ _ (p .head-most), (le-leb _ _ (p .enteric-most), (le-leb _ _ (p .nitrogen-most), (le-leb _ _ (p .pig-most), (le-leb _ _ (p .grazed-most), (le-leb _ _ (p .records-least), tt)))))) in
       each-all (leb 1 (h .group)) (headedRest records) (le-leb _ _ (p .group-least))
       (le-leb _ _ (p .group-most), (le-leb _ _ (p .class-least), (le-leb _ _ (p .class-most), u)))
 
   abbrev unheadedRest : List Bool
-  unheadedRest = eqb (h .class) 0 ∷ eqb (h .head) 0 ∷ eqb (d .enteric) 0 ∷ eqb (d .nitrogen) 0 ∷ eqb (d .pig) 0 ∷ []
+  unheadedRest = eqb (h .class) 0 ∷ eqb (h .head) 0 ∷ eqb (d .enteric) 0 ∷ eqb (d .nitrogen) 0 ∷ eqb (d .pig) 0 ∷ eqb (d .grazed) 0 ∷ []
 
   pub unheaded-parts : unheadedTest h d ≡ true → Unheaded h d
   unheaded-parts e =
@@ -122,12 +124,13 @@ module _ (h : Heading) (d : Days) where
         enteric = eqb-true _ _ (t .1 .1 .1 .0);
         nitrogen = eqb-true _ _ (t .1 .1 .1 .1 .0);
         pig = eqb-true _ _ (t .1 .1 .1 .1 .1 .0);
+        grazed = eqb-true _ _ (t .1 .1 .1 .1 .1 .1 .0);
       }
 
   unheaded-test : Unheaded h d → unheadedTest h d ≡ true
   unheaded-test p =
       each-all (eqb (h .group) 0) unheadedRest (eq-eqb _ _ (p .group))
-      (eq-eqb _ _ (p .class), (eq-eqb _ _ (p .head), (eq-eqb _ _ (p .enteric), (eq-eqb _ _ (p .nitrogen), (eq-eqb _ _ (p .pig), tt)))))
+      (eq-eqb _ _ (p .class), (eq-eqb _ _ (p .head), (eq-eqb _ _ (p .enteric), (eq-eqb _ _ (p .nitrogen), (eq-eqb _ _ (p .pig), (eq-eqb _ _ (p .grazed), tt))))))
 
   heading-parts : (records : ℕ) → headedTest h d records || unheadedTest h d ≡ true → Headed h d records ⊎ Unheaded h d
   heading-parts records e =
@@ -153,6 +156,7 @@ module _ (f : Figures) (records : ℕ) where
       ∷ co2Within records (f .co2)
       ∷ leb (f .excreted) (records * 10 ^ 11)
       ∷ leb (f .land) (records * 10 ^ 11)
+      ∷ leb (f .grazing .0) (records * 10 ^ 11)
       ∷ []
 
   bounded-parts : boundedTest f records ≡ true → Bounded f records
@@ -164,12 +168,13 @@ module _ (f : Figures) (records : ℕ) where
         co2 = within-true (f .co2) _ (t .1 .1 .0);
         excreted = leb-true _ _ (t .1 .1 .1 .0);
         land = leb-true _ _ (t .1 .1 .1 .1 .0);
+        grazing = leb-true _ _ (t .1 .1 .1 .1 .1 .0);
       }
 
   bounded-test : Bounded f records → boundedTest f records ≡ true
   bounded-test b =
       each-all (leb (f .ch4) (records * 10 ^ 11)) boundedRest (le-leb _ _ (b .ch4))
-      (le-leb _ _ (b .n2o), (within-test (f .co2) _ (b .co2), (le-leb _ _ (b .excreted), (le-leb _ _ (b .land), tt))))
+      (le-leb _ _ (b .n2o), (within-test (f .co2) _ (b .co2), (le-leb _ _ (b .excreted), (le-leb _ _ (b .land), (le-leb _ _ (b .grazing), tt)))))
 
 module _ (s : Subtotal) where
   abbrev groupedRest : ℕ → List Bool

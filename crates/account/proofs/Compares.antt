@@ -3,7 +3,7 @@
 use Prim.Native.Nat.{ℕ, zero, suc, _+_, _-_, _≤_, _<_}
 use mathlib.Core.Path.{_≡_, refl, sym, ap, _∙_}
 use mathlib.Core.List.{List, [], _∷_}
-use mathlib.Core.Bool.{Bool, true, false, _&&_, not}
+use mathlib.Core.Bool.{Bool, true, false, _&&_, _||_, not}
 use mathlib.Core.Logic.{_⊎_, inl, inr, ⊎-elim}
 use native.Mathlib.Omega.{arith}
 use native.Mathlib.Nat.{zero-add, add-zero, add-suc, suc-add}
@@ -17,8 +17,8 @@ use Rattle.codec.specs.Table.{field, fields, lengthOf, lengthMost, lastKind, is
 use Rattle.codec.specs.Codec.{valAt, firstBad}
 use Rattle.account.specs.declared.Account.{Account}
 use Rattle.account.specs.declared.Days.{Days}
-use Rattle.account.specs.Judge.{versionOf, kindOf, valuesOf, daysOver, partsWrong, RefusedBy}
-use Rattle.account.specs.Compared.{Compared, numbers, noNumbers, outside, rangeOf, valueAt, badField, daysWith, sharesOf, partsOf, valuesCompared, compared}
+use Rattle.account.specs.Judge.{versionOf, kindOf, valuesOf, daysOver, partsWrong, grazedOver, RefusedBy}
+use Rattle.account.specs.Compared.{Compared, numbers, noNumbers, outside, rangeOf, valueAt, badField, daysWith, sharesOf, partsOf, grazedWith, valuesCompared, compared}
 use Rattle.account.specs.Compared.{BeyondEnd, ComparesWrongly}
 
 -- ---- a range
@@ -83,18 +83,29 @@ days-above d k v = go (eqb k 3) (eqb k 4) (eqb k 5)
     go false false true e = ltb-true _ _ e
     go false false false e = no-bool e
 
-abbrev Together : ℕ → List ℕ → Compared → Type 0
-Together k v x =
-    ((k ≡ 4) × (x ≡ numbers (sharesOf v) 10000) × (x .value ≡ x .limit → ⊥)) ⊎ ((k ≡ 5) × (x ≡ numbers (partsOf v) 1000) × (x .limit < x .value))
+or-none : (b : Bool) → b || false ≡ true → b ≡ true
+or-none true e = refl
+or-none false e = e
 
-parts-wrong : (k : ℕ) (v : List ℕ) → partsWrong k v ≡ true → Together k v (pick (eqb k 4) (numbers (sharesOf v) 10000) (numbers (partsOf v) 1000))
-parts-wrong k v = go (eqb k 4) (eqb k 5) refl refl
+abbrev Together : Days → ℕ → List ℕ → Compared → Type 0
+Together d k v x =
+    ((k ≡ 4) × (x ≡ numbers (sharesOf v) 10000) × (x .value ≡ x .limit → ⊥))
+    ⊎ (((k ≡ 5) × (x ≡ numbers (partsOf v) 1000) × (x .limit < x .value)) ⊎ ((k ≡ 10) × (x ≡ numbers (grazedWith d v) 10000) × (x .limit < x .value)))
+
+-- the shares, a pig's parts, or the grazed fractions: whichever of the two tests of 10 refuses
+together-wrong : (d : Days) (k : ℕ) (v : List ℕ) → partsWrong k v || grazedOver d k v ≡ true
+    → Together d k v (pick (eqb k 4) (numbers (sharesOf v) 10000) (pick (eqb k 5) (numbers (partsOf v) 1000) (numbers (grazedWith d v) 10000)))
+together-wrong d k v e = go (eqb k 4) (eqb k 5) (eqb k 10) refl refl refl e
   where
-    go : (x y : Bool) → eqb k 4 ≡ x → eqb k 5 ≡ y → pick x (not (eqb (sharesOf v) 10000)) (pick y (ltb 1000 (partsOf v)) false) ≡ true
-        → Together k v (pick x (numbers (sharesOf v) 10000) (numbers (partsOf v) 1000))
-    go true y p q e = inl (eqb-true _ _ p, refl, eqb-false _ _ (not-true _ e))
-    go false true p q e = inr (eqb-true _ _ q, refl, ltb-true _ _ e)
-    go false false p q e = no-bool e
+    go : (x y z : Bool) → eqb k 4 ≡ x → eqb k 5 ≡ y → eqb k 10 ≡ z
+        → pick x (not (eqb (sharesOf v) 10000)) (pick y (ltb 1000 (partsOf v)) false) || (z && ltb 10000 (grazedWith d v)) ≡ true
+        → Together d k v (pick x (numbers (sharesOf v) 10000) (pick y (numbers (partsOf v) 1000) (numbers (grazedWith d v) 10000)))
+    go true y true p q r e = let four : k ≡ 4 = eqb-true _ _ p in let ten : k ≡ 10 = eqb-true _ _ r in absurd (omega arith)
+    go true y false p q r e = inl (eqb-true _ _ p, refl, eqb-false _ _ (not-true _ (or-none _ e)))
+    go false true true p q r e = let five : k ≡ 5 = eqb-true _ _ q in let ten : k ≡ 10 = eqb-true _ _ r in absurd (omega arith)
+    go false true false p q r e = inr (inl (eqb-true _ _ q, refl, ltb-true _ _ (or-none _ e)))
+    go false false true p q r e = inr (inr (eqb-true _ _ r, refl, ltb-true _ _ e))
+    go false false false p q r e = no-bool e
 
 -- ---- what the test that refuses compares
 
@@ -114,7 +125,7 @@ compares-wrongly c a r t =
       inRange = λ e. rw e (refl, refl, beyond _ _ _ (field-off k v (eqb-false _ _ (not-true _ (t .values .inRange .1 (sym e))))));
       rising = λ e. rw e (eqb-true _ _ (and-l (eqb k 2) _ (t8 (sym e))), refl, leb-true _ _ (and-r (eqb k 2) _ (t8 (sym e))));
       days = λ e. rw e (refl, days-above (a .days) k v (t .values .days .1 (sym e)));
-      together = λ e. rw e (parts-wrong k v (t .values .together .1 (sym e)));
+      together = λ e. rw e (together-wrong (a .days) k v (t .values .together .1 (sym e)));
       feed = λ e. rw e refl;
       count = λ e. rw e (eqb-true _ _ (and-l (eqb k 8) _ (t12 (sym e))), refl, eqb-false _ _ (not-true _ (and-r (eqb k 8) _ (t12 (sym e)))));
     }

@@ -3,7 +3,7 @@
 use Prim.Native.Nat.{ℕ, _≤_, _<_}
 use mathlib.Core.Path.{_≡_, refl}
 use mathlib.Core.List.{List, [], _∷_}
-use mathlib.Core.Bool.{Bool, true, false}
+use mathlib.Core.Bool.{Bool, true, false, _||_}
 use native.Mathlib.Omega.{arith}
 use Rattle.base.specs.Choice.{pick}
 use Rattle.base.proofs.Tests.{of-choice}
@@ -69,6 +69,13 @@ first-by c n (t ∷ ts) w h = go (t .0) (first-by c (t .1) ts (w .1) h) (first-a
         → DecidedBy c (t .1) b × Each (DecidedBy c) ts
     go true k l e = ((λ m. absurd (omega arith), λ q. refl), behind c (t .1) ts (omega arith) (w .1))
     go false k l e = ((λ m. refl, λ q. let z = l (omega arith) in absurd (omega arith)), k e)
+
+-- two tests of one number are one test of either
+pub first-either : (a b : Bool) (n : ℕ) (ts us : List (Bool × ℕ)) → first ts ≡ first us → first ((a, n) ∷ (b, n) ∷ ts) ≡ first ((a || b, n) ∷ us)
+unfolding first
+first-either true b n ts us e = refl
+first-either false true n ts us e = refl
+first-either false false n ts us e = e
 
 -- ---- the three that every kind has: 5, 6 and 7
 

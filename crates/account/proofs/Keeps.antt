@@ -10,17 +10,16 @@ use borrow.Author.Tests.{leb-true, ltb-false, eqb-true, eqb-false, eq-eqb, ne-eq
 use lib.ListN.{length, getD}
 use lib.Dec.{leb, eqb}
 use Rattle.base.specs.Choice.{pick}
-use Rattle.base.proofs.Tests.{and-l, and-r, not-false, not-true, of-choice}
+use Rattle.base.proofs.Tests.{and-l, and-r, or-l, not-false, not-true, of-choice}
 use Rattle.codec.proofs.EachKind.{each-kind}
 use Rattle.codec.specs.declared.Field.{Field}
 use Rattle.codec.specs.Table.{table, fields, isKind, lineSize, totalSize, linesMost}
 use Rattle.codec.specs.Codec.{firstBad}
-use Rattle.codec.proofs.Round.{line-length, total-length}
 use Rattle.codec.proofs.Within.{bad-position}
 use Rattle.grams.specs.Farm.{energyOf, soilOf}
 use Rattle.grams.specs.Tillage.{tillageOf}
 use Rattle.grams.proofs.Small.{enteric-small, cattle-excreted-small, cattle-n2o-small, pig-ch4-small, pig-n2o-small, pig-excreted-small}
-use Rattle.grams.proofs.Small.{pig-land-small, energy-small, soil-small, tillage-small}
+use Rattle.grams.proofs.Small.{pig-land-small, energy-small, soil-small, tillage-small, grazing-small}
 use Rattle.account.specs.declared.Account.{Account}
 use Rattle.account.specs.declared.Days.{Days}
 use Rattle.account.specs.declared.Figures.{Figures}
@@ -33,11 +32,12 @@ use Rattle.account.specs.Judge.{kindOf, valuesOf, noRecord, refused, ope
 use Rattle.account.specs.Judge.{first, ValuesPass, Step, accepted, judge}
 use Rattle.account.specs.Told.{Small}
 use Rattle.account.proofs.Sorts.{by-sort}
+use Rattle.account.proofs.Sums as sums
 use Rattle.account.proofs.Sums.{ch4-small, co2-small, cattle-small, pig-small, bounded-none, bounded-next, bounded-added, grouped-none}
 use Rattle.account.proofs.Sums.{ungrouped-none, grouped-next, grouped-added}
 use Rattle.account.proofs.Refusals.{passed, not-refused, refused-by, number-most}
-use Rattle.account.proofs.Ranges.{farm-in, heading-in, enteric-in, cattle-in, pig-in, energy-in, soil-in, tillage-in}
-use Rattle.account.proofs.Told.{head-most, both-long}
+use Rattle.account.proofs.Ranges.{farm-in, heading-in, enteric-in, cattle-in, pig-in, energy-in, soil-in, tillage-in, grazing-in}
+use Rattle.account.proofs.Told.{head-most, line-long, total-long, both-long}
 
 -- ---- an account in range
 
@@ -49,7 +49,7 @@ in-range-none =
     record {
       counted = record { stage-most = omega arith; records-most = omega arith; in-zero = λ e. refl; in-one = λ e. absurd (omega arith); in-two = λ e. absurd (omega arith) };
       warmed = record { set-most = omega arith; none = λ e. refl; some = λ e. refl };
-      heading = inr (record { group = refl; class = refl; head = refl; enteric = refl; nitrogen = refl; pig = refl });
+      heading = inr (record { group = refl; class = refl; head = refl; enteric = refl; nitrogen = refl; pig = refl; grazed = refl });
       sums = bounded-none 0;
       grouped = grouped-none 0;
       ungrouped = λ e. ungrouped-none;
@@ -90,7 +90,7 @@ short-at (r ∷ t) (suc k) s = short-at t k (s .1)
 row-short : (k : ℕ) → length (fields k) ≤ 12
 unfolding table Short
 row-short k =
-    short-at table k (omega arith, (omega arith, (omega arith, (omega arith, (omega arith, (omega arith, (omega arith, (omega arith, (omega arith, (omega arith, tt))))))))))
+    short-at table k (omega arith, (omega arith, (omega arith, (omega arith, (omega arith, (omega arith, (omega arith, (omega arith, (omega arith, (omega arith, (omega arith, tt)))))))))))
 
 -- 7 is the number only where a field is out of range
 seven-field : (a : Account) (r : List ℕ) → first (refusals a r) ≡ 7 → firstBad (fields (kindOf r)) (valuesOf r) 0 ≡ 0 → ⊥
@@ -140,6 +140,7 @@ module _ (a : Account) (f : AccountInRange a) (early : a .stage < 2) where
             enteric-most = omega arith;
             nitrogen-most = omega arith;
             pig-most = omega arith;
+            grazed-most = omega arith;
             records-least = omega arith;
           });
           sums = bounded-next (f .sums);
@@ -149,8 +150,9 @@ module _ (a : Account) (f : AccountInRange a) (early : a .stage < 2) where
           unrefused = λ e. zeros;
         }
 
-    headed-on : Headed (a .heading) (a .days) (a .records) → (d : Days) → d .enteric ≤ 366 → d .nitrogen ≤ 366 → d .pig ≤ 366 → Headed (a .heading) d (a .records + 1)
-    headed-on h d e n p =
+    headed-on : Headed (a .heading) (a .days) (a .records) → (d : Days) → d .enteric ≤ 366 → d .nitrogen ≤ 366 → d .pig ≤ 366 → d .grazed ≤ 10000
+        → Headed (a .heading) d (a .records + 1)
+    headed-on h d e n p g =
         record {
           group-least = h .group-least;
           group-most = h .group-most;
@@ -160,13 +162,14 @@ module _ (a : Account) (f : AccountInRange a) (early : a .stage < 2) where
           enteric-most = e;
           nitrogen-most = n;
           pig-most = p;
+          grazed-most = g;
           records-least = omega arith;
         }
 
     -- with the days as they were
     heading-on : Headed (a .heading) (a .days) (a .records + 1) ⊎ Unheaded (a .heading) (a .days)
     heading-on =
-        ⊎-elim (λ (h : Headed (a .heading) (a .days) (a .records)). inl (headed-on h (a .days) (h .enteric-most) (h .nitrogen-most) (h .pig-most)))
+        ⊎-elim (λ (h : Headed (a .heading) (a .days) (a .records)). inl (headed-on h (a .days) (h .enteric-most) (h .nitrogen-most) (h .pig-most) (h .grazed-most)))
         (λ (u : Unheaded (a .heading) (a .days)). inr u) (f .heading)
 
     -- a class means a heading
@@ -220,7 +223,7 @@ module _ (a : Account) (f : AccountInRange a) (early : a .stage < 2) where
           let i = enteric-in v (a .heading .head) (head-most a f) (passed a 3 v c .ranges) in
           let h = headed-by (leb-true _ _ (and-l _ _ (and-l _ _ (passed a 3 v c .place)))) in
           in-range-grouped _ _ (ch4-small _ (enteric-small i))
-          (headed-on h _ (ltb-false _ _ (c .days)) (h .nitrogen-most) (h .pig-most))
+          (headed-on h _ (ltb-false _ _ (c .days)) (h .nitrogen-most) (h .pig-most) (h .grazed-most))
 
       detail-cattle : ValuesPass a 4 v → Kept (accepted a 4 v)
       unfolding inPlace figuresOf accepted sortOf
@@ -228,16 +231,24 @@ module _ (a : Account) (f : AccountInRange a) (early : a .stage < 2) where
           let i = cattle-in v (a .heading .head) (head-most a f) (passed a 4 v c .ranges) in
           let h = headed-by (leb-true _ _ (and-l _ _ (and-l _ _ (passed a 4 v c .place)))) in
           in-range-grouped _ _ (cattle-small _ (cattle-n2o-small i) (cattle-excreted-small i))
-          (headed-on h _ (h .enteric-most) (ltb-false _ _ (c .days)) (h .pig-most))
+          (headed-on h _ (h .enteric-most) (ltb-false _ _ (c .days)) (h .pig-most) (h .grazed-most))
 
       detail-pig : ValuesPass a 5 v → Kept (accepted a 5 v)
       unfolding inPlace figuresOf accepted sortOf
       detail-pig c =
-          let i = pig-in v (a .heading .head) (head-most a f) (passed a 5 v c .ranges) (ltb-false _ _ (c .together)) in
+          let i = pig-in v (a .heading .head) (head-most a f) (passed a 5 v c .ranges) (ltb-false _ _ (or-l _ _ (c .together))) in
           let four : a .heading .class ≡ 4 = eqb-true _ _ (and-l _ _ (passed a 5 v c .place)) in
           let h = headed-by (omega arith) in
           in-range-grouped _ _ (pig-small _ (pig-ch4-small i) (pig-n2o-small i) (pig-excreted-small i) (pig-land-small i))
-          (headed-on h _ (h .enteric-most) (h .nitrogen-most) (ltb-false _ _ (c .days)))
+          (headed-on h _ (h .enteric-most) (h .nitrogen-most) (ltb-false _ _ (c .days)) (h .grazed-most))
+
+      detail-grazing : ValuesPass a 10 v → Kept (accepted a 10 v)
+      unfolding inPlace figuresOf accepted sortOf
+      detail-grazing c =
+          let i = grazing-in v (a .heading .head) (head-most a f) (passed a 10 v c .ranges) in
+          let h = headed-by (leb-true _ _ (and-l _ _ (and-l _ _ (passed a 10 v c .place)))) in
+          in-range-grouped _ _ (sums.grazing-small _ (grazing-small i))
+          (headed-on h _ (h .enteric-most) (h .nitrogen-most) (h .pig-most) (ltb-false _ _ (c .together)))
 
       detail-energy : ValuesPass a 6 v → Kept (accepted a 6 v)
       unfolding figuresOf accepted sortOf
@@ -286,7 +297,7 @@ module _ (a : Account) (f : AccountInRange a) (early : a .stage < 2) where
   in-range-accepted k v c both =
       each-kind (λ (n : ℕ). ValuesPass a n v → Kept (accepted a n v)) (kept-farm v) (later 2 v refl kept-heading) (later 3 v refl detail-enteric)
       (later 4 v refl detail-cattle) (later 5 v refl detail-pig) (later 6 v refl detail-energy) (later 7 v refl detail-soil)
-      (later 8 v refl kept-close) (later 9 v refl detail-tillage) k both c
+      (later 8 v refl kept-close) (later 9 v refl detail-tillage) (later 10 v refl detail-grazing) k both c
 
 -- ---- a whole record
 
@@ -322,10 +333,10 @@ ends-short a = go (eqb (a .heading .group) 0)
     go : (b : Bool)
         → (length (joined (pick b [] (lineWith 16 (a .heading .group) (groupFigures (a .subtotal)) ∷ []))) ≤ linesMost)
         × (length (joined (pick b [] (lineWith 16 (a .heading .group) (groupFigures (a .subtotal)) ∷ []) ++ (totalOf a ∷ []))) ≤ linesMost)
-    go true = (omega arith, one-line (totalOf a) totalSize (total-length _ _ _ _ _ _) (omega arith))
+    go true = (omega arith, one-line (totalOf a) totalSize (total-long _ _) (omega arith))
     go false = (
-      one-line (lineWith 16 (a .heading .group) (groupFigures (a .subtotal))) lineSize (line-length _ _ _ _ _ _ _) (omega arith),
-      rw (append-nil, both-long _ _ _ _ _ _ _ _ _ _ _ _ _) (omega arith),
+      one-line (lineWith 16 (a .heading .group) (groupFigures (a .subtotal))) lineSize (line-long _ _ _) (omega arith),
+      rw (append-nil, both-long _ _ _ _ _) (omega arith),
     )
 
 pub judge-short : (a : Account) (r : List ℕ) → length (joined (judge a r .lines)) ≤ linesMost
@@ -333,6 +344,6 @@ unfolding judge accepted
 judge-short a r =
     of-choice ShortLines (eqb (first (refusals a r)) 0)
     (λ e. by-sort ShortLines (sortOf (kindOf r)) (λ e. omega arith) (λ e. ends-short a .0)
-    (λ e. one-line (lineOf (a .heading) (kindOf r) (valuesOf r)) lineSize (line-length _ _ _ _ _ _ _) (omega arith))
-    (λ e. one-line (lineOf (a .heading) (kindOf r) (valuesOf r)) lineSize (line-length _ _ _ _ _ _ _) (omega arith)) (λ e. ends-short a .1))
+    (λ e. one-line (lineOf (a .heading) (kindOf r) (valuesOf r)) lineSize (line-long _ _ _) (omega arith))
+    (λ e. one-line (lineOf (a .heading) (kindOf r) (valuesOf r)) lineSize (line-long _ _ _) (omega arith)) (λ e. ends-short a .1))
     (λ e. omega arith)

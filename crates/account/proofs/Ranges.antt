@@ -13,6 +13,7 @@ use Rattle.grams.specs.Cattle.{EntericIn, CattleIn}
 use Rattle.grams.specs.Pig.{PigIn}
 use Rattle.grams.specs.Farm.{EnergyIn, SoilIn}
 use Rattle.grams.specs.Tillage.{TillageIn}
+use Rattle.grams.specs.Grazing.{GrazingIn}
 use Rattle.account.specs.Figures.{cattleRation, pigRation}
 
 each-good : (fs : List Field) (vs : List ℕ) (i : ℕ) → firstBad fs vs i ≡ 0 → Good (length fs) fs vs i
@@ -118,3 +119,20 @@ tillage-in v e =
       years-in = (omega arith, omega arith);
       area-in = omega arith;
     }
+
+pub grazing-in : (v : List ℕ) (head : ℕ) → head ≤ 20000 → firstBad (fields 10) v 0 ≡ 0
+    → GrazingIn (getD v 0 0) (getD v 1 0) (getD v 2 0) (getD v 3 0) head
+unfolding table
+grazing-in v head h e =
+    let g = good 10 v e in
+    record {
+      region-in = (omega arith, omega arith);
+      column-in = (omega arith, omega arith);
+      weight-in = omega arith;
+      fraction-in = omega arith;
+      head-in = h;
+    }
+
+pub grazing-fraction : (v : List ℕ) → firstBad (fields 10) v 0 ≡ 0 → getD v 3 0 ≤ 10000
+unfolding table
+grazing-fraction v e = let g = good 10 v e in omega arith

@@ -1,9 +1,9 @@
 -- The refusals by name: what the number of the first one says of each test. The positions in the list are counted here and nowhere else.
 -- Assumes nothing.
 use Prim.Native.Nat.{ℕ, _≤_, _<_}
-use mathlib.Core.Path.{_≡_, refl}
-use mathlib.Core.List.{List}
-use mathlib.Core.Bool.{Bool, true, false}
+use mathlib.Core.Path.{_≡_, refl, sym, _∙_}
+use mathlib.Core.List.{List, [], _∷_}
+use mathlib.Core.Bool.{Bool, true, false, _||_}
 use native.Mathlib.Omega.{arith}
 use borrow.Author.Tests.{leb-false, eqb-true}
 use lib.Dec.{eqb}
@@ -11,14 +11,49 @@ use Rattle.base.specs.Choice.{pick}
 use Rattle.base.proofs.Tests.{not-false}
 use Rattle.account.specs.declared.Account.{Account}
 use Rattle.account.specs.Judge.{kindOf, valuesOf, valueRefusals, refusals, first, ValueTests, Tests, LetsThrough, ValuesPass, NotRefused}
+use Rattle.account.specs.Judge.{wrongVersion, wrongKind, wrongLength, bookFull, outOfPlace, outOfRange, notRising, daysOver, partsWrong, grazedOver, feedBelow, wrongCount}
 use Rattle.account.specs.Judge.{DecidedBy, RefusedBy, Step, accepted, weigh, judge}
-use Rattle.account.proofs.First.{Within, Each, Rising, first-most, first-none, none-first, first-by}
+use Rattle.account.proofs.First.{Within, Each, Rising, first-most, first-none, none-first, first-by, first-either}
 use Rattle.account.proofs.Told.{Passes}
+
+-- ---- one test for each number
+
+abbrev valuesByNumber : Account → ℕ → List ℕ → List (Bool × ℕ)
+valuesByNumber a k v =
+    (bookFull a, 5)
+    ∷ (outOfPlace a k, 6)
+    ∷ (outOfRange k v, 7)
+    ∷ (notRising a k v, 8)
+    ∷ (daysOver (a .days) k v, 9)
+    ∷ (partsWrong k v || grazedOver (a .days) k v, 10)
+    ∷ (feedBelow k v, 11)
+    ∷ (wrongCount a k v, 12)
+    ∷ []
+
+abbrev byNumber : Account → List ℕ → List (Bool × ℕ)
+byNumber a r = (wrongVersion r, 2) ∷ (wrongKind r, 3) ∷ (wrongLength r, 4) ∷ valuesByNumber a (kindOf r) (valuesOf r)
+
+first-behind : (b : Bool) (n : ℕ) (ts us : List (Bool × ℕ)) → first ts ≡ first us → first ((b, n) ∷ ts) ≡ first ((b, n) ∷ us)
+unfolding first
+first-behind true n ts us e = refl
+first-behind false n ts us e = e
+
+values-same-first : (a : Account) (k : ℕ) (v : List ℕ) → first (valueRefusals a k v) ≡ first (valuesByNumber a k v)
+values-same-first a k v =
+    first-behind _ 5 _ _
+    (first-behind _ 6 _ _
+    (first-behind _ 7 _ _
+    (first-behind _ 8 _ _
+    (first-behind _ 9 _ _
+    (first-either (partsWrong k v) (grazedOver (a .days) k v) 10 _ _ refl)))))
+
+same-first : (a : Account) (r : List ℕ) → first (refusals a r) ≡ first (byNumber a r)
+same-first a r = first-behind _ 2 _ _ (first-behind _ 3 _ _ (first-behind _ 4 _ _ (values-same-first a (kindOf r) (valuesOf r))))
 
 -- ---- from the list to the names, and back
 
 module _ (P : ℕ → Bool → Type 0) where
-  value-names : (a : Account) (k : ℕ) (v : List ℕ) → Each P (valueRefusals a k v) → ValueTests P a k v
+  value-names : (a : Account) (k : ℕ) (v : List ℕ) → Each P (valuesByNumber a k v) → ValueTests P a k v
   value-names a k v e =
       record {
         room = e .0;
@@ -31,26 +66,26 @@ module _ (P : ℕ → Bool → Type 0) where
         count = e .1 .1 .1 .1 .1 .1 .1 .0;
       }
 
-  value-list : (a : Account) (k : ℕ) (v : List ℕ) → ValueTests P a k v → Each P (valueRefusals a k v)
+  value-list : (a : Account) (k : ℕ) (v : List ℕ) → ValueTests P a k v → Each P (valuesByNumber a k v)
   value-list a k v t = (t .room, (t .place, (t .inRange, (t .rising, (t .days, (t .together, (t .feed, (t .count, tt))))))))
 
-  names : (a : Account) (r : List ℕ) → Each P (refusals a r) → Tests P a r
+  names : (a : Account) (r : List ℕ) → Each P (byNumber a r) → Tests P a r
   names a r e = record { version = e .0; kind = e .1 .0; long = e .1 .1 .0; values = value-names a (kindOf r) (valuesOf r) (e .1 .1 .1) }
 
-  list : (a : Account) (r : List ℕ) → Tests P a r → Each P (refusals a r)
+  list : (a : Account) (r : List ℕ) → Tests P a r → Each P (byNumber a r)
   list a r t = (t .version, (t .kind, (t .long, value-list a (kindOf r) (valuesOf r) (t .values))))
 
-values-rise : (a : Account) (k : ℕ) (v : List ℕ) → Rising 4 (valueRefusals a k v)
+values-rise : (a : Account) (k : ℕ) (v : List ℕ) → Rising 4 (valuesByNumber a k v)
 values-rise a k v = (omega arith, (omega arith, (omega arith, (omega arith, (omega arith, (omega arith, (omega arith, (omega arith, tt))))))))
 
-rise : (a : Account) (r : List ℕ) → Rising 1 (refusals a r)
+rise : (a : Account) (r : List ℕ) → Rising 1 (byNumber a r)
 rise a r = (omega arith, (omega arith, (omega arith, values-rise a (kindOf r) (valuesOf r))))
 
 -- ---- values of a kind
 
 module _ (a : Account) (k : ℕ) (v : List ℕ) where
   values-pass : first (valueRefusals a k v) ≡ 0 → ValuesPass a k v
-  values-pass e = value-names LetsThrough a k v (first-none 4 (valueRefusals a k v) (values-rise a k v) e)
+  values-pass e = value-names LetsThrough a k v (first-none 4 (valuesByNumber a k v) (values-rise a k v) (sym (values-same-first a k v) ∙ e))
 
   -- 5, 6 and 7, as the arithmetic wants them
   pub passed : ValuesPass a k v → Passes a k v
@@ -59,22 +94,22 @@ module _ (a : Account) (k : ℕ) (v : List ℕ) where
 -- ---- a whole record
 
 module _ (a : Account) (r : List ℕ) where
-  values-most : Within 12 (valueRefusals a (kindOf r) (valuesOf r))
+  values-most : Within 12 (valuesByNumber a (kindOf r) (valuesOf r))
   values-most = (omega arith, (omega arith, (omega arith, (omega arith, (omega arith, (omega arith, (omega arith, (omega arith, tt))))))))
 
   -- the number of the first refusal is 0 where no test refuses, and there alone
   pub not-refused : first (refusals a r) ≡ 0 → NotRefused a r
-  not-refused e = names LetsThrough a r (first-none 1 (refusals a r) (rise a r) e)
+  not-refused e = names LetsThrough a r (first-none 1 (byNumber a r) (rise a r) (sym (same-first a r) ∙ e))
 
   pub none-refuses : NotRefused a r → first (refusals a r) ≡ 0
-  none-refuses t = none-first (refusals a r) (list LetsThrough a r t)
+  none-refuses t = same-first a r ∙ none-first (byNumber a r) (list LetsThrough a r t)
 
   -- it is c where no test before c refuses, and c's does
   pub refused-by : (c : ℕ) → 0 < c → first (refusals a r) ≡ c → RefusedBy c a r
-  refused-by c h e = names (DecidedBy c) a r (first-by c 1 (refusals a r) (rise a r) h e)
+  refused-by c h e = names (DecidedBy c) a r (first-by c 1 (byNumber a r) (rise a r) h (sym (same-first a r) ∙ e))
 
   pub number-most : first (refusals a r) ≤ 12
-  number-most = first-most 12 (refusals a r) (omega arith, (omega arith, (omega arith, values-most)))
+  number-most = rw (same-first a r) (first-most 12 (byNumber a r) (omega arith, (omega arith, (omega arith, values-most))))
 
 -- ---- by the stage after it: what was not refused leaves another than 3
 

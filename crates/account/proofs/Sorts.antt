@@ -26,7 +26,7 @@ by-sort P closes p q r t u = u refl
 -- only kind 2 heads
 pub heads-two : (k : ℕ) → sortOf k ≡ heads → k ≡ 2
 unfolding sortOf
-heads-two k e = go (eqb k 1) (eqb k 2) (eqb k 3 || (eqb k 4 || eqb k 5)) (eqb k 8) refl e
+heads-two k e = go (eqb k 1) (eqb k 2) (eqb k 3 || (eqb k 4 || (eqb k 5 || eqb k 10))) (eqb k 8) refl e
   where
     go : (a b c d : Bool) → eqb k 2 ≡ b → pick a opens (pick b heads (pick c ofGroup (pick d closes ofFarm))) ≡ heads → k ≡ 2
     go true b c d q e = let z : _≡_ {A = ℕ} 0 1 = cc in absurd (omega arith)
@@ -36,15 +36,16 @@ heads-two k e = go (eqb k 1) (eqb k 2) (eqb k 3 || (eqb k 4 || eqb k 5)) (eqb k 
     go false false false false q e = let z : _≡_ {A = ℕ} 0 1 = cc in absurd (omega arith)
 
 -- a detail of the farm is of none of the group's kinds
-pub not-of-group : (k : ℕ) → sortOf k ≡ ofFarm → (eqb k 3 ≡ false) × ((eqb k 4 ≡ false) × (eqb k 5 ≡ false))
+pub not-of-group : (k : ℕ) → sortOf k ≡ ofFarm → (eqb k 3 ≡ false) × ((eqb k 4 ≡ false) × ((eqb k 5 ≡ false) × (eqb k 10 ≡ false)))
 unfolding sortOf
-not-of-group k e = go (eqb k 1) (eqb k 2) (eqb k 3) (eqb k 4) (eqb k 5) (eqb k 8) e
+not-of-group k e = go (eqb k 1) (eqb k 2) (eqb k 3) (eqb k 4) (eqb k 5) (eqb k 10) (eqb k 8) e
   where
-    go : (a b c d f g : Bool) → pick a opens (pick b heads (pick (c || (d || f)) ofGroup (pick g closes ofFarm))) ≡ ofFarm
-        → (c ≡ false) × ((d ≡ false) × (f ≡ false))
-    go true b c d f g e = let z : _≡_ {A = ℕ} 0 1 = cc in absurd (omega arith)
-    go false true c d f g e = let z : _≡_ {A = ℕ} 0 1 = cc in absurd (omega arith)
-    go false false true d f g e = let z : _≡_ {A = ℕ} 0 1 = cc in absurd (omega arith)
-    go false false false true f g e = let z : _≡_ {A = ℕ} 0 1 = cc in absurd (omega arith)
-    go false false false false true g e = let z : _≡_ {A = ℕ} 0 1 = cc in absurd (omega arith)
-    go false false false false false g e = (refl, (refl, refl))
+    go : (a b c d f h g : Bool) → pick a opens (pick b heads (pick (c || (d || (f || h))) ofGroup (pick g closes ofFarm))) ≡ ofFarm
+        → (c ≡ false) × ((d ≡ false) × ((f ≡ false) × (h ≡ false)))
+    go true b c d f h g e = let z : _≡_ {A = ℕ} 0 1 = cc in absurd (omega arith)
+    go false true c d f h g e = let z : _≡_ {A = ℕ} 0 1 = cc in absurd (omega arith)
+    go false false true d f h g e = let z : _≡_ {A = ℕ} 0 1 = cc in absurd (omega arith)
+    go false false false true f h g e = let z : _≡_ {A = ℕ} 0 1 = cc in absurd (omega arith)
+    go false false false false true h g e = let z : _≡_ {A = ℕ} 0 1 = cc in absurd (omega arith)
+    go false false false false false true g e = let z : _≡_ {A = ℕ} 0 1 = cc in absurd (omega arith)
+    go false false false false false false g e = (refl, (refl, (refl, refl)))

@@ -12,12 +12,13 @@ use lib.Dec.{leb, eqb}
 use Rattle.base.specs.Choice.{pick}
 use Rattle.base.proofs.Tests.{not-false}
 use Rattle.codec.specs.Table.{fields, lengthOf, isKind, lineSize, totalSize, linesMost}
-use Rattle.codec.specs.Codec.{valAt, valuesAt, firstBad, lineBytes, totalBytes}
+use Rattle.codec.specs.Codec.{valAt, valuesAt, firstBad}
 use Rattle.codec.proofs.Round.{line-length, total-length}
 use Rattle.grams.specs.Cattle.{belowZero, manureOf, CattleSmall, Nitrogen}
 use Rattle.grams.specs.Pig.{Manure}
 use Rattle.grams.specs.Units.{noCo2, Co2Within}
 use Rattle.grams.specs.declared.units.Co2.{Co2}
+use Rattle.grams.specs.declared.units.Grazed.{Grazed}
 use Rattle.grams.specs.declared.cattle.CattleRation.{CattleRation}
 use Rattle.grams.specs.declared.cattle.CattleManure.{CattleManure}
 use Rattle.grams.specs.declared.cattle.CattleNitrogen.{CattleNitrogen}
@@ -29,13 +30,13 @@ use Rattle.account.specs.declared.Days.{Days}
 use Rattle.account.specs.declared.Figures.{Figures}
 use Rattle.account.specs.declared.Subtotal.{Subtotal}
 use Rattle.account.specs.declared.Judged.{Judged}
-use Rattle.account.specs.Figures.{groupFigures, ch4Alone, co2Alone, cattleFigures, pigFigures}
-use Rattle.account.specs.Line.{joined, bytesOf, lineWith, co2eIn, subtotals, totalOf}
+use Rattle.account.specs.Figures.{groupFigures, ch4Alone, co2Alone, grazingAlone, cattleFigures, pigFigures}
+use Rattle.account.specs.Line.{joined, bytesOf, lineWith, totalWith, co2eIn, subtotals, totalOf}
 use Rattle.account.specs.Range.{Headed, Unheaded, Bounded, Grouped, AccountInRange}
-use Rattle.account.specs.Judge.{versionOf, kindOf, judge, first, inPlace, notRising, daysOver, partsWrong, feedBelow, wrongCount, valueRefusals}
+use Rattle.account.specs.Judge.{versionOf, kindOf, judge, first, inPlace, notRising, daysOver, partsWrong, grazedOver, feedBelow, wrongCount, valueRefusals}
 use Rattle.account.specs.Judge.{refused, underHeading, withDetail, closed, Step, accepted, weigh}
 use Rattle.account.specs.Told.{Tells, TellsIn, inRoom, Kind, Small, noLine, quiet, refusing, detailing, heading, closing}
-use Rattle.account.proofs.Sums.{ch4-small, co2-small, cattle-small, pig-small, bounded-more, grouped-more}
+use Rattle.account.proofs.Sums.{ch4-small, co2-small, grazing-small, cattle-small, pig-small, bounded-more, grouped-more}
 use Rattle.account.proofs.First.{three-clear, three-first}
 
 -- ---- an account in range, in what the arithmetic asks
@@ -47,12 +48,13 @@ pub record DaysMost (d : Days) : Type 0 where
   pub enteric : d .enteric ≤ 366
   pub nitrogen : d .nitrogen ≤ 366
   pub pig : d .pig ≤ 366
+  pub grazed : d .grazed ≤ 10000
 
 pub days-most : (a : Account) → AccountInRange a → DaysMost (a .days)
 days-most a f =
     ⊎-elim
-    (λ (h : Headed (a .heading) (a .days) (a .records)). record { enteric = h .enteric-most; nitrogen = h .nitrogen-most; pig = h .pig-most })
-    (λ (u : Unheaded (a .heading) (a .days)). record { enteric = omega arith; nitrogen = omega arith; pig = omega arith })
+    (λ (h : Headed (a .heading) (a .days) (a .records)). record { enteric = h .enteric-most; nitrogen = h .nitrogen-most; pig = h .pig-most; grazed = h .grazed-most })
+    (λ (u : Unheaded (a .heading) (a .days)). record { enteric = omega arith; nitrogen = omega arith; pig = omega arith; grazed = omega arith })
     (f .heading)
 
 pub sums-most : (a : Account) → AccountInRange a → Bounded (a .sums) 4096
@@ -68,6 +70,9 @@ small-ch4 f g e h = rw e (ch4-small g h)
 
 pub small-co2 : (f : Figures) (g : Co2) → f ≡ co2Alone g → Co2Within 1 g → Small f
 small-co2 f g e h = rw e (co2-small g h)
+
+pub small-grazing : (f : Figures) (g : Grazed) → f ≡ grazingAlone g → g .0 ≤ 10 ^ 11 → Small f
+small-grazing f g e h = rw e (grazing-small g h)
 
 pub small-pig : (f : Figures) (p : PigRation) (head : ℕ) (m : PigManure) → f ≡ pigFigures m → Manure p head m → Small f
 small-pig f p head m e s = rw e (pig-small m (s .ch4-small) (s .n2o-small) (s .excreted-small) (s .land-small))
@@ -102,10 +107,15 @@ module _ (r : CattleRation) (head : ℕ) (n : CattleNitrogen) (w : Nitrogen r he
 abbrev pub step : Account → List (List ℕ) → Step
 step a ls = record { account = a; lines = ls }
 
--- a subtotal and the total
-pub both-long : (kind group a b c d e a′ b′ c′ d′ e′ f′ : ℕ) → length (lineBytes kind group a b c d e ++ totalBytes a′ b′ c′ d′ e′ f′) ≡ linesMost
-both-long kind group a b c d e a′ b′ c′ d′ e′ f′ =
-    omega (arith, length-append (lineBytes kind group a b c d e) (totalBytes a′ b′ c′ d′ e′ f′), line-length kind group a b c d e, total-length a′ b′ c′ d′ e′ f′)
+-- how many bytes a line has, the total, and a subtotal with the total
+pub line-long : (k g : ℕ) (f : Figures) → length (lineWith k g f) ≡ lineSize
+line-long k g f = line-length _ _ _ _ _ _ _ _
+
+pub total-long : (f : Figures) (c : Co2) → length (totalWith f c) ≡ totalSize
+total-long f c = total-length _ _ _ _ _ _ _
+
+pub both-long : (k g : ℕ) (f h : Figures) (c : Co2) → length (lineWith k g f ++ totalWith h c) ≡ linesMost
+both-long k g f h c = omega (arith, length-append (lineWith k g f) (totalWith h c), line-long k g f, total-long h c)
 
 pub tells-quiet : (a : Account) → Tells (step a []) (quiet a)
 unfolding bytesOf
@@ -115,7 +125,7 @@ pub tells-detail : (a : Account) (kind group : ℕ) (days : Days) (s : Subtotal)
     → Tells (step (withDetail a days s f) (lineWith kind group f ∷ [])) (detailing a kind group days s f)
 unfolding bytesOf
 tells-detail a kind group days s f =
-    record { account = refl; bytes = sym (append-nil _); long = line-length _ _ _ _ _ _ _; short = omega arith }
+    record { account = refl; bytes = sym (append-nil _); long = line-long _ _ _; short = omega arith }
 
 -- a new heading: the subtotal of the last one, where there was one
 pub tells-heading : (a : Account) (group class head : ℕ) → Tells (step (underHeading a group class head) (subtotals a)) (heading a group class head)
@@ -129,7 +139,7 @@ tells-heading a group class head = go (eqb (a .heading .group) 0)
           line = pick b noLine (record { given = lineSize; kind = 16; group = a .heading .group; figures = groupFigures (a .subtotal); co2e = noCo2 });
         })
     go true = record { account = refl; bytes = refl; long = refl; short = omega arith }
-    go false = record { account = refl; bytes = sym (append-nil _); long = line-length _ _ _ _ _ _ _; short = omega arith }
+    go false = record { account = refl; bytes = sym (append-nil _); long = line-long _ _ _; short = omega arith }
 
 -- the close: the total alone, or the last group's subtotal before it
 pub tells-close : (a : Account) → Tells (step (closed a) (subtotals a ++ (totalOf a ∷ []))) (closing a)
@@ -142,12 +152,12 @@ tells-close a = go (eqb (a .heading .group) 0)
           account = closed a;
           line = record { given = pick b totalSize linesMost; kind = 16; group = a .heading .group; figures = groupFigures (a .subtotal); co2e = co2eIn a };
         })
-    go true = record { account = refl; bytes = sym (append-nil _); long = total-length _ _ _ _ _ _; short = omega arith }
+    go true = record { account = refl; bytes = sym (append-nil _); long = total-long _ _; short = omega arith }
     go false =
         record {
           account = refl;
           bytes = ap (λ (t : List ℕ). lineWith 16 (a .heading .group) (groupFigures (a .subtotal)) ++ t) (sym (append-nil (totalOf a)));
-          long = both-long _ _ _ _ _ _ _ _ _ _ _ _ _;
+          long = both-long _ _ _ _ _;
           short = omega arith;
         }
 
@@ -196,7 +206,13 @@ module _ {room : ℕ} {a : Account} {s : Step} {r : Judged} (t : TellsIn room a 
 -- the refusals from 8 on
 abbrev pub laterRefusals : Account → ℕ → List ℕ → List (Bool × ℕ)
 laterRefusals a k v =
-    (notRising a k v, 8) ∷ (daysOver (a .days) k v, 9) ∷ (partsWrong k v, 10) ∷ (feedBelow k v, 11) ∷ (wrongCount a k v, 12) ∷ []
+    (notRising a k v, 8)
+    ∷ (daysOver (a .days) k v, 9)
+    ∷ (partsWrong k v, 10)
+    ∷ (grazedOver (a .days) k v, 10)
+    ∷ (feedBelow k v, 11)
+    ∷ (wrongCount a k v, 12)
+    ∷ []
 
 -- what values that 5, 6 and 7 let through have
 pub record Passes (a : Account) (k : ℕ) (v : List ℕ) : Type 0 where

@@ -9,8 +9,10 @@ use Rattle.grams.specs.Cattle as cattle
 use Rattle.grams.specs.Pig as pig
 use Rattle.grams.specs.Farm.{energyOf, soilOf}
 use Rattle.grams.specs.Tillage.{tillageOf}
-use Rattle.grams.specs.Units.{gramsN2o, noCo2, plusCo2}
+use Rattle.grams.specs.Grazing.{grazingOf}
+use Rattle.grams.specs.Units.{gramsN2o, noCo2, plusCo2, gramsGrazed}
 use Rattle.grams.specs.declared.units.Co2.{Co2}
+use Rattle.grams.specs.declared.units.Grazed.{Grazed}
 use Rattle.grams.specs.declared.cattle.CattleRation.{CattleRation}
 use Rattle.grams.specs.declared.cattle.CattleManure.{CattleManure}
 use Rattle.grams.specs.declared.pig.PigRation.{PigRation}
@@ -21,7 +23,7 @@ use Rattle.account.specs.declared.Subtotal.{Subtotal}
 
 -- no grams at all
 abbrev pub noFigures : Figures
-noFigures = record { ch4 = 0; n2o = gramsN2o 0; co2 = noCo2; excreted = 0; land = 0 }
+noFigures = record { ch4 = 0; n2o = gramsN2o 0; co2 = noCo2; excreted = 0; land = 0; grazing = gramsGrazed 0 }
 
 -- each figure summed
 abbrev pub added : Figures → Figures → Figures
@@ -32,6 +34,7 @@ added f g =
       co2 = plusCo2 (f .co2) (g .co2);
       excreted = f .excreted + g .excreted;
       land = f .land + g .land;
+      grazing = gramsGrazed (f .grazing .0 + g .grazing .0);
     }
 
 -- a group's subtotal: nothing yet
@@ -42,16 +45,19 @@ noSubtotal = record { ch4 = 0; n2o = gramsN2o 0; excreted = 0; land = 0 }
 abbrev pub grouped : Subtotal → Figures → Subtotal
 grouped s f = record { ch4 = s .ch4 + f .ch4; n2o = gramsN2o (s .n2o .0 + f .n2o .0); excreted = s .excreted + f .excreted; land = s .land + f .land }
 
--- as the figures of a line: a group has no CO2
+-- as the figures of a line: a group has no CO2 and no grazing
 abbrev pub groupFigures : Subtotal → Figures
-groupFigures s = record { ch4 = s .ch4; n2o = s .n2o; co2 = noCo2; excreted = s .excreted; land = s .land }
+groupFigures s = record { ch4 = s .ch4; n2o = s .n2o; co2 = noCo2; excreted = s .excreted; land = s .land; grazing = gramsGrazed 0 }
 
--- 0 where the rule gives none: enteric CH4 alone, and CO2 alone
+-- 0 where the rule gives none: enteric CH4 alone, CO2 alone, and CO2e of grazing alone
 abbrev pub ch4Alone : ℕ → Figures
-ch4Alone g = record { ch4 = g; n2o = gramsN2o 0; co2 = noCo2; excreted = 0; land = 0 }
+ch4Alone g = record { ch4 = g; n2o = gramsN2o 0; co2 = noCo2; excreted = 0; land = 0; grazing = gramsGrazed 0 }
 
 abbrev pub co2Alone : Co2 → Figures
-co2Alone g = record { ch4 = 0; n2o = gramsN2o 0; co2 = g; excreted = 0; land = 0 }
+co2Alone g = record { ch4 = 0; n2o = gramsN2o 0; co2 = g; excreted = 0; land = 0; grazing = gramsGrazed 0 }
+
+abbrev pub grazingAlone : Grazed → Figures
+grazingAlone g = record { ch4 = 0; n2o = gramsN2o 0; co2 = noCo2; excreted = 0; land = 0; grazing = g }
 
 -- a cattle nitrogen record's values, by name; the pasture share counts in refusal 10 only
 abbrev pub cattleRation : List ℕ → CattleRation
@@ -68,7 +74,7 @@ cattleRation v =
     }
 
 abbrev pub cattleFigures : CattleManure → Figures
-cattleFigures m = record { ch4 = 0; n2o = m .n2o; co2 = noCo2; excreted = m .excreted; land = 0 }
+cattleFigures m = record { ch4 = 0; n2o = m .n2o; co2 = noCo2; excreted = m .excreted; land = 0; grazing = gramsGrazed 0 }
 
 -- a pig record's values, by name
 abbrev pub pigRation : List ℕ → PigRation
@@ -89,14 +95,15 @@ pigRation v =
     }
 
 abbrev pub pigFigures : PigManure → Figures
-pigFigures m = record { ch4 = m .ch4; n2o = m .n2o; co2 = noCo2; excreted = m .excreted; land = m .land }
+pigFigures m = record { ch4 = m .ch4; n2o = m .n2o; co2 = noCo2; excreted = m .excreted; land = m .land; grazing = gramsGrazed 0 }
 
--- the figures of a detail record of kind k (3 to 7, 9) with the values v, under the heading h
+-- the figures of a detail record of kind k (3 to 7, 9, 10) with the values v, under the heading h
 unfoldable pub figuresOf : Heading → ℕ → List ℕ → Figures
 figuresOf h k v =
     pick (eqb k 3) (ch4Alone (cattle.entericOf (getD v 1 0) (getD v 2 0) (h .head) (getD v 0 0)))
     (pick (eqb k 4) (cattleFigures (cattle.manureOf (cattleRation v) (h .head)))
     (pick (eqb k 5) (pigFigures (pig.manureOf (pigRation v) (h .head)))
+    (pick (eqb k 10) (grazingAlone (grazingOf (getD v 0 0) (getD v 1 0) (getD v 2 0) (getD v 3 0) (h .head)))
     (pick (eqb k 6) (co2Alone (energyOf (getD v 1 0) (getD v 2 0)))
     (pick (eqb k 7) (co2Alone (soilOf (getD v 0 0)))
-    (co2Alone (tillageOf (getD v 0 0) (getD v 1 0) (getD v 2 0) (getD v 3 0) (getD v 4 0)))))))
+    (co2Alone (tillageOf (getD v 0 0) (getD v 1 0) (getD v 2 0) (getD v 3 0) (getD v 4 0))))))))

@@ -37,6 +37,10 @@ valuesOf r = valuesAt (fields (kindOf r)) r 4
 
 -- ---- accounts made of accounts
 
+-- nothing used of the year
+abbrev pub noDays : Days
+noDays = record { enteric = 0; nitrogen = 0; pig = 0; grazed = 0 }
+
 -- before any record
 abbrev pub noRecord : Account
 noRecord =
@@ -45,7 +49,7 @@ noRecord =
       records = 0;
       set = 0;
       heading = record { group = 0; class = 0; head = 0 };
-      days = record { enteric = 0; nitrogen = 0; pig = 0 };
+      days = noDays;
       subtotal = noSubtotal;
       sums = noFigures;
       refusal = record { code = 0; accepted = 0; field = 0 };
@@ -79,7 +83,7 @@ opened a set =
       refusal = a .refusal;
     }
 
--- a new heading sets the day sums and the subtotal to zero
+-- a new heading sets the day sums, the grazed fraction and the subtotal to zero
 abbrev pub underHeading : Account → ℕ → ℕ → ℕ → Account
 underHeading a group class head =
     record {
@@ -87,7 +91,7 @@ underHeading a group class head =
       records = a .records + 1;
       set = a .set;
       heading = record { group = group; class = class; head = head };
-      days = record { enteric = 0; nitrogen = 0; pig = 0 };
+      days = noDays;
       subtotal = noSubtotal;
       sums = a .sums;
       refusal = a .refusal;
@@ -107,7 +111,7 @@ withDetail a days subtotal f =
       refusal = a .refusal;
     }
 
--- the close: heading, day sums, subtotal and sums stay
+-- the close: heading, day sums, grazed fraction, subtotal and sums stay
 abbrev pub closed : Account → Account
 closed a =
     record {
@@ -123,23 +127,24 @@ closed a =
 
 -- ---- the refusals
 
--- kinds 3 and 4 need a cattle heading (classes 1 to 3), kind 5 a pig heading (class 4)
+-- kinds 3, 4 and 10 need a cattle heading (classes 1 to 3), kind 5 a pig heading (class 4)
 abbrev pub headingServes : ℕ → ℕ → Bool
 headingServes class k =
-    pick (eqb k 3 || eqb k 4) (leb 1 class && leb class 3)
+    pick (eqb k 3 || (eqb k 4 || eqb k 10)) (leb 1 class && leb class 3)
     (pick (eqb k 5) (eqb class 4) true)
 
 -- the first record is kind 1 and no other is
 unfoldable pub inPlace : Account → ℕ → Bool
 inPlace a k = pick (eqb k 1) (eqb (a .records) 0) (headingServes (a .heading .class) k && not (eqb (a .records) 0))
 
--- so many days more of kinds 3, 4 and 5; other kinds have none
-abbrev pub daysAfter : Days → ℕ → ℕ → Days
-daysAfter d k more =
+-- the days of kinds 3, 4 and 5 with those of the values v, and the fraction of kind 10; other kinds have none
+abbrev pub daysAfter : Days → ℕ → List ℕ → Days
+daysAfter d k v =
     record {
-      enteric = pick (eqb k 3) (d .enteric + more) (d .enteric);
-      nitrogen = pick (eqb k 4) (d .nitrogen + more) (d .nitrogen);
-      pig = pick (eqb k 5) (d .pig + more) (d .pig);
+      enteric = pick (eqb k 3) (d .enteric + getD v 0 0) (d .enteric);
+      nitrogen = pick (eqb k 4) (d .nitrogen + getD v 0 0) (d .nitrogen);
+      pig = pick (eqb k 5) (d .pig + getD v 0 0) (d .pig);
+      grazed = pick (eqb k 10) (d .grazed + getD v 3 0) (d .grazed);
     }
 
 -- the tests, by name, each true where it refuses
@@ -148,7 +153,7 @@ daysAfter d k more =
 abbrev pub wrongVersion : List ℕ → Bool
 wrongVersion r = not (eqb (versionOf r) 1)
 
--- 3: kind not 1..9
+-- 3: kind not 1..10
 abbrev pub wrongKind : List ℕ → Bool
 wrongKind r = not (isKind (kindOf r))
 
@@ -185,6 +190,10 @@ partsWrong k v =
     pick (eqb k 4) (not (eqb (getD v 6 0 + getD v 7 0 + getD v 8 0) 10000))
     (pick (eqb k 5) (ltb 1000 (getD v 8 0 + getD v 10 0)) false)
 
+-- 10 too: grazed fractions over 10000 under the heading with this record
+abbrev pub grazedOver : Days → ℕ → List ℕ → Bool
+grazedOver d k v = eqb k 10 && ltb 10000 (d .grazed + getD v 3 0)
+
 -- 11: X below zero
 abbrev pub feedBelow : ℕ → List ℕ → Bool
 feedBelow k v = eqb k 4 && belowZero (cattleRation v)
@@ -202,6 +211,7 @@ valueRefusals a k v =
     ∷ (notRising a k v, 8)
     ∷ (daysOver (a .days) k v, 9)
     ∷ (partsWrong k v, 10)
+    ∷ (grazedOver (a .days) k v, 10)
     ∷ (feedBelow k v, 11)
     ∷ (wrongCount a k v, 12)
     ∷ []
@@ -217,14 +227,14 @@ first (t ∷ ts) = pick (t .0) (t .1) (first ts)
 
 -- ---- the refusals, test by test and by name
 
--- what P says of each test of values v of kind k, by the test's number and by whether it refuses
+-- what P says of each test of values v of kind k, by the test's number and by whether it refuses; the two tests of 10 count as one
 pub record ValueTests (P : ℕ → Bool → Type 0) (a : Account) (k : ℕ) (v : List ℕ) : Type 0 where
   pub room : P 5 (bookFull a)
   pub place : P 6 (outOfPlace a k)
   pub inRange : P 7 (outOfRange k v)
   pub rising : P 8 (notRising a k v)
   pub days : P 9 (daysOver (a .days) k v)
-  pub together : P 10 (partsWrong k v)
+  pub together : P 10 (partsWrong k v || grazedOver (a .days) k v)
   pub feed : P 11 (feedBelow k v)
   pub count : P 12 (wrongCount a k v)
 
@@ -263,7 +273,7 @@ pub record Step : Type 0 where
 abbrev pub withLine : Account → ℕ → List ℕ → Subtotal → Step
 withLine a k v subtotal =
     record {
-      account = withDetail a (daysAfter (a .days) k (getD v 0 0)) subtotal (figuresOf (a .heading) k v);
+      account = withDetail a (daysAfter (a .days) k v) subtotal (figuresOf (a .heading) k v);
       lines = lineOf (a .heading) k v ∷ [];
     }
 

@@ -29,7 +29,7 @@ pub record Warmed (set records : ℕ) : Type 0 where
   pub none : set ≡ 0 → records ≡ 0
   pub some : records ≡ 0 → set ≡ 0
 
--- a heading, its three fields in their ranges and its three day sums 0..366; never with fewer than 2 records
+-- a heading, its three fields in their ranges, its three day sums 0..366 and its grazed fraction 0..10000; never with fewer than 2 records
 pub record Headed (h : Heading) (d : Days) (records : ℕ) : Type 0 where
   pub group-least : 1 ≤ h .group
   pub group-most : h .group ≤ 65535
@@ -39,9 +39,10 @@ pub record Headed (h : Heading) (d : Days) (records : ℕ) : Type 0 where
   pub enteric-most : d .enteric ≤ 366
   pub nitrogen-most : d .nitrogen ≤ 366
   pub pig-most : d .pig ≤ 366
+  pub grazed-most : d .grazed ≤ 10000
   pub records-least : 2 ≤ records
 
--- no heading: all six zero
+-- no heading: all seven zero
 pub record Unheaded (h : Heading) (d : Days) : Type 0 where
   pub group : h .group ≡ 0
   pub class : h .class ≡ 0
@@ -49,14 +50,16 @@ pub record Unheaded (h : Heading) (d : Days) : Type 0 where
   pub enteric : d .enteric ≡ 0
   pub nitrogen : d .nitrogen ≡ 0
   pub pig : d .pig ≡ 0
+  pub grazed : d .grazed ≡ 0
 
--- sums at most records times 10^11 for CH4 and both nitrogens, 10^10 for N2O, 10^13 for CO2
+-- sums at most records times 10^11 for CH4, both nitrogens and grazing, 10^10 for N2O, 10^13 for CO2
 pub record Bounded (f : Figures) (records : ℕ) : Type 0 where
   pub ch4 : f .ch4 ≤ records * 10 ^ 11
   pub n2o : f .n2o .0 ≤ records * 10 ^ 10
   pub co2 : Co2Within records (f .co2)
   pub excreted : f .excreted ≤ records * 10 ^ 11
   pub land : f .land ≤ records * 10 ^ 11
+  pub grazing : f .grazing .0 ≤ records * 10 ^ 11
 
 -- the running subtotal, bounded as the sums
 pub record Grouped (s : Subtotal) (records : ℕ) : Type 0 where
@@ -121,6 +124,7 @@ headedTest h d records =
     && leb (d .enteric) 366
     && leb (d .nitrogen) 366
     && leb (d .pig) 366
+    && leb (d .grazed) 10000
     && leb 2 records
 
 abbrev pub unheadedTest : Heading → Days → Bool
@@ -131,6 +135,7 @@ unheadedTest h d =
     && eqb (d .enteric) 0
     && eqb (d .nitrogen) 0
     && eqb (d .pig) 0
+    && eqb (d .grazed) 0
 
 abbrev pub boundedTest : Figures → ℕ → Bool
 boundedTest f records =
@@ -139,6 +144,7 @@ boundedTest f records =
     && co2Within records (f .co2)
     && leb (f .excreted) (records * 10 ^ 11)
     && leb (f .land) (records * 10 ^ 11)
+    && leb (f .grazing .0) (records * 10 ^ 11)
 
 abbrev pub groupedTest : Subtotal → ℕ → Bool
 groupedTest s records =

@@ -13,13 +13,13 @@ pub data Sort : Type 0 where
   ofFarm : Sort
   closes : Sort
 
--- the farm record opens, a heading heads; enteric, cattle and pig records are the group's, energy, organic soil and tillage the
+-- the farm record opens, a heading heads; enteric, cattle, pig and grazing records are the group's, energy, organic soil and tillage the
 -- farm's; the close closes
 unfoldable pub sortOf : ℕ → Sort
 sortOf k =
     pick (eqb k 1) opens
     (pick (eqb k 2) heads
-    (pick (eqb k 3 || (eqb k 4 || eqb k 5)) ofGroup
+    (pick (eqb k 3 || (eqb k 4 || (eqb k 5 || eqb k 10))) ofGroup
     (pick (eqb k 8) closes ofFarm)))
 
 -- one of five by the sort, in the order above

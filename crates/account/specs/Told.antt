@@ -48,6 +48,7 @@ pub record Small (f : Figures) : Type 0 where
   pub co2 : Co2Within 1 (f .co2)
   pub excreted : f .excreted ≤ 10 ^ 11
   pub land : f .land ≤ 10 ^ 11
+  pub grazing : f .grazing .0 ≤ 10 ^ 11
 
 abbrev pub noLine : Line
 noLine = record { given = 0; kind = 0; group = 0; figures = noFigures; co2e = noCo2 }

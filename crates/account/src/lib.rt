@@ -3,8 +3,10 @@ pub mod line;
 mod range;
 
 use grams::units::Co2;
+use grams::units::Grazed;
 use grams::units::N2o;
 use grams::units::NO_CO2;
+use grams::units::NO_GRAZING;
 use grams::units::NO_N2O;
 use line::Line;
 ghost use mathlib.Core.Path.{_≡_};
@@ -18,11 +20,12 @@ pub struct Heading {
     pub head: u16,
 }
 
-// The days under the heading, for each of kinds 3, 4 and 5.
+// What the records under the heading have used of the year: days for each of kinds 3, 4 and 5, and the fraction of the yearly intake that was grazed.
 pub struct Days {
     pub enteric: u16,
     pub nitrogen: u16,
     pub pig: u16,
+    pub grazed: u16,
 }
 
 // Grams: a line's figures, and the sums over all lines.
@@ -32,9 +35,10 @@ pub struct Figures {
     pub co2: Co2,
     pub excreted: u64,
     pub land: u64,
+    pub grazing: Grazed,
 }
 
-// Grams of one group: the running subtotal of its details. A group has no CO2.
+// Grams of one group: the running subtotal of its details. A group has no CO2 and no grazing.
 pub struct Subtotal {
     pub ch4: u64,
     pub n2o: N2o,
@@ -85,6 +89,7 @@ impl Account {
                 enteric: 0,
                 nitrogen: 0,
                 pig: 0,
+                grazed: 0,
             },
             subtotal: Subtotal {
                 ch4: 0,
@@ -98,6 +103,7 @@ impl Account {
                 co2: NO_CO2,
                 excreted: 0,
                 land: 0,
+                grazing: NO_GRAZING,
             },
             refusal: Refusal {
                 code: 0,
@@ -114,6 +120,7 @@ impl Account {
         let group_n2o = self.subtotal.n2o.same();
         let n2o = self.sums.n2o.same();
         let co2 = self.sums.co2.same();
+        let grazing = self.sums.grazing.same();
         Account {
             stage: self.stage,
             records: self.records,
@@ -127,6 +134,7 @@ impl Account {
                 enteric: self.days.enteric,
                 nitrogen: self.days.nitrogen,
                 pig: self.days.pig,
+                grazed: self.days.grazed,
             },
             subtotal: Subtotal {
                 ch4: self.subtotal.ch4,
@@ -140,6 +148,7 @@ impl Account {
                 co2: co2,
                 excreted: self.sums.excreted,
                 land: self.sums.land,
+                grazing: grazing,
             },
             refusal: Refusal {
                 code: self.refusal.code,

@@ -3,6 +3,7 @@ use crate::Figures;
 use crate::Judged;
 use grams::units::Co2;
 use grams::units::NO_CO2;
+use grams::units::NO_GRAZING;
 use grams::units::NO_N2O;
 ghost use mathlib.Core.Path.{_≡_};
 ghost use Prim.Native.Nat.{_+_, _≤_};
@@ -35,6 +36,7 @@ pub fn none() -> Line
             co2: NO_CO2,
             excreted: 0,
             land: 0,
+            grazing: NO_GRAZING,
         },
         co2e: NO_CO2,
     }
@@ -47,7 +49,19 @@ fn put_line(out: &mut [u8], w: usize, kind: u8, group: u16, f: Figures)
 {
     let n2o = f.n2o.grams();
     let co2 = f.co2.word();
-    codec::lines::put_line(out, w, kind, group, f.ch4, n2o, co2, f.excreted, f.land);
+    let grazing = f.grazing.grams();
+    codec::lines::put_line(
+        out,
+        w,
+        kind,
+        group,
+        f.ch4,
+        n2o,
+        co2,
+        f.excreted,
+        f.land,
+        grazing,
+    );
 }
 
 // The total, at w.
@@ -57,7 +71,18 @@ fn put_total(out: &mut [u8], w: usize, f: Figures, co2e: Co2)
 {
     let n2o = f.n2o.grams();
     let co2 = f.co2.word();
-    codec::lines::put_total(out, w, f.ch4, n2o, co2, f.excreted, f.land, co2e.word());
+    let grazing = f.grazing.grams();
+    codec::lines::put_total(
+        out,
+        w,
+        f.ch4,
+        n2o,
+        co2,
+        f.excreted,
+        f.land,
+        grazing,
+        co2e.word(),
+    );
 }
 
 // Writes a record's lines at w.

@@ -37,6 +37,7 @@ fn headed(h: Heading, d: Days, records: u16) -> bool
         & (d.enteric <= 366)
         & (d.nitrogen <= 366)
         & (d.pig <= 366)
+        & (d.grazed <= 10000)
         & (2 <= records)
 }
 
@@ -49,6 +50,7 @@ fn unheaded(h: Heading, d: Days) -> bool
         & (d.enteric == 0)
         & (d.nitrogen == 0)
         & (d.pig == 0)
+        & (d.grazed == 0)
 }
 
 fn bounded(f: Figures, records: u16) -> bool
@@ -60,6 +62,7 @@ fn bounded(f: Figures, records: u16) -> bool
         & f.co2.within(n)
         & (f.excreted <= n * 100000000000)
         & (f.land <= n * 100000000000)
+        & (f.grazing.grams() <= n * 100000000000)
 }
 
 fn grouped(s: Subtotal, records: u16) -> bool

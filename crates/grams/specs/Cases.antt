@@ -1,5 +1,6 @@
--- Document 01, "Figures to meet": P1 to P9, for each the figures that the rules give and those that are printed; and worked values of a
--- change of tillage, had apart from the rule by exact fractions and e^x to sixty digits. Assumes nothing.
+-- Document 01, "Figures to meet": P1 to P9 (P2 as document 02, W8, changes it), and worked values of a change of tillage (W7); for each the figures
+-- that the rules give and those that are printed.
+-- Assumes nothing.
 use mathlib.Core.Bool.{Bool, true, false}
 use mathlib.Core.List.{List, [], _∷_}
 use Prim.Native.Nat.{ℕ, _+_}
@@ -61,7 +62,7 @@ row given printed = record { given = given; printed = printed }
 abbrev pub cases : List Row
 cases =
     row (entericOf 27824 1 1 1 ∷ []) (0 ∷ [])
-    ∷ row (entericOf 27825 1 1 1 ∷ []) (1 ∷ [])
+    ∷ row (entericOf 27825 1 1 1 ∷ []) (0 ∷ [])
     ∷ row (entericOf 27826 1 1 1 ∷ []) (1 ∷ [])
     ∷ row (entericOf 83475 1 1 1 ∷ []) (2 ∷ [])
     ∷ row (entericOf 30000 650 1 365 ∷ []) (127898 ∷ [])
@@ -92,8 +93,8 @@ abbrev pub tillageCases : List Row
 tillageCases =
     row (tillageFigures 1 1 1 1) (above 3698 ∷ below 135593 ∷ below 1356 ∷ below 13559333333 ∷ [])
     ∷ row (tillageFigures 1 3 3 100) (above 404 ∷ below 14813 ∷ below 148 ∷ below 1481333333 ∷ [])
-    -- 82.5 below zero: an exact half goes away from zero
-    ∷ row (tillageFigures 7 3 1 1) (above 225 ∷ below 8250 ∷ below 83 ∷ below 825000000 ∷ [])
+    -- 82.5 below zero: an exact half goes to the even number
+    ∷ row (tillageFigures 7 3 1 1) (above 225 ∷ below 8250 ∷ below 82 ∷ below 825000000 ∷ [])
     ∷ row (tillageFigures 8 2 5 10) (below 22340 ∷ above 819133 ∷ above 8191 ∷ above 81913333333 ∷ [])
     ∷ row (tillageFigures 9 3 6 100) (below 767 ∷ above 28123 ∷ above 281 ∷ above 2812333333 ∷ [])
     -- Pacific Maritime: what the exceptions would be the mirror of, the other exception, and a pair that keeps the mirror rule

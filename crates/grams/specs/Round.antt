@@ -1,48 +1,101 @@
--- Document 01, "What the build covers": round(n/d) is the nearest whole number, a half going up.
+-- Document 01, "What the build covers", as document 02, W8, changes it: round(n/d) is the nearest whole number, a half going to the even one.
 -- What an exact half does stands in `roundDiv` and in the first group of laws alone; all else in the house goes by the laws. Assumes nothing.
 use mathlib.Core.Path.{_≡_, sym}
 use mathlib.Core.Logic.{⊎-elim}
 use Prim.Native.Nat.{ℕ, suc, _+_, _*_, _/_, _%_, _<_, _≤_}
 use native.Mathlib.Nat.{le-refl, mul-le-mul-left, div-add-mod, mod-lt, le-antisymm, eq-or-lt-of-le, lt-of-mul-lt-mul-left, mul-pos}
 use native.Mathlib.Omega.{arith}
+use lib.Dec.{ltb, eqb}
+use borrow.Author.Tests.{ltb-true, ltb-false, eqb-true, eqb-false}
+use Rattle.base.specs.Choice.{pick}
+use Rattle.base.proofs.Tests.{of-choice, lt-or-ge}
 
--- the nearest whole number to n / d, a half going up
+-- the nearest whole number to n / d: down below a half, up above it, and a half to the even number
 unfoldable pub roundDiv : ℕ → ℕ → ℕ
-roundDiv n d = (2 * n + d) / (2 * d)
+roundDiv n d =
+    let whole = n / d in
+    let rest = n % d in
+    pick (ltb (2 * rest) d) whole
+    (pick (ltb d (2 * rest)) (whole + 1)
+    (pick (eqb (whole % 2) 0) whole (whole + 1)))
 
--- the same without a division: r is at most half off, and not half too low
+-- the same without a division: r is at most half off, and even where it is half off
 pub record Rounded (n d r : ℕ) : Type 0 where
   pub low : 2 * (d * r) ≤ 2 * n + d
-  pub high : 2 * n < 2 * (d * r) + d
+  pub high : 2 * n ≤ 2 * (d * r) + d
+  pub half-above : 2 * (d * r) ≡ 2 * n + d → r % 2 ≡ 0
+  pub half-below : 2 * n ≡ 2 * (d * r) + d → r % 2 ≡ 0
 
 -- Laws that know what a half does.
 
 pub rounded : (n d : ℕ) → 0 < d → Rounded n d (roundDiv n d)
 unfolding roundDiv
 rounded n d h =
-    let e : 2 * d * ((2 * n + d) / (2 * d)) + (2 * n + d) % (2 * d) ≡ 2 * n + d = div-add-mod (2 * n + d) (2 * d) in
-    let l : (2 * n + d) % (2 * d) < 2 * d = mod-lt (2 * n + d) (omega arith) in
-    omega arith
+    let e : d * (n / d) + n % d ≡ n = div-add-mod n d in
+    of-choice (Rounded n d) (ltb (2 * (n % d)) d)
+    (λ b.
+    let l : 2 * (n % d) < d = ltb-true _ _ b in
+    record { low = omega arith; high = omega arith; half-above = λ q. omega arith; half-below = λ q. omega arith })
+    (λ b. of-choice (Rounded n d) (ltb d (2 * (n % d)))
+    (λ c.
+    let l : d < 2 * (n % d) = ltb-true _ _ c in
+    let m : n % d < d = mod-lt n h in
+    record { low = omega arith; high = omega arith; half-above = λ q. omega arith; half-below = λ q. omega arith })
+    (λ c.
+    let l : d ≤ 2 * (n % d) = ltb-false _ _ b in
+    let m : 2 * (n % d) ≤ d = ltb-false _ _ c in
+    of-choice (Rounded n d) (eqb (n / d % 2) 0)
+    (λ z.
+    let even : n / d % 2 ≡ 0 = eqb-true _ _ z in
+    record { low = omega arith; high = omega arith; half-above = λ q. even; half-below = λ q. even })
+    (λ z.
+    let odd : n / d % 2 ≡ 0 → ⊥ = eqb-false _ _ z in
+    let even : (n / d + 1) % 2 ≡ 0 = omega arith in
+    record { low = omega arith; high = omega arith; half-above = λ q. even; half-below = λ q. even })))
 
-not-above : (n d r s : ℕ) → Rounded n d r → Rounded n d s → r ≤ s
-not-above n d r s a b =
-    let l : d * r < d * (s + 1) = omega arith in
-    let k : r < s + 1 = lt-of-mul-lt-mul-left d l in
-    omega arith
+-- of two such numbers none is above the other: between them would be a half, and both would be even
+not-above : (n d r s : ℕ) → 0 < d → Rounded n d r → Rounded n d s → r ≤ s
+not-above n d r s h a b = ⊎-elim above (λ (l : r ≤ s). l) (lt-or-ge s r)
+  where
+    above : s < r → r ≤ s
+    above l =
+        let m : d * (s + 1) ≤ d * r = mul-le-mul-left d (omega arith) in
+        let e : 2 * (d * r) ≡ 2 * n + d = omega (arith, a .low, b .high) in
+        let f : 2 * n ≡ 2 * (d * s) + d = omega (arith, a .low, b .high) in
+        let k : d * r < d * (s + 2) = omega arith in
+        let j : r < s + 2 = lt-of-mul-lt-mul-left d k in
+        omega (arith, a .half-above e, b .half-below f)
 
 -- there is one such number only
-pub rounded-unique : (n d r s : ℕ) → Rounded n d r → Rounded n d s → r ≡ s
-rounded-unique n d r s a b = le-antisymm (not-above n d r s a b) (not-above n d s r b a)
+pub rounded-unique : (n d r s : ℕ) → 0 < d → Rounded n d r → Rounded n d s → r ≡ s
+rounded-unique n d r s h a b = le-antisymm (not-above n d r s h a b) (not-above n d s r h b a)
 
 pub rounded-is : (n d r : ℕ) → 0 < d → Rounded n d r → r ≡ roundDiv n d
-rounded-is n d r h a = rounded-unique n d r (roundDiv n d) a (rounded n d h)
+rounded-is n d r h a = rounded-unique n d r (roundDiv n d) h a (rounded n d h)
+
+cancel-le : (k a b : ℕ) → 0 < k → k * a ≡ k * b → a ≤ b
+cancel-le k a b g e =
+    let l : k * a < k * (b + 1) = omega arith in
+    let m : a < b + 1 = lt-of-mul-lt-mul-left k l in
+    omega arith
+
+cancel : (k a b : ℕ) → 0 < k → k * a ≡ k * b → a ≡ b
+cancel k a b g e = le-antisymm (cancel-le k a b g e) (cancel-le k b a g (sym e))
 
 -- a fraction's common factor does not matter
 pub round-scale : (n d k : ℕ) → 0 < d → 0 < k → roundDiv (n * k) (d * k) ≡ roundDiv n d
 round-scale n d k h g =
-    let a : k * (2 * (d * roundDiv n d)) ≤ k * (2 * n + d) = mul-le-mul-left k (rounded n d h .low) in
-    let b : k * suc (2 * n) ≤ k * (2 * (d * roundDiv n d) + d) = mul-le-mul-left k (rounded n d h .high) in
-    sym (rounded-is (n * k) (d * k) (roundDiv n d) (mul-pos h g) (record { low = omega arith; high = omega arith }))
+    let r = rounded n d h in
+    let a : k * (2 * (d * roundDiv n d)) ≤ k * (2 * n + d) = mul-le-mul-left k (r .low) in
+    let b : k * (2 * n) ≤ k * (2 * (d * roundDiv n d) + d) = mul-le-mul-left k (r .high) in
+    sym
+    (rounded-is (n * k) (d * k) (roundDiv n d) (mul-pos h g)
+    (record {
+      low = omega arith;
+      high = omega arith;
+      half-above = λ q. let e : k * (2 * (d * roundDiv n d)) ≡ k * (2 * n + d) = omega arith in r .half-above (cancel k _ _ g e);
+      half-below = λ q. let e : k * (2 * n) ≡ k * (2 * (d * roundDiv n d) + d) = omega arith in r .half-below (cancel k _ _ g e);
+    }))
 
 -- At most half off, on either side.
 
@@ -50,7 +103,7 @@ pub half-low : (n d : ℕ) → 0 < d → 2 * (d * roundDiv n d) ≤ 2 * n + d
 half-low n d h = rounded n d h .low
 
 pub half-high : (n d : ℕ) → 0 < d → 2 * n ≤ 2 * (d * roundDiv n d) + d
-half-high n d h = omega (arith, rounded n d h)
+half-high n d h = rounded n d h .high
 
 -- Laws of every rounding to the nearest: they follow from the two above.
 

@@ -3,16 +3,16 @@
 use Prim.Native.Nat.{ℕ, zero, suc, _%_, _+_, _≤_, _<_}
 use native.Mathlib.Omega.{arith}
 use mathlib.Core.Path.{_≡_, refl, sym, ap, _∙_}
-use mathlib.Core.Bool.{Bool, true, false, _&&_}
+use mathlib.Core.Bool.{Bool, true, false}
 use mathlib.Core.Logic.{_⊎_, inl, inr, ⊎-elim}
 use mathlib.Core.List.{List, [], _∷_, _++_, append-assoc, append-nil}
 use borrow.Author.Tests.{eqb-true}
 use lib.ListN.{length, getD, take, drop, length-append, List·getD-append}
 use lib.Seq.{drop-append-seam}
-use lib.Dec.{eqb, ltb, leb}
+use lib.Dec.{eqb, ltb}
 use Rattle.base.specs.Choice.{pick}
 use Rattle.base.proofs.Tests.{of-choice}
-use Rattle.codec.specs.Table.{lineFields, totalFields, size, lineSize, totalSize, isTotal}
+use Rattle.codec.specs.Table.{lineFields, totalFields, size, lineSize, totalSize, isTotal, isKind}
 use Rattle.codec.specs.Codec.{be, bytesOf, lineBytes, totalBytes, valuesAt, frontSize, frontFields}
 use Rattle.codec.proofs.Rows.{sizes}
 use Rattle.codec.proofs.Round.{line-length, total-length}
@@ -32,8 +32,7 @@ use Rattle.book.specs.Way.{Part, way, Ended}
 use Rattle.promises.proofs.Headings.{kind-in}
 use Rattle.promises.proofs.RuleThree.{rule-three}
 use Rattle.promises.proofs.StaysInRange.{new-in-range}
-use Rattle.printing.specs.Decimal.{numbersLine}
-use Rattle.listing.specs.Listing.{lineNumbers, linesText, endText, textOf, listingFrom, listingOf, printed}
+use Rattle.listing.specs.Listing.{lineNumbers, lineText, linesText, endText, textOf, listingFrom, listingOf, printed}
 use Rattle.listing.proofs.Lines.{size-least, text-none, text-some, size-total, numbers-total, size-detail, numbers-detail}
 
 -- ---- a line is as long as its kind says
@@ -80,7 +79,7 @@ subtotals-whole : (a : Account) → Wholes (subtotals a)
 subtotals-whole a =
     of-choice Wholes (eqb (a .heading .group) 0) (λ e. tt) (λ e. (line-whole 16 _ _ _ _ _ _ (omega arith) (λ q. omega (arith, q)), tt))
 
-accepted-whole : (a : Account) (k : ℕ) (v : List ℕ) → leb 1 k && leb k 8 ≡ true → Wholes (accepted a k v .lines)
+accepted-whole : (a : Account) (k : ℕ) (v : List ℕ) → isKind k ≡ true → Wholes (accepted a k v .lines)
 unfolding accepted
 accepted-whole a k v h =
     by-sort (λ (j : Step). Wholes (j .lines)) (sortOf k) (λ e. tt) (λ e. subtotals-whole a)
@@ -132,7 +131,7 @@ module _ (l ys : List ℕ) (w : Whole l) where
       fields-size true = sizes .1
       fields-size false = sizes .0
 
-  text-on : linesText (l ++ ys) ≡ numbersLine (lineNumbers l) ++ linesText ys
+  text-on : linesText (l ++ ys) ≡ lineText (lineNumbers l) ++ linesText ys
   text-on =
       text-some (l ++ ys) (rw same-size (omega (arith, length-append l ys)))
       ∙ rw (same-numbers, same-size, drop-append-seam l ys) refl
@@ -142,8 +141,8 @@ unfolding textOf
 lines-on [] ys w = refl
 lines-on (l ∷ ls) ys w =
     ap linesText (append-assoc l (joined ls) ys) ∙ text-on l (joined ls ++ ys) (w .0)
-    ∙ ap (λ (t : List ℕ). numbersLine (lineNumbers l) ++ t) (lines-on ls ys (w .1))
-    ∙ sym (append-assoc (numbersLine (lineNumbers l)) (textOf ls) (linesText ys))
+    ∙ ap (λ (t : List ℕ). lineText (lineNumbers l) ++ t) (lines-on ls ys (w .1))
+    ∙ sym (append-assoc (lineText (lineNumbers l)) (textOf ls) (linesText ys))
 
 lines-all : (ls : List (List ℕ)) → Wholes ls → linesText (joined ls) ≡ textOf ls
 lines-all ls w =

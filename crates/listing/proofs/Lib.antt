@@ -1,3 +1,4 @@
+pub mod Examples
 pub mod Lines
 pub mod Telling
 pub mod InParts

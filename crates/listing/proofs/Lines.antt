@@ -2,12 +2,13 @@
 use Prim.Native.Nat.{ℕ, zero, suc, _+_, _*_, _≤_, _<_}
 use mathlib.Core.Path.{_≡_, refl, ap, sym, subst, _∙_}
 use mathlib.Core.List.{List, [], _∷_, _++_}
-use mathlib.Core.Bool.{Bool, false}
+use mathlib.Core.Bool.{Bool, true, false}
 use native.Mathlib.Omega.{arith}
 use borrow.Author.Tests.{ltb-true, ltb-false, lt-ltb, le-ltb, eq-eqb, ne-eqb}
 use lib.ListN.{length, getD, take, drop, length-drop}
 use lib.Seq.{drop-drop, take-append-seam}
 use lib.Dec.{ltb}
+use Rattle.base.specs.Signed.{signedOf}
 use Rattle.base.proofs.Tests.{of-choice}
 use Rattle.codec.specs.Table.{lineFields, totalFields, lineSize, totalSize, isTotal}
 use Rattle.codec.specs.Codec.{valuesAt, frontSize}
@@ -15,10 +16,10 @@ use Rattle.account.specs.declared.Account.{Account}
 use Rattle.book.specs.declared.State.{State}
 use Rattle.book.specs.declared.Fed.{Fed}
 use Rattle.book.specs.Call.{call, fedOf, laid}
-use Rattle.printing.specs.Decimal.{numbersLine, Put}
+use Rattle.printing.specs.Decimal.{decimal, signed, numbersLine, Put}
 use Rattle.printing.proofs.Puts.{none, put-length, and-then}
 use Rattle.listing.specs.declared.Listed.{Listed}
-use Rattle.listing.specs.Listing.{lineNumbers, textBy, linesText, closedWord, unfinishedWord, refusedWord, endText, lineRoom, Lists}
+use Rattle.listing.specs.Listing.{lineNumbers, isSigned, columnText, columnsText, lineText, textBy, linesText, closedWord, unfinishedWord, refusedWord, endText, lineRoom, Lists}
 
 pub size-least : (xs : List ℕ) → lineSize ≤ frontSize xs
 size-least xs = of-choice (λ (n : ℕ). lineSize ≤ n) (isTotal xs) (λ e. omega arith) (λ e. omega arith)
@@ -30,7 +31,7 @@ same-text zero m xs p q = absurd (omega arith)
 same-text (suc n) zero xs p q = absurd (omega arith)
 same-text (suc n) (suc m) xs p q =
     of-choice (λ (t : List ℕ). t ≡ textBy (suc m) xs) (ltb (length xs) (frontSize xs)) (λ e. rw e)
-    (λ e. rw e (ap (λ (t : List ℕ). numbersLine (lineNumbers xs) ++ t) (same-text n m (drop (frontSize xs) xs) (shorter n p e) (shorter m q e))))
+    (λ e. rw e (ap (λ (t : List ℕ). lineText (lineNumbers xs) ++ t) (same-text n m (drop (frontSize xs) xs) (shorter n p e) (shorter m q e))))
   where
     shorter : (k : ℕ) → length xs < suc k → ltb (length xs) (frontSize xs) ≡ false → length (drop (frontSize xs) xs) < k
     shorter k h e = let h2 = ltb-false (length xs) (frontSize xs) e in rw length-drop (omega (arith, size-least xs))
@@ -39,12 +40,26 @@ pub text-none : (xs : List ℕ) → length xs < frontSize xs → linesText xs �
 unfolding linesText textBy
 text-none xs h = rw (lt-ltb _ _ h)
 
-pub text-some : (xs : List ℕ) → frontSize xs ≤ length xs → linesText xs ≡ numbersLine (lineNumbers xs) ++ linesText (drop (frontSize xs) xs)
+pub text-some : (xs : List ℕ) → frontSize xs ≤ length xs → linesText xs ≡ lineText (lineNumbers xs) ++ linesText (drop (frontSize xs) xs)
 unfolding linesText textBy
 text-some xs h =
     let ys = drop (frontSize xs) xs in
     let short : length ys < length xs = rw length-drop (omega (arith, size-least xs)) in
-    rw (le-ltb _ _ h) (ap (λ (t : List ℕ). numbersLine (lineNumbers xs) ++ t) (same-text (length xs) (suc (length ys)) ys short (omega arith)))
+    rw (le-ltb _ _ h) (ap (λ (t : List ℕ). lineText (lineNumbers xs) ++ t) (same-text (length xs) (suc (length ys)) ys short (omega arith)))
+
+-- a column's text, by whether it is signed
+module _ (column v : ℕ) where
+  pub with-sign : isSigned column ≡ true → columnText column v ≡ signed (signedOf v)
+  with-sign e = rw e refl
+
+  pub without-sign : isSigned column ≡ false → columnText column v ≡ decimal v
+  without-sign e = rw e refl
+
+-- a line by its first column
+pub row-text : (vs : List ℕ) → 1 ≤ length vs → lineText vs ≡ columnText 0 (getD vs 0 0) ++ (columnsText 1 (drop 1 vs) ++ (10 ∷ []))
+unfolding lineText
+row-text [] h = absurd (omega arith)
+row-text (v ∷ vs) h = refl
 
 -- by the kind of the line record at the front
 module _ (xs : List ℕ) (k : getD xs 3 0 ≡ 8) where
@@ -82,7 +97,7 @@ module _ {out₀ lines out : List ℕ} {i at : ℕ} (g : Putting out₀ lines ou
     putting-ends h = g .rest out at (rw (← e, text-none rest h) (none out at (omega (arith, g .room, g .inside))))
 
     -- one line of n bytes is put
-    pub putting-on : {out′ : List ℕ} {n r : ℕ} → n ≡ frontSize rest → n ≤ length rest → Put out out′ at (numbersLine (lineNumbers rest)) r
+    pub putting-on : {out′ : List ℕ} {n r : ℕ} → n ≡ frontSize rest → n ≤ length rest → Put out out′ at (lineText (lineNumbers rest)) r
         → r ≤ at + 4 * frontSize rest → Putting out₀ lines out′ (i + n) r
     putting-on {out′} {n} {r} m h p s =
         let d : drop (frontSize rest) rest ≡ drop (i + n) lines = ap (λ (k : ℕ). drop k rest) (sym m) ∙ ap (λ (l : List ℕ). drop n l) e ∙ drop-drop n i lines in

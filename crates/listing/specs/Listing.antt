@@ -1,15 +1,17 @@
 -- Document 01, "Figures to meet": "The lister reads a book on standard input and prints a text line per line record: kind, group, the five
 -- figures, and for kind 8 CO2e; then `closed`, `unfinished`, or `refused` with code, records, field, one space between."
+-- Document 02, W7: "CO2 figures, their sum and CO2e become signed, eight bytes in two's complement."
 use Prim.Native.Nat.{ℕ, zero, suc, _/_, _≤_}
 use mathlib.Core.Path.{_≡_}
 use mathlib.Core.List.{List, [], _∷_, _++_}
-use mathlib.Core.Bool.{Bool, _&&_}
+use mathlib.Core.Bool.{Bool, _&&_, _||_}
 use lib.ListN.{length, take, drop}
 use lib.Dec.{ltb, leb, eqb}
 use Rattle.base.specs.Choice.{pick}
+use Rattle.base.specs.Signed.{signedOf}
 use Rattle.codec.specs.Codec.{valuesAt, frontSize, frontFields}
 use Rattle.printing.specs.Ascii.{ascii}
-use Rattle.printing.specs.Decimal.{numbersLine, Put}
+use Rattle.printing.specs.Decimal.{decimal, signed, numbersLine, Put}
 use Rattle.account.specs.declared.Account.{Account}
 use Rattle.book.specs.declared.State.{State}
 use Rattle.book.specs.State.{noRecordYet}
@@ -22,10 +24,28 @@ use Rattle.listing.specs.declared.Listed.{Listed}
 unfoldable pub lineNumbers : List ℕ → List ℕ
 lineNumbers xs = drop 2 (valuesAt (frontFields xs) xs 0)
 
+-- the columns of the signed figures, counted from 0: CO2, and kind 8's CO2e
+abbrev pub isSigned : ℕ → Bool
+isSigned column = eqb column 4 || eqb column 7
+
+-- the number of a column as text
+abbrev pub columnText : ℕ → ℕ → List ℕ
+columnText column v = pick (isSigned column) (signed (signedOf v)) (decimal v)
+
+-- the numbers from a column on, each with a space before it
+unfoldable pub columnsText : ℕ → List ℕ → List ℕ
+columnsText column [] = []
+columnsText column (v ∷ vs) = (32 ∷ columnText column v) ++ columnsText (suc column) vs
+
+-- the text line of a line record's numbers
+unfoldable pub lineText : List ℕ → List ℕ
+lineText [] = 10 ∷ []
+lineText (v ∷ vs) = columnText 0 v ++ (columnsText 1 vs ++ (10 ∷ []))
+
 -- a text line per line record, of at most n that stand whole in the bytes
 unfoldable pub textBy : ℕ → List ℕ → List ℕ
 textBy zero xs = []
-textBy (suc n) xs = pick (ltb (length xs) (frontSize xs)) [] (numbersLine (lineNumbers xs) ++ textBy n (drop (frontSize xs) xs))
+textBy (suc n) xs = pick (ltb (length xs) (frontSize xs)) [] (lineText (lineNumbers xs) ++ textBy n (drop (frontSize xs) xs))
 
 -- a text line per line record: there are no more of them than bytes
 unfoldable pub linesText : List ℕ → List ℕ
@@ -53,7 +73,7 @@ endText a =
 -- the text lines of line records, one after the other
 unfoldable pub textOf : List (List ℕ) → List ℕ
 textOf [] = []
-textOf (l ∷ ls) = numbersLine (lineNumbers l) ++ textOf ls
+textOf (l ∷ ls) = lineText (lineNumbers l) ++ textOf ls
 
 -- what is printed for a run from a state: the text of each line that rule 2 gives, then the last word
 abbrev pub listingFrom : State → List ℕ → List ℕ

@@ -6,7 +6,10 @@ use codec::LINE_SIZE;
 use codec::lines::detail_numbers;
 use codec::lines::front_size;
 use codec::lines::total_numbers;
+use printing::put_byte;
+use printing::put_decimal;
 use printing::put_numbers;
+use printing::put_signed;
 use printing::put_text;
 use printing::say;
 use printing::say_number;
@@ -16,10 +19,10 @@ ghost use Prim.Native.Nat.{_+_, _*_, _≤_};
 ghost use lib.ListN.{length, drop};
 ghost use Rattle.codec.specs.Table.{lineSize};
 ghost use Rattle.codec.specs.Codec.{frontSize};
-ghost use Rattle.printing.specs.Decimal.{Put, numbersLine};
+ghost use Rattle.printing.specs.Decimal.{Put};
 ghost use Rattle.printing.specs.Said.{Said};
 ghost use Rattle.book.specs.Call.{call};
-ghost use Rattle.listing.specs.Listing.{lineNumbers, linesText, endText, lineRoom, goesOn, lastText, Lists};
+ghost use Rattle.listing.specs.Listing.{columnText, columnsText, lineText, lineNumbers, linesText, endText, lineRoom, goesOn, lastText, Lists};
 ghost use Rattle.listing.specs.Remarks.{isTyped, beginsTyped, looksTyped, whyText, hintText, remarkText, statusByte};
 
 // What one call over a part of a book makes: the new state, the bytes taken, and the bytes of text.
@@ -29,19 +32,68 @@ pub struct Listed {
     pub written: usize,
 }
 
+// CO2 and CO2e are signed.
+fn put_column(out: &mut [u8], at: usize, column: usize, v: u64) -> usize
+    requires { ⌜ at + 20 ≤ length (now out) ⌝ }
+    ensures { λ r. ⌜ Put (now (out .entry)) (now (out .exit)) at (columnText column v) r ⌝ }
+    ensures { λ r. ⌜ r ≤ at + 20 ⌝ }
+{
+    if (column == 4) | (column == 7) {
+        return put_signed(out, at, v);
+    }
+    put_decimal(out, at, v)
+}
+
+fn put_next(out: &mut [u8], at: usize, column: usize, v: u64) -> usize
+    requires { ⌜ at + 21 ≤ length (now out) ⌝ }
+    ensures { λ r. ⌜ Put (now (out .entry)) (now (out .exit)) at (32 ∷ columnText column v) r ⌝ }
+    ensures { λ r. ⌜ r ≤ at + 21 ⌝ }
+{
+    let after = put_byte(out, at, b' ');
+    put_column(out, after, column, v)
+}
+
+// The columns from the second on.
+fn put_columns(out: &mut [u8], at: usize, values: &[u64]) -> usize
+    requires { ⌜ 1 ≤ length (now values) ⌝ }
+    requires { ⌜ at + 21 * length (now values) ≤ length (now out) + 21 ⌝ }
+    ensures { λ r. ⌜ Put (now (out .entry)) (now (out .exit)) at (columnsText 1 (drop 1 (now (values .entry)))) r ⌝ }
+    ensures { λ r. ⌜ r + 21 ≤ at + 21 * length (now (values .entry)) ⌝ }
+{
+    let mut end = at;
+    let mut k = 1;
+    while k < values.len() {
+        end = put_next(out, end, k, values[k]);
+        k += 1;
+    }
+    end
+}
+
+// A text line: at most 21 bytes for each column.
+fn put_row(out: &mut [u8], at: usize, values: &[u64]) -> usize
+    requires { ⌜ 1 ≤ length (now values) ⌝ }
+    requires { ⌜ at + 21 * length (now values) ≤ length (now out) ⌝ }
+    ensures { λ r. ⌜ Put (now (out .entry)) (now (out .exit)) at (lineText (now (values .entry))) r ⌝ }
+    ensures { λ r. ⌜ r ≤ at + 21 * length (now (values .entry)) ⌝ }
+{
+    let first = put_column(out, at, 0, values[0]);
+    let end = put_columns(out, first, values);
+    put_byte(out, end, b'\n')
+}
+
 // The text line of the line record at the front of s.
 fn put_line(out: &mut [u8], at: usize, s: &[u8]) -> usize
     requires { ⌜ (lineSize ≤ length (now s)) × (frontSize (now s) ≤ length (now s)) ⌝ }
     requires { ⌜ at + 4 * frontSize (now s) ≤ length (now out) ⌝ }
-    ensures { λ r. ⌜ Put (now (out .entry)) (now (out .exit)) at (numbersLine (lineNumbers (now (s .entry)))) r ⌝ }
+    ensures { λ r. ⌜ Put (now (out .entry)) (now (out .exit)) at (lineText (lineNumbers (now (s .entry)))) r ⌝ }
     ensures { λ r. ⌜ r ≤ at + 4 * frontSize (now (s .entry)) ⌝ }
 {
     if s[3] == 8 {
         let numbers = total_numbers(s);
-        put_numbers(out, at, &numbers)
+        put_row(out, at, &numbers)
     } else {
         let numbers = detail_numbers(s);
-        put_numbers(out, at, &numbers)
+        put_row(out, at, &numbers)
     }
 }
 

@@ -1,4 +1,4 @@
--- What holds of each of the eight kinds: taken from the kind's own number and from its row of the table.
+-- What holds of each kind: taken from the kind's own number and from its row of the table.
 -- Assumes nothing.
 use Prim.Native.Nat.{ℕ, _+_, _≤_}
 use mathlib.Core.Path.{_≡_, ap, _∙_}

@@ -90,7 +90,7 @@ each-at p (suc n) e k l h =
     (λ (g : suc n ≤ k). let z : k ≡ suc n = omega arith in rw z (and-l (p (suc n)) (each p n) e))
     (lt-or-ge k (suc n))
 
--- no kind's length is below 4: antt computes it for the eight
+-- no kind's length is below 4: antt computes it for each
 length-least : (k : ℕ) → 1 ≤ k → k ≤ lastKind → 4 ≤ lengthOf k
 unfolding table size each
 length-least k l h = leb-true _ _ (each-at (λ n. leb 4 (lengthOf n)) lastKind refl k l h)
@@ -113,11 +113,11 @@ module _ (k : ℕ) (v : List ℕ) (o : Of k v) where
   values-read f =
       rw (start-then k v) (rw (start-length k, append-nil (bytesOf (fields k) v 0)) at (values-back (fields k) v (start k) [] f (o .count)))
 
-  is-eight : isKind k ≡ true
-  is-eight = rw (le-leb _ _ (o .least), le-leb _ _ (o .most))
+  is-one : isKind k ≡ true
+  is-one = rw (le-leb _ _ (o .least), le-leb _ _ (o .most))
 
   -- the record does what its values do
   pub judge-is : (a : Account) → Fit (fields k) v 0 → judge a (recordBytes k v) ≡ weigh a k v
   judge-is a f =
-      right-length a k (recordBytes k v) (lengthOf k + 2) is-kind is-eight refl (omega (arith, record-length k v))
+      right-length a k (recordBytes k v) (lengthOf k + 2) is-kind is-one refl (omega (arith, record-length k v))
       ∙ ap (weigh a k) (values-read f)

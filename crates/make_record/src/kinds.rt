@@ -1,4 +1,4 @@
-// The eight kinds, each by its number: what its values do, and its record.
+// The kinds, each by its number: what its values do, and its record.
 use account::Account;
 use account::Judged;
 ghost use mathlib.Core.Path.{_≡_};
@@ -23,6 +23,13 @@ fn three_values(v: &[u64]) -> [u64; 3]
     ensures { λ r. ⌜ r ≡ now (v .entry) ⌝ }
 {
     [v[0], v[1], v[2]]
+}
+
+fn five_values(v: &[u64]) -> [u64; 5]
+    requires { ⌜ length (now v) ≡ 5 ⌝ }
+    ensures { λ r. ⌜ r ≡ now (v .entry) ⌝ }
+{
+    [v[0], v[1], v[2], v[3], v[4]]
 }
 
 fn nine_values(v: &[u64]) -> [u64; 9]
@@ -65,7 +72,8 @@ pub(crate) fn weighed(a: Account, kind: u64, v: &[u64]) -> Judged
         5 => rules::pig::weigh(a, twelve_values(v), codec::LINES_MOST),
         6 => rules::energy::weigh(a, three_values(v), codec::LINES_MOST),
         7 => rules::soil::weigh(a, one_value(v), codec::LINES_MOST),
-        _ => rules::close::weigh(a, one_value(v), codec::LINES_MOST),
+        8 => rules::close::weigh(a, one_value(v), codec::LINES_MOST),
+        _ => rules::tillage::weigh(a, five_values(v), codec::LINES_MOST),
     }
 }
 
@@ -82,6 +90,7 @@ pub(crate) fn put(out: &mut [u8], kind: u64, v: &[u64])
         5 => codec::pig::write(out, 0, twelve_values(v)),
         6 => codec::energy::write(out, 0, three_values(v)),
         7 => codec::soil::write(out, 0, one_value(v)),
-        _ => codec::close::write(out, 0, one_value(v)),
+        8 => codec::close::write(out, 0, one_value(v)),
+        _ => codec::tillage::write(out, 0, five_values(v)),
     }
 }

@@ -7,6 +7,8 @@ use Rattle.printing.specs.Ascii.{ascii}
 use Rattle.names.specs.Names.{
   kindTable,
   kindName,
+  namesFrom,
+  kindNames,
   fieldTable,
   fieldName,
   expectedTable,
@@ -19,13 +21,23 @@ use Rattle.names.specs.Names.{
   shown,
 }
 
-kinds-named : (kindName 3 ≡ ascii "enteric") × (kindName 8 ≡ ascii "close") × (kindName 0 ≡ ascii "record") × (kindName 300 ≡ ascii "record")
+kinds-named : (kindName 3 ≡ ascii "enteric") × (kindName 8 ≡ ascii "close")
+    × (kindName 9 ≡ ascii "tillage")
+    × (kindName 0 ≡ ascii "record")
+    × (kindName 300 ≡ ascii "record")
 unfolding kindTable nthPart indexOf indexAfter
-kinds-named = (refl, refl, refl, refl)
+kinds-named = (refl, refl, refl, refl, refl)
 
-fields-named : (fieldName 3 1 ≡ ascii " GE") × (fieldName 4 8 ≡ ascii " pasture share") × (fieldName 8 1 ≡ []) × (fieldName 9 0 ≡ [])
+all-named : kindNames ≡ ascii "farm, heading, enteric, cattle, pig, energy, soil, close, tillage"
+unfolding kindNames namesFrom kindTable nthPart indexOf indexAfter
+all-named = refl
+
+fields-named : (fieldName 3 1 ≡ ascii " GE") × (fieldName 4 8 ≡ ascii " pasture share")
+    × (fieldName 9 3 ≡ ascii " years")
+    × (fieldName 8 1 ≡ [])
+    × (fieldName 10 0 ≡ [])
 unfolding fieldTable nthPart indexOf indexAfter
-fields-named = (refl, refl, refl, refl)
+fields-named = (refl, refl, refl, refl, refl)
 
 ranges-named : (expected 3 2 ≡ ascii " 0 to 20.00 per cent") × (expected 2 1 ≡ ascii " 1 to 4 (milking, dry, heifer, pig)")
 unfolding expectedTable nthPart indexOf indexAfter

@@ -1,9 +1,10 @@
 -- Laws of the table's lines: the lines past the last, the digits of the decimals, and the kinds that the book has not.
-use Prim.Native.Nat.{ℕ, zero, suc, _-_, _<_, _≤_, min, zero-le}
+use Prim.Native.Nat.{ℕ, zero, suc, _+_, _-_, _<_, _≤_, min, zero-le}
 use native.Mathlib.Omega.{arith}
-use mathlib.Core.Path.{_≡_, sym, subst}
+use native.Mathlib.Numerals.{add-one}
+use mathlib.Core.Path.{_≡_, refl, sym, subst}
 use mathlib.Core.Bool.{Bool, true, _&&_}
-use mathlib.Core.List.{List, [], _∷_}
+use mathlib.Core.List.{List, [], _∷_, _++_}
 use lib.ListN.{length, getD, List·getD-eq-default}
 use lib.Dec.{T, leb, eqb, leb→le}
 use lib.Ieee.Fits.{and-l, and-r}
@@ -12,13 +13,24 @@ use Rattle.base.proofs.Tests.{by-test}
 use Rattle.bytes.specs.Bytes.{indexOf, indexAfter}
 use Rattle.typed_words.specs.Words.{nthPart}
 use Rattle.codec.specs.Table.{table, fields}
-use Rattle.names.specs.Names.{lineOf, decimalsTable, decimalsOf, decimalsAt}
+use Rattle.printing.specs.Ascii.{ascii}
+use Rattle.names.specs.Names.{lineOf, noKind, kindName, namesFrom, decimalsTable, decimalsOf, decimalsAt}
 
 pub line-past : (last k : ℕ) (text : List ℕ) → last < k → nthPart 10 last text ≡ lineOf last k text
 line-past last k text h = let e : min k last ≡ last = omega arith in rw e
 
 pub line-within : (last k : ℕ) (text : List ℕ) → k ≤ last → nthPart 10 k text ≡ lineOf last k text
 line-within last k text h = let e : min k last ≡ k = omega arith in rw e
+
+-- ---- the names of all kinds, one after the other
+
+pub names-one : (k : ℕ) → k < noKind → namesFrom (noKind - k) k ≡ (ascii ", " ++ kindName k) ++ namesFrom (noKind - (k + 1)) (k + 1)
+unfolding namesFrom
+names-one k h = let e : noKind - k ≡ suc (noKind - (k + 1)) = omega arith in rw (e, add-one) refl
+
+pub names-none : (k : ℕ) → noKind ≤ k → namesFrom (noKind - k) k ≡ []
+unfolding namesFrom
+names-none k h = let e : noKind - k ≡ 0 = omega arith in rw e refl
 
 -- every number below n passes the test
 unfoldable pub allBelow : ℕ → (ℕ → Bool) → Bool
@@ -51,9 +63,9 @@ small (b ∷ s) t (suc i) = small s (and-r (leb b 53) (upTo5 s) t) i
 abbrev smallLine : ℕ → Bool
 smallLine k = upTo5 (nthPart 10 k decimalsTable)
 
-small-lines : T (allBelow 10 smallLine)
+small-lines : T (allBelow (suc noKind) smallLine)
 unfolding allBelow upTo5 nthPart indexOf indexAfter decimalsTable
 small-lines = tt
 
 pub few-decimals : (k i : ℕ) → decimalsAt k i ≤ 5
-few-decimals k i = small (decimalsOf k) (at-below 10 smallLine small-lines (min k 9) (omega arith)) i
+few-decimals k i = small (decimalsOf k) (at-below (suc noKind) smallLine small-lines (min k noKind) (omega arith)) i

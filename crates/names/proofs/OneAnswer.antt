@@ -1,8 +1,9 @@
 -- One answer: two answers that meet the contract of a public function are equal: what is said, and the buffer at the end (the first parameter,
--- out). Those that say something ask that it begins inside the buffer; the one that answers a number asks nothing. The contracts are those of the
--- source itself: Learnt is what a caller learns from a function's `ensures`, Asked what its `requires` ask.
+-- out). Those that say something ask that it begins inside the buffer; those that answer a number or a test ask nothing. The contracts are those of
+-- the source itself: Learnt is what a caller learns from a function's `ensures`, Asked what its `requires` ask.
 -- Assumes nothing.
 use Prim.Native.Nat.{ℕ}
+use mathlib.Core.Bool.{Bool}
 use mathlib.Core.Path.{_≡_, sym, _∙_}
 use contract.Lifetimes.{Lfts}
 use borrow.Fn.Kinds.{Dens, endedOf}
@@ -11,6 +12,8 @@ use denote.Triple.Clauses.{AtExit}
 use Rattle.printing.proofs.Examples.{one-put}
 use Rattle.names.proofs.decimals.Kinds as places
 use Rattle.names.proofs.decimals.Reads as places-contract
+use Rattle.names.proofs.is_kind_name.Kinds as named
+use Rattle.names.proofs.is_kind_name.Reads as named-contract
 use Rattle.names.proofs.say_class.Kinds as class
 use Rattle.names.proofs.say_class.Reads as class-contract
 use Rattle.names.proofs.say_expected.Kinds as expected
@@ -21,6 +24,8 @@ use Rattle.names.proofs.say_fields.Kinds as fields
 use Rattle.names.proofs.say_fields.Reads as fields-contract
 use Rattle.names.proofs.say_kind.Kinds as kind
 use Rattle.names.proofs.say_kind.Reads as kind-contract
+use Rattle.names.proofs.say_kinds.Kinds as kinds
+use Rattle.names.proofs.say_kinds.Reads as kinds-contract
 use Rattle.names.proofs.say_sentence.Kinds as sentence
 use Rattle.names.proofs.say_sentence.Reads as sentence-contract
 use Rattle.names.proofs.say_shown.Kinds as shown
@@ -33,6 +38,19 @@ decimals-asks-nothing κs args = tt
 pub one-decimals : (κs : Lfts 0) (args : Dens κs places.ps) (f g : ℕ) (e e′ : AtExit (endedOf 0 places.ps places.r) κs)
     → places-contract.Learnt κs args f e → places-contract.Learnt κs args g e′ → f ≡ g
 one-decimals κs args f g e e′ p q = p .0 ∙ sym (q .0)
+
+pub is-kind-name-asks-nothing : (κs : Lfts 1) (args : Dens κs named.ps) → named-contract.Asked κs args
+is-kind-name-asks-nothing κs args = tt
+
+-- Whether a word is a kind's name.
+pub one-is-kind-name : (κs : Lfts 1) (args : Dens κs named.ps) (f g : Bool) (e e′ : AtExit (endedOf 1 named.ps named.r) κs)
+    → named-contract.Learnt κs args f e → named-contract.Learnt κs args g e′ → f ≡ g
+one-is-kind-name κs args f g e e′ p q = p ∙ sym q
+
+-- The names of all kinds.
+pub one-say-kinds : (κs : Lfts 1) (args : Dens κs kinds.ps) (f g : ℕ) (e e′ : AtExit (endedOf 1 kinds.ps kinds.r) κs)
+    → kinds-contract.Learnt κs args f e → kinds-contract.Learnt κs args g e′ → (f ≡ g) × (now (e .0) ≡ now (e′ .0))
+one-say-kinds κs args f g e e′ p q = one-put (p .put) (q .put)
 
 -- A kind's name.
 pub one-say-kind : (κs : Lfts 1) (args : Dens κs kind.ps) (f g : ℕ) (e e′ : AtExit (endedOf 1 kind.ps kind.r) κs)

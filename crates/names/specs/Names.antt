@@ -1,10 +1,11 @@
 -- Document 01's kinds, fields, classes and numbers in the words that people are told (document 02, W1: a book that is typed), in one table.
-use Prim.Native.Nat.{ℕ, _-_, min}
+use Prim.Native.Nat.{ℕ, zero, suc, _-_, min}
 use mathlib.Core.Bool.{_&&_}
 use mathlib.Core.List.{List, [], _∷_, _++_}
 use lib.ListN.{getD, take}
 use lib.Dec.{leb}
 use Rattle.base.specs.Choice.{pick}
+use Rattle.codec.specs.Table.{lastKind}
 use Rattle.typed_words.specs.Words.{nthPart}
 use Rattle.printing.specs.Ascii.{ascii}
 
@@ -12,13 +13,26 @@ use Rattle.printing.specs.Ascii.{ascii}
 abbrev pub lineOf : ℕ → ℕ → List ℕ → List ℕ
 lineOf last k text = nthPart 10 (min k last) text
 
--- ---- the kinds, 1 to 8: a line for each, from 0; no other has fields
+-- ---- the kinds: a line for each, from 0; no other has fields
+
+-- the line of what is no kind
+abbrev pub noKind : ℕ
+noKind = suc lastKind
 
 unfoldable pub kindTable : List ℕ
-kindTable = ascii "record\nfarm\nheading\nenteric\ncattle\npig\nenergy\nsoil\nclose\nrecord"
+kindTable = ascii "record\nfarm\nheading\nenteric\ncattle\npig\nenergy\nsoil\nclose\ntillage\nrecord"
 
 abbrev pub kindName : ℕ → List ℕ
-kindName k = lineOf 9 k kindTable
+kindName k = lineOf noKind k kindTable
+
+-- the names of n kinds from k on, with a comma before each
+unfoldable pub namesFrom : ℕ → ℕ → List ℕ
+namesFrom zero k = []
+namesFrom (suc n) k = ascii ", " ++ (kindName k ++ namesFrom n (suc k))
+
+-- the names of all kinds, with a comma between
+unfoldable pub kindNames : List ℕ
+kindNames = kindName 1 ++ namesFrom (lastKind - 1) 2
 
 -- the names of a kind's fields, with a comma between
 unfoldable pub fieldTable : List ℕ
@@ -31,10 +45,11 @@ fieldTable =
     ++ ascii " days, feed, VS excretion, VS factor, MCF, protein, N factor, direct EF, volatilised part, volatilised EF, leached part, leached EF\n"
     ++ ascii " source, amount, factor\n"
     ++ ascii " area\n"
-    ++ ascii " records before it"
+    ++ ascii " records before it\n"
+    ++ ascii " zone, texture, change, years, area"
 
 abbrev pub fieldNames : ℕ → List ℕ
-fieldNames k = lineOf 9 k fieldTable
+fieldNames k = lineOf noKind k fieldTable
 
 -- the name of field i, counted from 0
 abbrev pub fieldName : ℕ → ℕ → List ℕ
@@ -53,20 +68,21 @@ expectedTable =
     ++ ascii "; 0 to 0.10000; 0 to 1.000; 0 to 0.10000; 0 to 1.000; 0 to 0.10000\n"
     ++ ascii " 1 to 8; 0 to 1000000.0 units; 0 to 10000000 g CO2 per unit\n"
     ++ ascii " 0 to 100000.00 ha\n"
-    ++ ascii " 0 to 65535"
+    ++ ascii " 0 to 65535\n"
+    ++ ascii " 1 to 9; 1 to 3 (coarse, medium, fine); 1 to 6; 1 to 100; 0 to 100000.00 ha"
 
 abbrev pub expectedTexts : ℕ → List ℕ
-expectedTexts k = lineOf 9 k expectedTable
+expectedTexts k = lineOf noKind k expectedTable
 
 abbrev pub expected : ℕ → ℕ → List ℕ
 expected k i = nthPart 59 i (expectedTexts k)
 
 -- how many decimals the fields of a kind have: a digit for each
 unfoldable pub decimalsTable : List ℕ
-decimalsTable = ascii "\n000\n000\n022\n022220222\n024332353535\n010\n2\n0"
+decimalsTable = ascii "\n000\n000\n022\n022220222\n024332353535\n010\n2\n0\n00002"
 
 abbrev pub decimalsOf : ℕ → List ℕ
-decimalsOf k = lineOf 9 k decimalsTable
+decimalsOf k = lineOf noKind k decimalsTable
 
 -- 0 where there is no such field
 abbrev pub decimalsAt : ℕ → ℕ → ℕ
@@ -87,7 +103,7 @@ sentenceTable =
     ascii "closed\n"
     ++ ascii "a length that no record has: it is 4 to 26\n"
     ++ ascii "the version is not 1\n"
-    ++ ascii "no such kind of record: kinds are 1 to 8\n"
+    ++ ascii "no such kind of record: kinds are 1 to 9\n"
     ++ ascii "a wrong length or count of values\n"
     ++ ascii "the book has 4096 records, and no more go in\n"
     ++ ascii "out of its place: a book begins with its one farm record; enteric and cattle stand under a heading of class 1 to 3"

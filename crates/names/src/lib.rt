@@ -1,13 +1,34 @@
 // The names of kinds, fields and classes, what is expected of a field, and the sentences of the numbers: the one table of them, for every program.
 use printing::say;
+use typed_words::is_name;
 use typed_words::part;
 ghost use mathlib.Core.Path.{_≡_};
+ghost use mathlib.Core.List.{_++_};
 ghost use Prim.Native.Nat.{_-_, _≤_, min};
 ghost use lib.ListN.{length, getD};
 ghost use Rattle.base.specs.Choice.{pick};
 ghost use Rattle.codec.specs.Table.{fields};
+ghost use Rattle.printing.specs.Ascii.{ascii};
 ghost use Rattle.printing.specs.Said.{Said};
-ghost use Rattle.names.specs.Names.{lineOf, kindName, fieldNames, fieldName, expected, decimalsAt, className, sentence, printedByte, shown};
+ghost use Rattle.typed_words.specs.Words.{sameText, lowered};
+ghost use Rattle.names.specs.Names.{lineOf, kindName, kindNames, fieldNames, fieldName, expected, decimalsAt};
+ghost use Rattle.names.specs.Names.{className, sentence, printedByte, shown};
+
+// The line of what is no kind.
+const NO_KIND: u64 = codec::LAST_KIND + 1;
+
+// The names of the kinds, a line for each.
+const KINDS: [u8; 71] = *b"record
+farm
+heading
+enteric
+cattle
+pig
+energy
+soil
+close
+tillage
+record";
 
 // The line k of a text, counted from 0; from the last on all are the same.
 fn line_of(text: &[u8], last: u64, k: u64) -> &[u8]
@@ -24,21 +45,36 @@ pub fn say_kind(out: &mut [u8], at: usize, kind: u64) -> usize
     requires { ⌜ at ≤ length (now out) ⌝ }
     ensures { λ r. ⌜ Said (now (out .entry)) (now (out .exit)) at (kindName kind) r ⌝ }
 {
-    let name = line_of(
-        b"record
-farm
-heading
-enteric
-cattle
-pig
-energy
-soil
-close
-record",
-        9,
-        kind,
-    );
-    say(out, at, name)
+    say(out, at, line_of(&KINDS, NO_KIND, kind))
+}
+
+// Whether the word is the kind's name, capitals or not.
+pub fn is_kind_name(word: &[u8], kind: u64) -> bool
+    ensures { λ r. ⌜ r ≡ sameText (lowered (now (word .entry))) (kindName kind) ⌝ }
+{
+    is_name(word, line_of(&KINDS, NO_KIND, kind))
+}
+
+fn say_next(out: &mut [u8], at: usize, kind: u64) -> usize
+    requires { ⌜ at ≤ length (now out) ⌝ }
+    ensures { λ r. ⌜ Said (now (out .entry)) (now (out .exit)) at (ascii ", " ++ kindName kind) r ⌝ }
+{
+    let comma = say(out, at, b", ");
+    say_kind(out, comma, kind)
+}
+
+// The names of all kinds.
+pub fn say_kinds(out: &mut [u8], at: usize) -> usize
+    requires { ⌜ at ≤ length (now out) ⌝ }
+    ensures { λ r. ⌜ Said (now (out .entry)) (now (out .exit)) at kindNames r ⌝ }
+{
+    let mut end = say_kind(out, at, 1);
+    let mut kind = 2;
+    while kind < NO_KIND {
+        end = say_next(out, end, kind);
+        kind += 1;
+    }
+    end
 }
 
 // The names of all the kind's fields, or that of field i.
@@ -55,8 +91,9 @@ fn say_names(out: &mut [u8], at: usize, kind: u64, all: bool, i: usize) -> usize
  days, feed, VS excretion, VS factor, MCF, protein, N factor, direct EF, volatilised part, volatilised EF, leached part, leached EF
  source, amount, factor
  area
- records before it",
-        9,
+ records before it
+ zone, texture, change, years, area",
+        NO_KIND,
         kind,
     );
     if all {
@@ -96,8 +133,9 @@ pub fn say_expected(out: &mut [u8], at: usize, kind: u64, i: usize) -> usize
 0 to 0.10000; 0 to 1.000; 0 to 0.10000; 0 to 1.000; 0 to 0.10000
  1 to 8; 0 to 1000000.0 units; 0 to 10000000 g CO2 per unit
  0 to 100000.00 ha
- 0 to 65535",
-        9,
+ 0 to 65535
+ 1 to 9; 1 to 3 (coarse, medium, fine); 1 to 6; 1 to 100; 0 to 100000.00 ha",
+        NO_KIND,
         kind,
     );
     say(out, at, part(texts, b';', i))
@@ -131,8 +169,9 @@ pub fn decimals(kind: u64, i: usize) -> usize
 024332353535
 010
 2
-0",
-        9,
+0
+00002",
+        NO_KIND,
         kind,
     );
     digit_at(digits, i)
@@ -162,7 +201,7 @@ pub fn say_sentence(out: &mut [u8], at: usize, code: u64) -> usize
         b"closed
 a length that no record has: it is 4 to 26
 the version is not 1
-no such kind of record: kinds are 1 to 8
+no such kind of record: kinds are 1 to 9
 a wrong length or count of values
 the book has 4096 records, and no more go in
 out of its place: a book begins with its one farm record; enteric and cattle stand under a heading of class 1 to 3, pig under one of class 4

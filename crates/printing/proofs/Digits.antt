@@ -1,5 +1,5 @@
--- Laws of `decimal`: its two cases, and bounds of its length.
-use Prim.Native.Nat.{ℕ, zero, suc, _+_, _*_, _/_, _%_, _^_, _<_, _≤_}
+-- Laws of `decimal` and `signed`: their two cases, and bounds of a number's length.
+use Prim.Native.Nat.{ℕ, zero, suc, _+_, _-_, _*_, _/_, _%_, _^_, _<_, _≤_}
 use native.Mathlib.Nat.{pow-suc}
 use native.Mathlib.Omega.{arith}
 use mathlib.Core.Bool.{Bool, true, false}
@@ -8,8 +8,9 @@ use mathlib.Core.List.{List, [], _∷_, _++_}
 use lib.ListN.{length, length-append}
 use lib.Dec.{ltb}
 use borrow.Author.Tests.{lt-ltb, le-ltb, ltb-true, ltb-false}
+use Rattle.base.specs.Signed.{signedOf}
 use Rattle.base.proofs.Tests.{by-test}
-use Rattle.printing.specs.Decimal.{digit, digitsBy, decimal}
+use Rattle.printing.specs.Decimal.{digit, digitsBy, decimal, signed}
 
 by-one : (f n : ℕ) → n < 10 → digitsBy f (ltb n 10) n ≡ digit n ∷ []
 unfolding digitsBy
@@ -61,3 +62,19 @@ length-bound (suc k) n h =
 -- the digits of 64 bits
 pub length-u64 : (n : ℕ) → n < 2 ^ 64 → length (decimal n) ≤ 20
 length-u64 n h = length-bound 19 n (omega arith)
+
+-- one digit fewer leaves room for a sign
+pub amount-fits : (at room n : ℕ) → n < 10 ^ 19 → at + 19 ≤ room → at + length (decimal n) ≤ room
+amount-fits at room n h m = omega (arith, length-bound 18 n h)
+
+-- a word below its half stands for itself
+pub signed-small : (w : ℕ) → w < 2 ^ 63 → signed (signedOf w) ≡ decimal w
+unfolding signed
+signed-small w h = rw (lt-ltb w (2 ^ 63) h) refl
+
+-- any other for a number below zero, whose amount it lacks
+pub signed-below : (w n : ℕ) → 2 ^ 63 ≤ w → n + w ≡ 2 ^ 64 → 0 < n → signed (signedOf w) ≡ 45 ∷ decimal n
+unfolding signed
+signed-below w n h e m =
+    let amount : suc (2 ^ 64 - suc w) ≡ n = omega arith in
+    rw (le-ltb w (2 ^ 63) h, amount) refl

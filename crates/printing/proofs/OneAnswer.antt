@@ -13,6 +13,8 @@ use Rattle.printing.proofs.put_byte.Kinds as byte
 use Rattle.printing.proofs.put_byte.Reads as byte-contract
 use Rattle.printing.proofs.put_decimal.Kinds as number
 use Rattle.printing.proofs.put_decimal.Reads as number-contract
+use Rattle.printing.proofs.put_signed.Kinds as signed
+use Rattle.printing.proofs.put_signed.Reads as signed-contract
 use Rattle.printing.proofs.put_numbers.Kinds as numbers
 use Rattle.printing.proofs.put_numbers.Reads as numbers-contract
 use Rattle.printing.proofs.put_text.Kinds as text
@@ -33,6 +35,11 @@ one-put-byte κs args f g e e′ p q = one-put p q
 pub one-put-decimal : (κs : Lfts 1) (args : Dens κs number.ps) (f g : ℕ) (e e′ : AtExit (endedOf 1 number.ps number.r) κs)
     → number-contract.Learnt κs args f e → number-contract.Learnt κs args g e′ → (f ≡ g) × (now (e .0) ≡ now (e′ .0))
 one-put-decimal κs args f g e e′ p q = one-put (p .0) (q .0)
+
+-- A signed number.
+pub one-put-signed : (κs : Lfts 1) (args : Dens κs signed.ps) (f g : ℕ) (e e′ : AtExit (endedOf 1 signed.ps signed.r) κs)
+    → signed-contract.Learnt κs args f e → signed-contract.Learnt κs args g e′ → (f ≡ g) × (now (e .0) ≡ now (e′ .0))
+one-put-signed κs args f g e e′ p q = one-put (p .0) (q .0)
 
 -- A line of numbers.
 pub one-put-numbers : (κs : Lfts 2) (args : Dens κs numbers.ps) (f g : ℕ) (e e′ : AtExit (endedOf 2 numbers.ps numbers.r) κs)

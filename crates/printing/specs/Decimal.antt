@@ -5,6 +5,7 @@ use mathlib.Core.Bool.{Bool, true, false}
 use mathlib.Core.List.{List, [], _∷_, _++_}
 use lib.ListN.{length, take, drop}
 use lib.Dec.{ltb}
+use lib.IntN.{ℤ, pos, negsuc}
 
 -- the ASCII digit of d
 abbrev pub digit : ℕ → ℕ
@@ -20,6 +21,11 @@ digitsBy (suc f) false n = digitsBy f (ltb (n / 10) 10) (n / 10) ++ (digit (n % 
 unfoldable pub decimal : ℕ → List ℕ
 unfolding digitsBy
 decimal n = digitsBy n (ltb n 10) n
+
+-- a signed number: a minus sign before the digits of one below zero, `negsuc n` being −(n + 1)
+unfoldable pub signed : ℤ → List ℕ
+signed (pos n) = decimal n
+signed (negsuc n) = 45 ∷ decimal (suc n)
 
 -- n thousandths as a decimal with three places: kilograms of n grams
 abbrev pub thousandths : ℕ → List ℕ

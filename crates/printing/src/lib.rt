@@ -4,7 +4,8 @@ ghost use mathlib.Core.Path.{_≡_};
 ghost use Prim.Native.Nat.{_+_, _*_, _≤_, _<_};
 ghost use lib.ListN.{length, take, drop};
 ghost use mathlib.Core.List.{_∷_, []};
-ghost use Rattle.printing.specs.Decimal.{digit, decimal, thousandths, spaced, numbersLine, Put};
+ghost use Rattle.base.specs.Signed.{signedOf};
+ghost use Rattle.printing.specs.Decimal.{digit, decimal, signed, thousandths, spaced, numbersLine, Put};
 ghost use Rattle.printing.specs.Said.{Said};
 
 // The digits before the last, then the last.
@@ -33,6 +34,19 @@ pub fn put_decimal(out: &mut [u8], at: usize, v: u64) -> usize
     ensures { λ r. ⌜ r ≤ at + 20 ⌝ }
 {
     put_digits(out, at, v)
+}
+
+// The signed number that stands in w in two's complement.
+pub fn put_signed(out: &mut [u8], at: usize, w: u64) -> usize
+    requires { ⌜ at + 20 ≤ length (now out) ⌝ }
+    ensures { λ r. ⌜ Put (now (out .entry)) (now (out .exit)) at (signed (signedOf w)) r ⌝ }
+    ensures { λ r. ⌜ r ≤ at + 20 ⌝ }
+{
+    if w < 9223372036854775808 {
+        return put_decimal(out, at, w);
+    }
+    let minus = put_byte(out, at, b'-');
+    put_digits(out, minus, u64::MAX - w + 1)
 }
 
 fn put_spaced(out: &mut [u8], at: usize, v: u64) -> usize

@@ -10,6 +10,7 @@ pub mod Paper
 pub mod Taken
 pub mod Subtotals
 pub mod Limits
+pub mod Halves
 pub mod Totals
 pub mod SoFar
 pub mod WholeLines

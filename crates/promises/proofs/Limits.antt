@@ -10,6 +10,7 @@ use Rattle.grams.specs.Farm.{energyOf, soilOf, co2eOf}
 use Rattle.grams.specs.TillageTable.{lessTillage, lessOf, pairOf}
 use Rattle.grams.specs.CarbonRate.{steps, expOf, rateOf, mgOf}
 use Rattle.grams.specs.Tillage.{co2Of, tillageOf}
+use Rattle.grams.specs.Grazing.{pastureTable, pastureFactor, grazingOf}
 use Rattle.grams.specs.Cases.{every}
 use Rattle.account.specs.Figures.{figuresOf}
 use Rattle.account.specs.Sorts.{sortOf}
@@ -20,5 +21,5 @@ use Rattle.promises.specs.Limits.{limits}
 
 -- Refusals 1 to 12: each row of the tables comes to what document 01 says.
 pub both-sides : T (every limits)
-unfolding table size valAt be valuesAt bytesOf firstBad recordBytes roundDiv cattle.entericOf cattle.belowZero cattle.manureOf pig.manureOf energyOf soilOf lessTillage lessOf pairOf steps expOf rateOf mgOf co2Of tillageOf co2eOf figuresOf first inPlace accepted sortOf judge front bookBy book run
+unfolding table size valAt be valuesAt bytesOf firstBad recordBytes roundDiv cattle.entericOf cattle.belowZero cattle.manureOf pig.manureOf energyOf soilOf lessTillage lessOf pairOf steps expOf rateOf mgOf co2Of tillageOf pastureTable pastureFactor grazingOf co2eOf figuresOf first inPlace accepted sortOf judge front bookBy book run
 both-sides = tt

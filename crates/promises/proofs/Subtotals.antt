@@ -60,8 +60,8 @@ own-line : (l : List ℕ) → valAt l 3 1 ≡ 16 → subtotalLines (l ∷ []) �
 unfolding subtotalLines
 own-line l e = rw e refl
 
-line-kind : (k g a b c d e : ℕ) → k < 256 → g < 65536 → valAt (lineBytes k g a b c d e) 3 1 ≡ k
-line-kind k g a b c d e p q = ap (λ (m : Mark). m .kind) (line-mark k g a b c d e p q)
+line-kind : (k g : ℕ) (f : Figures) → k < 256 → g < 65536 → valAt (lineWith k g f) 3 1 ≡ k
+line-kind k g f p q = ap (λ (m : Mark). m .kind) (line-mark k g _ _ _ _ _ _ p q)
 
 -- ---- what one record does
 
@@ -99,16 +99,16 @@ module _ (a : Account) (r : List ℕ) (f : AccountInRange a) (kinds : isKind (ki
           → subtotalLines (pick b [] (lineWith 16 (a .heading .group) (groupFigures (a .subtotal)) ∷ []))
           ≡ map lineOfGroup (pick b [] (record { number = a .heading .group; subtotal = a .subtotal } ∷ []))
       go true = refl
-      go false = own-line (lineWith 16 (a .heading .group) (groupFigures (a .subtotal))) (line-kind 16 (a .heading .group) _ _ _ _ _ (omega arith) (omega (arith, group-most a f)))
+      go false = own-line (lineWith 16 (a .heading .group) (groupFigures (a .subtotal))) (line-kind 16 (a .heading .group) _ (omega arith) (omega (arith, group-most a f)))
 
   -- a detail gives no subtotal line
   detail-line : (g : ℕ) → g < 65536 → subtotalLines (lineWith (kindOf r) g (detailOf (a .heading) r) ∷ []) ≡ []
   detail-line g b =
       let most = kind-most (kindOf r) kinds in
-      other-line (lineWith (kindOf r) g (detailOf (a .heading) r)) (kindOf r) (line-kind (kindOf r) _ _ _ _ _ _ (omega arith) b) (λ q. omega (arith, q, most))
+      other-line (lineWith (kindOf r) g (detailOf (a .heading) r)) (kindOf r) (line-kind (kindOf r) _ _ (omega arith) b) (λ q. omega (arith, q, most))
 
   total-line : subtotalLines (totalOf a ∷ []) ≡ []
-  total-line = other-line (totalOf a) 8 (ap (λ (m : Mark). m .kind) (total-mark _ _ _ _ _ _)) (λ q. omega (arith, q))
+  total-line = other-line (totalOf a) 8 (ap (λ (m : Mark). m .kind) (total-mark _ _ _ _ _ _ _)) (λ q. omega (arith, q))
 
   made : Made a r (accepted a (kindOf r) (valuesOf r))
   unfolding accepted subtotalLines
@@ -209,7 +209,7 @@ module _ (a : Account) (r : List ℕ) (f : AccountInRange a) (x : Gas) where
   unfolding figuresOf
   air-alone e =
       let n = not-of-group (kindOf r) e in
-      rw (n .0, n .1 .0, n .1 .1) (of-choice Nothing (eqb (kindOf r) 6) (λ e. x .air _) (λ e. of-choice Nothing (eqb (kindOf r) 7) (λ e. x .air _) (λ e. x .air _)))
+      rw (n .0, n .1 .0, n .1 .1 .0, n .1 .1 .1) (of-choice Nothing (eqb (kindOf r) 6) (λ e. x .air _) (λ e. of-choice Nothing (eqb (kindOf r) 7) (λ e. x .air _) (λ e. x .air _)))
 
   abbrev Balanced : Sort → Type 0
   Balanced s =

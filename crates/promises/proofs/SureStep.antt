@@ -1,4 +1,4 @@
--- The sure step. Document 01, with document 02, W2: "In stages 0 and 1, at least one input byte and 100 bytes of room always take at least one byte."
+-- The sure step. Document 01, with document 02, W10: in stages 0 and 1, at least one input byte and 116 bytes of room always take at least one byte.
 use Prim.Native.Nat.{ℕ, suc, _-_, _≤_, _<_}
 use mathlib.Core.Path.{_≡_, refl}
 use mathlib.Core.List.{List, [], _∷_, _++_, append-nil}
@@ -6,6 +6,7 @@ use native.Mathlib.Omega.{arith}
 use borrow.Author.Tests.{le-leb}
 use lib.ListN.{length, take, drop, length-append, length-drop, drop-of-length-le}
 use lib.Seq.{length-take-le}
+use Rattle.codec.specs.Table.{linesMost}
 use Rattle.account.specs.Judge.{judge}
 use Rattle.account.specs.Line.{joined}
 use Rattle.account.proofs.Keeps.{in-range-judge, judge-short}
@@ -43,10 +44,10 @@ module _ (s : State) (xs : List ℕ) (v : InRange s) (early : s .account .stage 
   pub takes-one : length (run s xs .left) < length xs
   takes-one = takes-at (front (heldOf s ++ xs)) refl
 
--- ---- one byte gives at most 100 bytes of lines
+-- ---- one byte gives at most 116 bytes of lines
 
 module _ (s : State) (b : ℕ) (v : InRange s) (early : s .account .stage < 2) where
-  short-at : (f : Front) → front (heldOf s ++ (b ∷ [])) ≡ f → length (joined (run s (b ∷ []) .lines)) ≤ 100
+  short-at : (f : Front) → front (heldOf s ++ (b ∷ [])) ≡ f → length (joined (run s (b ∷ []) .lines)) ≤ linesMost
   unfolding run
   short-at unfinished e = rw (book-unfinished (s .account) (heldOf s ++ (b ∷ [])) early e) (omega arith)
   short-at badLength e = rw (book-bad (s .account) (heldOf s ++ (b ∷ [])) early e) (omega arith)
@@ -58,11 +59,11 @@ module _ (s : State) (b : ℕ) (v : InRange s) (early : s .account .stage < 2) w
       rw (book-whole (s .account) zs early e, d, book-none (j .account) (in-range-judge (s .account) (take (need zs) zs) (v .account) early), append-nil)
       (judge-short (s .account) (take (need zs) zs))
 
-  one-short : length (joined (run s (b ∷ []) .lines)) ≤ 100
+  one-short : length (joined (run s (b ∷ []) .lines)) ≤ linesMost
   one-short = short-at (front (heldOf s ++ (b ∷ []))) refl
 
--- The sure step: in stages 0 and 1 a call that is offered one byte at least, with 100 bytes of room, takes one at least.
-pub sure-step : (s : State) (b : ℕ) (xs : List ℕ) (room : ℕ) → InRange s → s .account .stage < 2 → 100 ≤ room → 0 < call s (b ∷ xs) room .taken
+-- The sure step: in stages 0 and 1 a call that is offered one byte at least, with 116 bytes of room, takes one at least.
+pub sure-step : (s : State) (b : ℕ) (xs : List ℕ) (room : ℕ) → InRange s → s .account .stage < 2 → linesMost ≤ room → 0 < call s (b ∷ xs) room .taken
 sure-step s b xs room v early big =
     let n = longest (fits s (b ∷ xs) room) (suc (length xs)) in
     let one : length (joined (run s (b ∷ []) .lines)) ≤ room = omega (arith, one-short s b v early) in

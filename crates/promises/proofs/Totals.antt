@@ -91,7 +91,7 @@ ends : (n : ℕ) (a : Account) (xs : List ℕ) → length xs < n → AccountInRa
 ends zero a xs h v k = absurd (omega arith)
 ends (suc n) a xs h v k = ends-at a xs v k (λ b zs p w i. ends n b zs (omega arith) w i) (front xs) refl
 
--- A run that closes the book ends with the total line of the account reached: its five sums, and CO2e by its warming set.
+-- A run that closes the book ends with the total line of the account reached: its six sums, and CO2e by its warming set.
 pub ends-with-total : (s : State) (xs : List ℕ) → InRange s → s .account .stage < 2 → run s xs .state .account .stage ≡ 2
     → lastOf (run s xs .lines) ≡ totalOf (run s xs .state .account)
 unfolding run
@@ -116,7 +116,7 @@ gains s xs v k q =
 
 -- ---- the figures in a line's bytes
 
--- behind six bytes stand five figures of 8 bytes: each but the third, read again
+-- behind six bytes stand five figures of 8 bytes, and then others: each but the third, read again
 module _ (b0 b1 b2 b3 b4 b5 a n c e l : ℕ) (behind : List ℕ) where
   abbrev five : List ℕ
   five = (b0 ∷ b1 ∷ b2 ∷ b3 ∷ b4 ∷ b5 ∷ []) ++ (be 8 a ++ (be 8 n ++ (be 8 c ++ (be 8 e ++ (be 8 l ++ behind)))))
@@ -137,38 +137,38 @@ module _ (b0 b1 b2 b3 b4 b5 a n c e l : ℕ) (behind : List ℕ) where
   read-fifth h = valAt-be 8 l ((b0 ∷ b1 ∷ b2 ∷ b3 ∷ b4 ∷ b5 ∷ []) ++ (be 8 a ++ (be 8 n ++ (be 8 c ++ be 8 e)))) behind h
 
 -- in a line and in a total line
-module _ (k g a n c e l w : ℕ) where
-  line-first : a < bytesHold 8 → valAt (lineBytes k g a n c e l) 6 8 ≡ a
+module _ (k g a n c e l z w : ℕ) where
+  line-first : a < bytesHold 8 → valAt (lineBytes k g a n c e l z) 6 8 ≡ a
   unfolding lineBytes lineFields bytesOf be
-  line-first h = read-first _ _ _ _ _ _ a n c e l [] h
+  line-first h = read-first _ _ _ _ _ _ a n c e l (be 8 z) h
 
-  total-first : a < bytesHold 8 → valAt (totalBytes a n c e l w) 6 8 ≡ a
+  total-first : a < bytesHold 8 → valAt (totalBytes a n c e l z w) 6 8 ≡ a
   unfolding totalBytes totalFields bytesOf be
-  total-first h = read-first _ _ _ _ _ _ a n c e l (be 8 w) h
+  total-first h = read-first _ _ _ _ _ _ a n c e l (be 8 z ++ be 8 w) h
 
-  line-second : n < bytesHold 8 → valAt (lineBytes k g a n c e l) 14 8 ≡ n
+  line-second : n < bytesHold 8 → valAt (lineBytes k g a n c e l z) 14 8 ≡ n
   unfolding lineBytes lineFields bytesOf be
-  line-second h = read-second _ _ _ _ _ _ a n c e l [] h
+  line-second h = read-second _ _ _ _ _ _ a n c e l (be 8 z) h
 
-  total-second : n < bytesHold 8 → valAt (totalBytes a n c e l w) 14 8 ≡ n
+  total-second : n < bytesHold 8 → valAt (totalBytes a n c e l z w) 14 8 ≡ n
   unfolding totalBytes totalFields bytesOf be
-  total-second h = read-second _ _ _ _ _ _ a n c e l (be 8 w) h
+  total-second h = read-second _ _ _ _ _ _ a n c e l (be 8 z ++ be 8 w) h
 
-  line-fourth : e < bytesHold 8 → valAt (lineBytes k g a n c e l) 30 8 ≡ e
+  line-fourth : e < bytesHold 8 → valAt (lineBytes k g a n c e l z) 30 8 ≡ e
   unfolding lineBytes lineFields bytesOf be
-  line-fourth h = read-fourth _ _ _ _ _ _ a n c e l [] h
+  line-fourth h = read-fourth _ _ _ _ _ _ a n c e l (be 8 z) h
 
-  total-fourth : e < bytesHold 8 → valAt (totalBytes a n c e l w) 30 8 ≡ e
+  total-fourth : e < bytesHold 8 → valAt (totalBytes a n c e l z w) 30 8 ≡ e
   unfolding totalBytes totalFields bytesOf be
-  total-fourth h = read-fourth _ _ _ _ _ _ a n c e l (be 8 w) h
+  total-fourth h = read-fourth _ _ _ _ _ _ a n c e l (be 8 z ++ be 8 w) h
 
-  line-fifth : l < bytesHold 8 → valAt (lineBytes k g a n c e l) 38 8 ≡ l
+  line-fifth : l < bytesHold 8 → valAt (lineBytes k g a n c e l z) 38 8 ≡ l
   unfolding lineBytes lineFields bytesOf be
-  line-fifth h = read-fifth _ _ _ _ _ _ a n c e l [] h
+  line-fifth h = read-fifth _ _ _ _ _ _ a n c e l (be 8 z) h
 
-  total-fifth : l < bytesHold 8 → valAt (totalBytes a n c e l w) 38 8 ≡ l
+  total-fifth : l < bytesHold 8 → valAt (totalBytes a n c e l z w) 38 8 ≡ l
   unfolding totalBytes totalFields bytesOf be
-  total-fifth h = read-fifth _ _ _ _ _ _ a n c e l (be 8 w) h
+  total-fifth h = read-fifth _ _ _ _ _ _ a n c e l (be 8 z ++ be 8 w) h
 
 -- where a figure of a group stands in a line: read from a subtotal line and from a total line it is itself, as no sum is too big for 8 bytes
 record Placed (x : Gas) (at : ℕ) : Type 0 where
@@ -180,8 +180,8 @@ ch4-placed : Placed ch4 6
 unfolding bytesHold
 ch4-placed =
     record {
-      line = λ g t h. line-first 16 g _ _ _ _ _ 0 h;
-      total = λ f w h. total-first 0 0 _ _ _ _ _ _ h;
+      line = λ g t h. line-first 16 g _ _ _ _ _ _ 0 h;
+      total = λ f w h. total-first 0 0 _ _ _ _ _ _ _ h;
       small = λ f r b m. omega (arith, b .ch4, m);
     }
 
@@ -189,8 +189,8 @@ n2o-placed : Placed n2o 14
 unfolding bytesHold
 n2o-placed =
     record {
-      line = λ g t h. line-second 16 g _ _ _ _ _ 0 h;
-      total = λ f w h. total-second 0 0 _ _ _ _ _ _ h;
+      line = λ g t h. line-second 16 g _ _ _ _ _ _ 0 h;
+      total = λ f w h. total-second 0 0 _ _ _ _ _ _ _ h;
       small = λ f r b m. omega (arith, b .n2o, m);
     }
 
@@ -198,8 +198,8 @@ excreted-placed : Placed excreted 30
 unfolding bytesHold
 excreted-placed =
     record {
-      line = λ g t h. line-fourth 16 g _ _ _ _ _ 0 h;
-      total = λ f w h. total-fourth 0 0 _ _ _ _ _ _ h;
+      line = λ g t h. line-fourth 16 g _ _ _ _ _ _ 0 h;
+      total = λ f w h. total-fourth 0 0 _ _ _ _ _ _ _ h;
       small = λ f r b m. omega (arith, b .excreted, m);
     }
 
@@ -207,8 +207,8 @@ land-placed : Placed land 38
 unfolding bytesHold
 land-placed =
     record {
-      line = λ g t h. line-fifth 16 g _ _ _ _ _ 0 h;
-      total = λ f w h. total-fifth 0 0 _ _ _ _ _ _ h;
+      line = λ g t h. line-fifth 16 g _ _ _ _ _ _ 0 h;
+      total = λ f w h. total-fifth 0 0 _ _ _ _ _ _ _ h;
       small = λ f r b m. omega (arith, b .land, m);
     }
 

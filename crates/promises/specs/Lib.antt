@@ -3,6 +3,7 @@ pub mod Taken
 pub mod Subtotals
 pub mod Paper
 pub mod Limits
+pub mod Halves
 pub mod Totals
 pub mod WholeLines
 pub mod Answers

@@ -289,6 +289,45 @@ tillageFields =
     ∷ after farm (recordBytes 9 (1 ∷ 2 ∷ 3 ∷ 4 ∷ 10000001 ∷ [])) (refused 1 7 5)
     ∷ []
 
+-- grazing
+abbrev pub grazingFields : List Row
+grazingFields =
+    -- region: 1..7
+    after cow (recordBytes 10 (0 ∷ 2 ∷ 3 ∷ 4 ∷ [])) (refused 2 7 1)
+    ∷ after cow (recordBytes 10 (1 ∷ 2 ∷ 3 ∷ 4 ∷ [])) (going 3)
+    ∷ after cow (recordBytes 10 (7 ∷ 2 ∷ 3 ∷ 4 ∷ [])) (going 3)
+    ∷ after cow (recordBytes 10 (8 ∷ 2 ∷ 3 ∷ 4 ∷ [])) (refused 2 7 1)
+    -- column: 1..3
+    ∷ after cow (recordBytes 10 (1 ∷ 0 ∷ 3 ∷ 4 ∷ [])) (refused 2 7 2)
+    ∷ after cow (recordBytes 10 (1 ∷ 1 ∷ 3 ∷ 4 ∷ [])) (going 3)
+    ∷ after cow (recordBytes 10 (1 ∷ 3 ∷ 3 ∷ 4 ∷ [])) (going 3)
+    ∷ after cow (recordBytes 10 (1 ∷ 4 ∷ 3 ∷ 4 ∷ [])) (refused 2 7 2)
+    -- live weight: 0..2000
+    ∷ after cow (recordBytes 10 (1 ∷ 2 ∷ 0 ∷ 4 ∷ [])) (going 3)
+    ∷ after cow (recordBytes 10 (1 ∷ 2 ∷ 2000 ∷ 4 ∷ [])) (going 3)
+    ∷ after cow (recordBytes 10 (1 ∷ 2 ∷ 2001 ∷ 4 ∷ [])) (refused 2 7 3)
+    -- fraction: 0..10000
+    ∷ after cow (recordBytes 10 (1 ∷ 2 ∷ 3 ∷ 0 ∷ [])) (going 3)
+    ∷ after cow (recordBytes 10 (1 ∷ 2 ∷ 3 ∷ 10000 ∷ [])) (going 3)
+    ∷ after cow (recordBytes 10 (1 ∷ 2 ∷ 3 ∷ 10001 ∷ [])) (refused 2 7 4)
+    ∷ []
+
+-- a grazing record with this fraction
+abbrev pub grazing : ℕ → List ℕ
+grazing fraction = recordBytes 10 (3 ∷ 1 ∷ 600 ∷ fraction ∷ [])
+
+-- the fractions under a heading: 10000 together pass, one more is 10; each heading for itself; 7 before 10
+abbrev pub fractions : List Row
+fractions =
+    after cow (grazing 5000 ++ grazing 5000) (going 4)
+    ∷ after cow (grazing 5000 ++ grazing 5001) (refused 3 10 0)
+    ∷ after cow (grazing 10000 ++ grazing 0) (going 4)
+    ∷ after cow (grazing 10000 ++ grazing 1) (refused 3 10 0)
+    ∷ after cow (grazing 10000 ++ grazing 10001) (refused 3 7 4)
+    ∷ after cow (grazing 10000 ++ enteric 366 ++ recordBytes 2 (2 ∷ 3 ∷ 1 ∷ []) ++ grazing 10000) (going 6)
+    ∷ after cow (grazing 10000 ++ recordBytes 8 (3 ∷ [])) (closed 4)
+    ∷ []
+
 -- ---- the other refusals
 
 -- length, version and kind (1 to 4)
@@ -314,9 +353,9 @@ lengthsAndKinds =
     ∷ after farm (0 ∷ 6 ∷ 1 ∷ 7 ∷ 0 ∷ 0 ∷ 0 ∷ 10 ∷ []) (going 2)
     ∷ after farm (0 ∷ 6 ∷ 2 ∷ 7 ∷ 0 ∷ 0 ∷ 0 ∷ 10 ∷ []) (refused 1 2 0)
     ∷ after farm (0 ∷ 6 ∷ 255 ∷ 7 ∷ 0 ∷ 0 ∷ 0 ∷ 10 ∷ []) (refused 1 2 0)
-    -- 3: kind not 1..9
+    -- 3: kind not 1..10
     ∷ after farm (0 ∷ 6 ∷ 1 ∷ 0 ∷ 0 ∷ 0 ∷ 0 ∷ 10 ∷ []) (refused 1 3 0)
-    ∷ after farm (0 ∷ 6 ∷ 1 ∷ 10 ∷ 0 ∷ 0 ∷ 0 ∷ 10 ∷ []) (refused 1 3 0)
+    ∷ after farm (0 ∷ 6 ∷ 1 ∷ 11 ∷ 0 ∷ 0 ∷ 0 ∷ 10 ∷ []) (refused 1 3 0)
     ∷ after farm (0 ∷ 6 ∷ 1 ∷ 255 ∷ 0 ∷ 0 ∷ 0 ∷ 10 ∷ []) (refused 1 3 0)
     -- 4: length not the kind's, one byte less and one more; beyond 4 and 26 it is refusal 1
     ∷ after [] (blank 8 1) (refused 0 4 0)
@@ -337,6 +376,8 @@ lengthsAndKinds =
     ∷ after farm (blank 5 8) (refused 1 4 0)
     ∷ after farm (blank 10 9) (refused 1 4 0)
     ∷ after farm (blank 12 9) (refused 1 4 0)
+    ∷ after cow (blank 7 10) (refused 2 4 0)
+    ∷ after cow (blank 9 10) (refused 2 4 0)
     ∷ []
 
 -- count, place, group, days, shares, X and close (5, 6, 8 to 12)
@@ -356,12 +397,15 @@ placesAndSums =
     ∷ after [] (recordBytes 7 (10 ∷ [])) (refused 0 6 0)
     ∷ after [] (recordBytes 8 (0 ∷ [])) (refused 0 6 0)
     ∷ after [] (recordBytes 9 (1 ∷ 2 ∷ 3 ∷ 4 ∷ 5 ∷ [])) (refused 0 6 0)
+    ∷ after [] (grazing 10) (refused 0 6 0)
     ∷ after farm (recordBytes 1 (7 ∷ 2010 ∷ 1 ∷ [])) (refused 1 6 0)
     ∷ after cow (recordBytes 1 (7 ∷ 2010 ∷ 1 ∷ [])) (refused 2 6 0)
-    -- kinds 3 and 4 need a cattle heading, kind 5 a pig heading; kinds 6 to 9 none
+    -- kinds 3, 4 and 10 need a cattle heading, kind 5 a pig heading; kinds 6 to 9 none
     ∷ after farm (enteric 10) (refused 1 6 0)
     ∷ after farm (nitrogen 10) (refused 1 6 0)
     ∷ after farm (pig 10) (refused 1 6 0)
+    ∷ after farm (grazing 10) (refused 1 6 0)
+    ∷ after sow (grazing 10) (refused 2 6 0)
     ∷ after farm (recordBytes 2 (1 ∷ 1 ∷ 1 ∷ []) ++ enteric 10) (going 3)
     ∷ after farm (recordBytes 2 (1 ∷ 1 ∷ 1 ∷ []) ++ nitrogen 10) (going 3)
     ∷ after farm (recordBytes 2 (1 ∷ 1 ∷ 1 ∷ []) ++ pig 10) (refused 2 6 0)
@@ -434,8 +478,8 @@ abbrev pub firstTold : List Row
 firstTold =
     -- each before the next, where a record breaks two
     after [] (0 ∷ 27 ∷ 2 ∷ []) (refused 0 1 0)
-    ∷ after [] (0 ∷ 4 ∷ 2 ∷ 10 ∷ 0 ∷ 0 ∷ []) (refused 0 2 0)
-    ∷ after [] (0 ∷ 4 ∷ 1 ∷ 10 ∷ 0 ∷ 0 ∷ []) (refused 0 3 0)
+    ∷ after [] (0 ∷ 4 ∷ 2 ∷ 11 ∷ 0 ∷ 0 ∷ []) (refused 0 2 0)
+    ∷ after [] (0 ∷ 4 ∷ 1 ∷ 11 ∷ 0 ∷ 0 ∷ []) (refused 0 3 0)
     ∷ after [] (0 ∷ 5 ∷ 1 ∷ 3 ∷ 0 ∷ 0 ∷ 0 ∷ []) (refused 0 4 0)
     ∷ after farm (enteric 0) (refused 1 6 0)
     ∷ after farm (recordBytes 1 (7 ∷ 1899 ∷ 3 ∷ [])) (refused 1 6 0)
@@ -460,6 +504,8 @@ limits =
     ++ energyFields
     ++ soilFields
     ++ tillageFields
+    ++ grazingFields
+    ++ fractions
     ++ lengthsAndKinds
     ++ placesAndSums
     ++ firstTold

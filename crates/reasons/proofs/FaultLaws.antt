@@ -7,11 +7,11 @@ use mathlib.Core.Bool.{Bool, true, false, _&&_, _||_, not}
 use mathlib.Core.Logic.{_⊎_, inl, inr, ⊎-elim}
 use native.Mathlib.Omega.{arith}
 use borrow.Author.Tests.{eqb-true, eqb-false, eq-eqb, ne-eqb}
-use lib.Dec.{ltb, leb, eqb}
+use lib.Dec.{ltb, eqb}
 use lib.ListN.{length, getD}
 use Rattle.base.specs.Choice.{pick}
 use Rattle.base.proofs.Tests.{of-choice, no-bool, not-false, not-true}
-use Rattle.codec.specs.Table.{table, fields, lengthOf, linesMost}
+use Rattle.codec.specs.Table.{table, fields, lengthOf, linesMost, isKind}
 use Rattle.codec.specs.Codec.{firstBad}
 use Rattle.codec.proofs.Within.{Within, ranges, bad-position}
 use Rattle.account.specs.declared.Account.{Account}
@@ -119,14 +119,15 @@ faulty-told {a} {r} e b w h s = rw (e, b) (faulty a r h (rw e at s) w)
 
 -- ---- what a number says of the record
 
-fields-few : (k : ℕ) → leb 1 k && leb k 8 ≡ true → length (fields k) ≤ 12
+fields-few : (k : ℕ) → isKind k ≡ true → length (fields k) ≤ 12
 unfolding table
 fields-few =
-    each-kind (λ (k : ℕ). length (fields k) ≤ 12) (omega arith) (omega arith) (omega arith) (omega arith) (omega arith) (omega arith) (omega arith) (omega arith)
+    each-kind (λ (k : ℕ). length (fields k) ≤ 12) (omega arith) (omega arith) (omega arith) (omega arith) (omega arith) (omega arith) (omega arith)
+    (omega arith) (omega arith)
 
 module _ {a : Account} {r : List ℕ} {code field : ℕ} (f : Faulty a r code field) where
   -- from 4 on its kind is one of the book's, from 5 on its length is the kind's
-  pub kind-in : 4 ≤ code → leb 1 (kindOf r) && leb (kindOf r) 8 ≡ true
+  pub kind-in : 4 ≤ code → isKind (kindOf r) ≡ true
   kind-in h = not-false _ (f .broken .kind .0 (omega arith))
 
   pub sized : 5 ≤ code → Sized r

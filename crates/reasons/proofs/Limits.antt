@@ -10,7 +10,7 @@ use mathlib.Core.Logic.{⊎-elim}
 use lib.ListN.{getD}
 use lib.Dec.{eqb}
 use Rattle.base.proofs.Tests.{and-l, and-r, lt-or-ge}
-use Rattle.codec.specs.Table.{field, table, fields}
+use Rattle.codec.specs.Table.{field, table, fields, lastKind}
 use Rattle.account.specs.Compared.{rangeOf}
 
 -- the lowest value of each field; 0 where there is no field
@@ -25,6 +25,7 @@ lowestValues =
     ∷ (1 ∷ 0 ∷ 0 ∷ 0 ∷ 0 ∷ 0 ∷ 0 ∷ 0 ∷ 0 ∷ 0 ∷ 0 ∷ 0 ∷ [])
     ∷ (0 ∷ 0 ∷ 0 ∷ 0 ∷ 0 ∷ 0 ∷ 0 ∷ 0 ∷ 0 ∷ 0 ∷ 0 ∷ 0 ∷ [])
     ∷ (0 ∷ 0 ∷ 0 ∷ 0 ∷ 0 ∷ 0 ∷ 0 ∷ 0 ∷ 0 ∷ 0 ∷ 0 ∷ 0 ∷ [])
+    ∷ (1 ∷ 1 ∷ 1 ∷ 1 ∷ 0 ∷ 0 ∷ 0 ∷ 0 ∷ 0 ∷ 0 ∷ 0 ∷ 0 ∷ [])
     ∷ []
 
 -- the highest value of each field; 0 where there is no field
@@ -39,6 +40,7 @@ highestValues =
     ∷ (8 ∷ 10000000 ∷ 10000000 ∷ 0 ∷ 0 ∷ 0 ∷ 0 ∷ 0 ∷ 0 ∷ 0 ∷ 0 ∷ 0 ∷ [])
     ∷ (10000000 ∷ 0 ∷ 0 ∷ 0 ∷ 0 ∷ 0 ∷ 0 ∷ 0 ∷ 0 ∷ 0 ∷ 0 ∷ 0 ∷ [])
     ∷ (65535 ∷ 0 ∷ 0 ∷ 0 ∷ 0 ∷ 0 ∷ 0 ∷ 0 ∷ 0 ∷ 0 ∷ 0 ∷ 0 ∷ [])
+    ∷ (9 ∷ 3 ∷ 6 ∷ 100 ∷ 10000000 ∷ 0 ∷ 0 ∷ 0 ∷ 0 ∷ 0 ∷ 0 ∷ 0 ∷ [])
     ∷ []
 
 -- ---- one test of all of them
@@ -62,13 +64,13 @@ sameAt k i =
     eqb (getD (getD lowestValues k []) i 0) (getD (fields k) i (field 0 0 0) .1)
     && eqb (getD (getD highestValues k []) i 0) (getD (fields k) i (field 0 0 0) .2)
 
-all-same : each (λ k. each (sameAt k) 12) 9 ≡ true
+all-same : each (λ k. each (sameAt k) 12) (suc lastKind) ≡ true
 unfolding each sameAt lowestValues highestValues table
 all-same = refl
 
-module _ (k i : ℕ) (h : k < 9) (g : i < 12) where
+module _ (k i : ℕ) (h : k < suc lastKind) (g : i < 12) where
   same-at : sameAt k i ≡ true
-  same-at = each-at (sameAt k) 12 (each-at (λ k. each (sameAt k) 12) 9 all-same k h) i g
+  same-at = each-at (sameAt k) 12 (each-at (λ k. each (sameAt k) 12) (suc lastKind) all-same k h) i g
 
   pub lowest-is : getD (getD lowestValues k []) i 0 ≡ getD (fields k) i (field 0 0 0) .1
   unfolding sameAt

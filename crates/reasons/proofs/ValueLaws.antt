@@ -12,7 +12,7 @@ use lib.ListN.{length, getD, take, List·getD-eq-default}
 use lib.Seq.{length-take-le}
 use Rattle.base.specs.Choice.{pick}
 use Rattle.base.proofs.Tests.{lt-or-ge, or-r}
-use Rattle.codec.specs.Table.{field, table, fields, lengthOf}
+use Rattle.codec.specs.Table.{field, table, fields, lengthOf, lastKind}
 use Rattle.codec.specs.Codec.{valAt, valuesAt}
 use Rattle.codec.proofs.BigEndian.{one-byte}
 use Rattle.codec.proofs.Within.{Within, ranges}
@@ -96,7 +96,7 @@ module _ (a : Account) (r : List ℕ) {c : ℕ} {n : Numbers} where
   unfolding compared
   by-two e p t = t ∙ rw (e, p, sym (one-byte r 2 (versionOf r) refl)) refl
 
-  pub by-three : {x : ℕ} → c ≡ 3 → x ≡ valAt r 3 1 → n ≡ told (outside 1 8 x) → n ≡ told (compared c a r)
+  pub by-three : {x : ℕ} → c ≡ 3 → x ≡ valAt r 3 1 → n ≡ told (outside 1 lastKind x) → n ≡ told (compared c a r)
   unfolding compared
   by-three e p t = t ∙ rw (e, p, sym (one-byte r 3 (kindOf r) refl)) refl
 

@@ -29,6 +29,10 @@ heading version kind group class = 0 ∷ 7 ∷ version ∷ kind ∷ 0 ∷ group 
 abbrev ration : ℕ → List ℕ
 ration days = 0 ∷ 10 ∷ 1 ∷ 3 ∷ 0 ∷ days ∷ 0 ∷ 0 ∷ 117 ∷ 48 ∷ 2 ∷ 138 ∷ []
 
+-- a hectare in zone 1, of medium texture
+abbrev tillage : ℕ → ℕ → List ℕ
+tillage change years = 0 ∷ 11 ∷ 1 ∷ 9 ∷ 1 ∷ 2 ∷ change ∷ 0 ∷ years ∷ 0 ∷ 0 ∷ 0 ∷ 100 ∷ []
+
 abbrev close : ℕ → List ℕ
 close count = 0 ∷ 4 ∷ 1 ∷ 8 ∷ 0 ∷ count ∷ []
 
@@ -61,7 +65,8 @@ pub broken-2 : whyOf (joined (farm ∷ heading 3 2 12 1 ∷ [])) ≡ told 2 1 11
 unfolding whyOf whyBy run book bookBy front valAt first judge accepted sortOf table size valuesAt firstBad inPlace recordsOf recordsBy compared
 broken-2 = refl
 
-pub broken-3 : (whyOf (joined (farm ∷ heading 1 0 12 1 ∷ [])) ≡ told 3 1 11 19 0 0 0 1) × (whyOf (joined (farm ∷ heading 1 9 12 1 ∷ [])) ≡ told 3 1 11 19 0 9 9 8)
+pub broken-3 : (whyOf (joined (farm ∷ heading 1 0 12 1 ∷ [])) ≡ told 3 1 11 19 0 0 0 1)
+    × (whyOf (joined (farm ∷ heading 1 10 12 1 ∷ [])) ≡ told 3 1 11 19 0 10 10 9)
 unfolding whyOf whyBy run book bookBy front valAt first judge accepted sortOf table size valuesAt firstBad inPlace recordsOf recordsBy compared
 broken-3 = (refl, refl)
 
@@ -69,12 +74,14 @@ pub broken-4 : whyOf (joined (farm ∷ heading 1 3 12 1 ∷ [])) ≡ told 4 1 11
 unfolding whyOf whyBy run book bookBy front valAt first judge accepted sortOf table size valuesAt firstBad inPlace recordsOf recordsBy compared
 broken-4 = refl
 
--- the lower and the upper end of the days
+-- below and above a range, a ration's days, a heading's class, and the change and the years of a change of tillage
 pub broken-7 : (whyOf (headed (ration 0 ∷ [])) ≡ told 7 2 20 31 1 3 0 1)
     × (whyOf (joined (farm ∷ heading 1 2 12 9 ∷ [])) ≡ told 7 1 11 19 2 2 9 4)
+    × (whyOf (joined (farm ∷ tillage 7 10 ∷ [])) ≡ told 7 1 11 23 3 9 7 6)
+    × (whyOf (joined (farm ∷ tillage 6 0 ∷ [])) ≡ told 7 1 11 23 4 9 0 1)
 unfolding whyOf whyBy run book bookBy front valAt first judge accepted sortOf table size valuesAt firstBad inPlace recordsOf recordsBy compared
     valuesCompared
-broken-7 = (refl, refl)
+broken-7 = (refl, refl, refl, refl)
 
 pub broken-8 : whyOf (headed (heading 1 2 12 1 ∷ [])) ≡ told 8 2 20 28 0 2 12 12
 unfolding whyOf whyBy run book bookBy front valAt first judge accepted sortOf table size valuesAt firstBad inPlace recordsOf recordsBy compared

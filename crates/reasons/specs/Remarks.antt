@@ -3,8 +3,9 @@
 use Prim.Native.Nat.{ℕ, _-_}
 use mathlib.Core.List.{List, [], _++_}
 use mathlib.Core.Bool.{Bool, true, false, _&&_, _||_}
-use lib.Dec.{ltb, leb, eqb}
+use lib.Dec.{ltb, eqb}
 use Rattle.base.specs.Choice.{pick}
+use Rattle.codec.specs.Table.{isKind}
 use Rattle.printing.specs.Ascii.{ascii}
 use Rattle.printing.specs.Decimal.{decimal}
 use Rattle.typed_words.specs.Words.{nthPart}
@@ -44,7 +45,7 @@ machineText (Refused w) = refusedText w
 
 -- the kind's name, where the book has the kind
 abbrev pub nameText : ℕ → List ℕ
-nameText kind = pick (leb 1 kind && leb kind 8) (ascii " (" ++ (kindName kind ++ ascii ")")) []
+nameText kind = pick (isKind kind) (ascii " (" ++ (kindName kind ++ ascii ")")) []
 
 unfoldable pub whereText : ℕ → ℕ → ℕ → ℕ → List ℕ
 whereText number kind first last =

@@ -1,6 +1,7 @@
 // What is told of a book: a line for machines, a line for people, and the status.
 use crate::Reason;
 use crate::Verdict;
+use codec::LAST_KIND;
 use names::say_field;
 use names::say_kind;
 use names::say_sentence;
@@ -90,7 +91,7 @@ fn say_name(out: &mut [u8], at: usize, kind: u64) -> usize
     requires { ⌜ at ≤ length (now out) ⌝ }
     ensures { λ r. ⌜ Said (now (out .entry)) (now (out .exit)) at (nameText kind) r ⌝ }
 {
-    if (1 <= kind) & (kind <= 8) {
+    if (1 <= kind) & (kind <= LAST_KIND) {
         let a = say(out, at, b" (");
         let b = say_kind(out, a, kind);
         return say(out, b, b")");

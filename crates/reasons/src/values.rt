@@ -8,7 +8,7 @@ ghost use Rattle.account.specs.Compared.{rangeOf, valueAt};
 ghost use Rattle.reasons.specs.Inner.{Sized};
 
 // The lowest and the highest value: a row for each kind, a column for each field.
-const LOWEST: [[u64; 12]; 9] = [
+const LOWEST: [[u64; 12]; 10] = [
     [0, 0, 0, 0, 0, 0, 0, 0, 0, 0, 0, 0],
     [0, 1900, 1, 0, 0, 0, 0, 0, 0, 0, 0, 0],
     [1, 1, 0, 0, 0, 0, 0, 0, 0, 0, 0, 0],
@@ -18,9 +18,10 @@ const LOWEST: [[u64; 12]; 9] = [
     [1, 0, 0, 0, 0, 0, 0, 0, 0, 0, 0, 0],
     [0, 0, 0, 0, 0, 0, 0, 0, 0, 0, 0, 0],
     [0, 0, 0, 0, 0, 0, 0, 0, 0, 0, 0, 0],
+    [1, 1, 1, 1, 0, 0, 0, 0, 0, 0, 0, 0],
 ];
 
-const HIGHEST: [[u64; 12]; 9] = [
+const HIGHEST: [[u64; 12]; 10] = [
     [0, 0, 0, 0, 0, 0, 0, 0, 0, 0, 0, 0],
     [4294967295, 2200, 2, 0, 0, 0, 0, 0, 0, 0, 0, 0],
     [65535, 4, 20000, 0, 0, 0, 0, 0, 0, 0, 0, 0],
@@ -56,6 +57,7 @@ const HIGHEST: [[u64; 12]; 9] = [
     [8, 10000000, 10000000, 0, 0, 0, 0, 0, 0, 0, 0, 0],
     [10000000, 0, 0, 0, 0, 0, 0, 0, 0, 0, 0, 0],
     [65535, 0, 0, 0, 0, 0, 0, 0, 0, 0, 0, 0],
+    [9, 3, 6, 100, 10000000, 0, 0, 0, 0, 0, 0, 0],
 ];
 
 // The lowest value of the field at that position, counted from 1.
@@ -86,6 +88,12 @@ fn three_at(v: [u64; 3], i: usize) -> u64
     if i < 3 { v[i] } else { 0 }
 }
 
+fn five_at(v: [u64; 5], i: usize) -> u64
+    ensures { λ r. ⌜ r ≡ getD v i 0 ⌝ }
+{
+    if i < 5 { v[i] } else { 0 }
+}
+
 fn nine_at(v: [u64; 9], i: usize) -> u64
     ensures { λ r. ⌜ r ≡ getD v i 0 ⌝ }
 {
@@ -111,6 +119,7 @@ pub(crate) fn value_at(r: &[u8], kind: u8, i: usize) -> u64
         5 => twelve_at(codec::pig::read(r, 4), i),
         6 => three_at(codec::energy::read(r, 4), i),
         7 => one_at(codec::soil::read(r, 4), i),
-        _ => one_at(codec::close::read(r, 4), i),
+        8 => one_at(codec::close::read(r, 4), i),
+        _ => five_at(codec::tillage::read(r, 4), i),
     }
 }

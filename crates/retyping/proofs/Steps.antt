@@ -147,11 +147,11 @@ pub typable : (a : Account) (r : List ℕ) → WholeRecord r → (judge a r .acc
 typable a r w h =
     let t = judged-passes a r h in
     let k = kindOf r in
-    let eight : isKind k ≡ true = not-false _ (t .kind) in
+    let kind : isKind k ≡ true = not-false _ (t .kind) in
     let long : valAt r 0 2 ≡ lengthOf k = eqb-true _ _ (not-false _ (t .long)) in
     record {
-      least = leb-true _ _ (and-l (leb 1 k) (leb k lastKind) eight);
-      most = leb-true _ _ (and-r (leb 1 k) (leb k lastKind) eight);
+      least = leb-true _ _ (and-l (leb 1 k) (leb k lastKind) kind);
+      most = leb-true _ _ (and-r (leb 1 k) (leb k lastKind) kind);
       long = w .long ∙ ap (λ (x : ℕ). x + 2) long;
     }
 

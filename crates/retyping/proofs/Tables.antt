@@ -1,4 +1,4 @@
--- What the tables say of each of the eight kinds: antt computes it.
+-- What the tables say of each kind: antt computes it.
 -- Assumes nothing.
 use Prim.Native.Nat.{ℕ, zero, suc, _+_, _≤_, _<_}
 use native.Mathlib.Omega.{arith}
@@ -12,14 +12,14 @@ use borrow.Author.Tests.{leb-true, eqb-true}
 use Rattle.base.proofs.Tests.{and-l, and-r, lt-or-ge}
 use Rattle.bytes.specs.Bytes.{indexOf, indexAfter}
 use Rattle.typed_words.specs.declared.Whole.{Whole}
-use Rattle.typed_words.specs.Words.{leadingOf, nthWord, nthPart, sameText, lowered}
+use Rattle.typed_words.specs.Words.{nthPart, sameText, lowered}
 use Rattle.typed_words.specs.Amounts.{aWhole}
 use Rattle.names.specs.Names.{kindTable, kindName}
 use Rattle.codec.specs.declared.Field.{Field}
 use Rattle.codec.specs.Table.{table, fields, lastKind}
 use Rattle.codec.specs.Codec.{bytesHold, valuesAt, Bytes}
 use Rattle.codec.proofs.BigEndian.{valAt-lt}
-use Rattle.typed_line.specs.Line.{names, placeFrom, kindOf}
+use Rattle.typed_line.specs.Line.{namedFrom, kindOf}
 use Rattle.retyping.proofs.Words.{Word}
 use Rattle.retyping.proofs.Decimals.{Small}
 
@@ -65,7 +65,7 @@ unfolding each isWord wordTest kindTable nthPart indexOf indexAfter
 words-computed = refl
 
 kinds-computed : each kindTest lastKind ≡ true
-unfolding each kindTest kindTable nthPart indexOf indexAfter kindOf placeFrom names lowered sameText nthWord leadingOf
+unfolding each kindTest kindTable nthPart indexOf indexAfter kindOf namedFrom lowered sameText
 kinds-computed = refl
 
 -- ---- the fields
@@ -89,7 +89,7 @@ values-small (f ∷ fs) e s b at =
     let h = leb-true (bytesHold (f .0)) 1000000000000000 (and-l (leb (bytesHold (f .0)) 1000000000000000) (narrow fs) e) in
     (omega (arith, h, valAt-lt s b at (f .0)), values-small fs (and-r (leb (bytesHold (f .0)) 1000000000000000) (narrow fs) e) s b (at + f .0))
 
--- ---- a kind from 1 to 8
+-- ---- a kind
 
 module _ (k : ℕ) (least : 1 ≤ k) (most : k ≤ lastKind) where
   word-test : isWord (kindName k) && (leb 1 (length (kindName k)) && leb (length (kindName k)) 7) ≡ true

@@ -98,7 +98,7 @@ pub record Retypes (x : Retyping) (out out′ : List ℕ) (at : ℕ) (r : Retype
   pub more : r .more ≡ x .more
   pub put : Put out out′ at (x .text) (r .written)
 
--- r is a record whose kind is one of the eight, with the length of its kind
+-- r is a record whose kind is one of the book, with the length of its kind
 pub record Typable (r : List ℕ) : Type 0 where
   pub least : 1 ≤ kindOf r
   pub most : kindOf r ≤ lastKind

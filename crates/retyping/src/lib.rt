@@ -45,6 +45,12 @@ fn from_three(v: [u64; 3]) -> [u64; 12]
     [v[0], v[1], v[2], 0, 0, 0, 0, 0, 0, 0, 0, 0]
 }
 
+fn from_five(v: [u64; 5]) -> [u64; 12]
+    ensures { λ r. ⌜ r ≡ inTwelve v ⌝ }
+{
+    [v[0], v[1], v[2], v[3], v[4], 0, 0, 0, 0, 0, 0, 0]
+}
+
 fn from_nine(v: [u64; 9]) -> [u64; 12]
     ensures { λ r. ⌜ r ≡ inTwelve v ⌝ }
 {
@@ -77,7 +83,8 @@ fn values_of(bytes: &[u8], kind: u64) -> [u64; 12]
         5 => codec::pig::read(bytes, 4),
         6 => from_three(codec::energy::read(bytes, 4)),
         7 => from_one(codec::soil::read(bytes, 4)),
-        _ => from_one(codec::close::read(bytes, 4)),
+        8 => from_one(codec::close::read(bytes, 4)),
+        _ => from_five(codec::tillage::read(bytes, 4)),
     }
 }
 

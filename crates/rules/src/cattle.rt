@@ -1,19 +1,17 @@
 // Kind 4: nitrogen and N2O of a cattle group's manure.
+use crate::figures::cattle_figures;
 use crate::lines::grouped_detail;
 use crate::refusals::barred;
 use crate::refusals::cattle_placed;
 use crate::refusals::stopped;
 use crate::refusals::wrong;
 use account::Account;
-use account::Figures;
 use account::Judged;
-use grams::cattle::CattleManure;
 use grams::cattle::CattleNitrogen;
 use grams::cattle::CattleRation;
-use grams::units::NO_CO2;
 ghost use mathlib.Core.Path.{_≡_};
 ghost use Prim.Native.Nat.{_<_};
-ghost use Rattle.account.specs.Figures.{cattleRation, cattleFigures};
+ghost use Rattle.account.specs.Figures.{cattleRation};
 ghost use Rattle.account.specs.Range.{AccountInRange};
 ghost use Rattle.account.specs.Judge.{weigh};
 ghost use Rattle.account.specs.Told.{TellsIn};
@@ -30,19 +28,6 @@ fn cattle_ration(v: [u64; 9]) -> CattleRation
         gain: v[5],
         solid: v[6],
         liquid: v[7],
-    }
-}
-
-fn manure_figures(m: CattleManure) -> Figures
-    ensures { λ r. ⌜ r ≡ cattleFigures m ⌝ }
-{
-    let n2o = m.n2o;
-    Figures {
-        ch4: 0,
-        n2o: n2o,
-        co2: NO_CO2,
-        excreted: m.excreted,
-        land: 0,
     }
 }
 
@@ -69,7 +54,7 @@ pub fn weigh(a: Account, v: [u64; 9], room: usize) -> Judged
     match n {
         CattleNitrogen::BelowZero => wrong(a, 11, 0),
         CattleNitrogen::Given(m) => {
-            let f = manure_figures(m);
+            let f = cattle_figures(m);
             grouped_detail(a, 4, h.group, days, f, room)
         }
     }

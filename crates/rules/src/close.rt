@@ -48,8 +48,9 @@ fn totalled(a: Account, room: usize) -> Judged
     let sums = a.sums;
     let n2o = sums.n2o;
     let co2 = sums.co2;
+    let grazing = sums.grazing;
     let w = warming(a.set);
-    let co2e = grams::farm::co2e(w, co2, sums.ch4, n2o);
+    let co2e = grams::farm::co2e(w, co2, sums.ch4, n2o, grazing);
     let h = a.heading;
     let s = a.subtotal;
     let f = group_figures(s);

@@ -1,32 +1,16 @@
 // Kind 3: CH4 of a cattle group's rations.
+use crate::figures::ch4_alone;
 use crate::lines::grouped_detail;
 use crate::refusals::barred;
 use crate::refusals::cattle_placed;
 use crate::refusals::stopped;
 use crate::refusals::wrong;
 use account::Account;
-use account::Figures;
 use account::Judged;
-use grams::units::NO_CO2;
-use grams::units::NO_N2O;
-ghost use mathlib.Core.Path.{_≡_};
 ghost use Prim.Native.Nat.{_<_};
-ghost use Rattle.account.specs.Figures.{ch4Alone};
 ghost use Rattle.account.specs.Range.{AccountInRange};
 ghost use Rattle.account.specs.Judge.{weigh};
 ghost use Rattle.account.specs.Told.{TellsIn};
-
-fn ch4_alone(g: u64) -> Figures
-    ensures { λ r. ⌜ r ≡ ch4Alone g ⌝ }
-{
-    Figures {
-        ch4: g,
-        n2o: NO_N2O,
-        co2: NO_CO2,
-        excreted: 0,
-        land: 0,
-    }
-}
 
 pub fn weigh(a: Account, v: [u64; 3], room: usize) -> Judged
     requires { ⌜ AccountInRange a × (a .stage < 2) ⌝ }

@@ -32,6 +32,7 @@ fn headed(a: Account, h: Heading, room: usize) -> Judged
         enteric: 0,
         nitrogen: 0,
         pig: 0,
+        grazed: 0,
     };
     let zero = Subtotal {
         ch4: 0,

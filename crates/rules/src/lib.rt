@@ -5,6 +5,7 @@ pub mod close;
 pub mod energy;
 pub mod enteric;
 pub mod farm;
+pub mod grazing;
 pub mod heading;
 pub mod pig;
 pub mod soil;
@@ -41,6 +42,7 @@ fn size_of(kind: u8) -> usize
         7 => 8,
         8 => 6,
         9 => 13,
+        10 => 10,
         _ => 0,
     }
 }
@@ -59,7 +61,8 @@ fn by_kind(a: Account, kind: u8, r: &[u8], room: usize) -> Judged
         6 => energy::weigh(a, codec::energy::read(r, 4), room),
         7 => soil::weigh(a, codec::soil::read(r, 4), room),
         8 => close::weigh(a, codec::close::read(r, 4), room),
-        _ => tillage::weigh(a, codec::tillage::read(r, 4), room),
+        9 => tillage::weigh(a, codec::tillage::read(r, 4), room),
+        _ => grazing::weigh(a, codec::grazing::read(r, 4), room),
     }
 }
 

@@ -1,19 +1,17 @@
 // Kind 5: CH4, N2O and nitrogen of a pig group's manure.
+use crate::figures::pig_figures;
 use crate::lines::grouped_detail;
 use crate::refusals::barred;
 use crate::refusals::stopped;
 use crate::refusals::wrong;
 use account::Account;
-use account::Figures;
 use account::Judged;
-use grams::pig::PigManure;
 use grams::pig::PigRation;
-use grams::units::NO_CO2;
 ghost use mathlib.Core.Path.{_≡_};
 ghost use mathlib.Core.Bool.{_&&_, not};
 ghost use Prim.Native.Nat.{_<_};
 ghost use lib.Dec.{eqb};
-ghost use Rattle.account.specs.Figures.{pigRation, pigFigures};
+ghost use Rattle.account.specs.Figures.{pigRation};
 ghost use Rattle.account.specs.Range.{AccountInRange};
 ghost use Rattle.account.specs.Judge.{weigh};
 ghost use Rattle.account.specs.Told.{TellsIn};
@@ -41,19 +39,6 @@ fn pig_ration(v: [u64; 12]) -> PigRation
         volatilisedef: v[9],
         leached: v[10],
         leachedef: v[11],
-    }
-}
-
-fn pig_figures(m: PigManure) -> Figures
-    ensures { λ r. ⌜ r ≡ pigFigures m ⌝ }
-{
-    let n2o = m.n2o;
-    Figures {
-        ch4: m.ch4,
-        n2o: n2o,
-        co2: NO_CO2,
-        excreted: m.excreted,
-        land: m.land,
     }
 }
 

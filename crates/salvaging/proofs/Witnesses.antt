@@ -35,6 +35,10 @@ ration days = 0 ∷ 10 ∷ 1 ∷ 3 ∷ 0 ∷ days ∷ 0 ∷ 0 ∷ 117 ∷ 48 ∷
 abbrev energy : List ℕ
 energy = 0 ∷ 11 ∷ 1 ∷ 6 ∷ 1 ∷ 0 ∷ 0 ∷ 0 ∷ 125 ∷ 0 ∷ 1 ∷ 17 ∷ 112 ∷ []
 
+-- a hectare in zone 1, of medium texture, in the tenth year of the third change
+abbrev tillage : List ℕ
+tillage = 0 ∷ 11 ∷ 1 ∷ 9 ∷ 1 ∷ 2 ∷ 3 ∷ 0 ∷ 10 ∷ 0 ∷ 0 ∷ 0 ∷ 100 ∷ []
+
 abbrev close : ℕ → List ℕ
 close count = 0 ∷ 4 ∷ 1 ∷ 8 ∷ 0 ∷ count ∷ []
 
@@ -43,13 +47,13 @@ abbrev entry : ℕ → ℕ → List ℕ
 entry number code = 0 ∷ 0 ∷ 0 ∷ 0 ∷ 0 ∷ 0 ∷ 0 ∷ number ∷ code ∷ []
 
 abbrev damaged : List ℕ
-damaged = joined (farm ∷ heading 1 ∷ ration 31 ∷ ration 0 ∷ energy ∷ heading 2 ∷ ration 28 ∷ close 9 ∷ farm ∷ [])
+damaged = joined (farm ∷ heading 1 ∷ ration 31 ∷ ration 0 ∷ energy ∷ heading 2 ∷ ration 28 ∷ tillage ∷ close 9 ∷ farm ∷ [])
 
 abbrev clean : List ℕ
-clean = joined (farm ∷ heading 1 ∷ ration 31 ∷ energy ∷ close 4 ∷ [])
+clean = joined (farm ∷ heading 1 ∷ ration 31 ∷ energy ∷ tillage ∷ close 5 ∷ [])
 
--- it is saved: what salvaged-accepted and heading-kept ask
-pub damaged-saved : salvageOf damaged 51 27 ≡ saving clean (joined (entry 3 7 ∷ entry 5 2 ∷ entry 6 6 ∷ []))
+-- it is saved, what salvaged-accepted and heading-kept ask: a dropped heading takes its ration along, not the farm's change of tillage
+pub damaged-saved : salvageOf damaged 64 27 ≡ saving clean (joined (entry 3 7 ∷ entry 5 2 ∷ entry 6 6 ∷ []))
 unfolding salvageOf answering found recordsOf recordsBy front valAt droppedBy first judge accepted sortOf table size valuesAt firstBad inPlace
     listOf farmAmong be bytesOf recordBytes
 damaged-saved = refl
@@ -60,7 +64,7 @@ unfolding recordsOf recordsBy front valAt underHeadings details sortOf
 detail-kept = refl
 
 -- a byte less of room
-pub damaged-16 : (salvageOf damaged 50 27 ≡ refusing 16) × (salvageOf damaged 51 26 ≡ refusing 16)
+pub damaged-16 : (salvageOf damaged 63 27 ≡ refusing 16) × (salvageOf damaged 64 26 ≡ refusing 16)
 unfolding salvageOf answering found recordsOf recordsBy front valAt droppedBy first judge accepted sortOf table size valuesAt firstBad inPlace
     listOf farmAmong be bytesOf recordBytes
 damaged-16 = (refl, refl)

@@ -9,7 +9,7 @@ use Rattle.printing.specs.Ascii.{ascii}
 use Rattle.printing.specs.Decimal.{decimal}
 use Rattle.typed_words.specs.Words.{nthWord}
 use Rattle.codec.specs.Table.{fields}
-use Rattle.names.specs.Names.{kindName, fieldName, fieldNames, expected, className, sentence, shown}
+use Rattle.names.specs.Names.{kindName, kindNames, fieldName, fieldNames, expected, className, sentence, shown}
 use Rattle.account.specs.declared.Account.{Account}
 use Rattle.account.specs.declared.Days.{Days}
 use Rattle.account.specs.declared.Refusal.{Refusal}
@@ -27,7 +27,7 @@ longText = ascii "not read: the line is too long: at most 1023 bytes before its 
 
 abbrev pub noKindText : List ℕ → List ℕ
 noKindText xs =
-    ascii "not read: " ++ (quoted (nthWord 0 xs) ++ ascii " is no kind of record; expected farm, heading, enteric, cattle, pig, energy, soil, close or its number")
+    ascii "not read: " ++ (quoted (nthWord 0 xs) ++ (ascii " is no kind of record; expected " ++ (kindNames ++ ascii " or its number")))
 
 -- kind k has a field i, counted from 0
 abbrev pub hasField : ℕ → ℕ → Bool

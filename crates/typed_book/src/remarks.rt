@@ -45,11 +45,9 @@ fn say_no_kind(out: &mut [u8], at: usize, text: &[u8]) -> usize
 {
     let head = say(out, at, b"not read: ");
     let word = say_word(out, head, text, 0);
-    say(
-        out,
-        word,
-        b" is no kind of record; expected farm, heading, enteric, cattle, pig, energy, soil, close or its number",
-    )
+    let none = say(out, word, b" is no kind of record; expected ");
+    let kinds = names::say_kinds(out, none);
+    say(out, kinds, b" or its number")
 }
 
 fn has_field(kind: u64, i: usize) -> bool

@@ -17,35 +17,39 @@ use Rattle.codec.specs.Table.{lastKind}
 use Rattle.typed_words.specs.declared.Whole.{Whole}
 use Rattle.typed_words.specs.Words.{nthWord, sameText, lowered}
 use Rattle.typed_words.specs.Amounts.{amountOf}
+use Rattle.names.specs.Names.{kindName}
 use Rattle.book.specs.declared.State.{State}
 use Rattle.make_record.specs.declared.Written.{Written}
 use Rattle.make_record.specs.Write.{write, writtenOf, laid}
 use Rattle.typed_line.specs.declared.Values.{Values}
 use Rattle.typed_line.specs.declared.Entry.{Entry}
 use Rattle.typed_line.specs.declared.Said.the-variants.{Nothing, Record, Wrong}
-use Rattle.typed_line.specs.Line.{names, placeFrom, kindOf, Read, nothingMore, wrongAt, with, valueAt, valuesFrom, padded, listed, entry, noRecord, byKind, lineOf, completedOf, valuesIn, writeEntry}
+use Rattle.typed_line.specs.Line.{namedFrom, kindOf, Read, nothingMore, wrongAt, with, valueAt, valuesFrom, padded, listed, entry, noRecord, byKind, lineOf, completedOf, valuesIn, writeEntry}
 
--- ---- the place of a word among eight
+-- ---- a word among the names of the kinds
 
-module _ (line w : List ℕ) (i : ℕ) (h : i < lastKind) {name : List ℕ} (e : name ≡ nthWord i line) {b : Bool} (f : b ≡ sameText w name) where
-  more : lastKind - i ≡ suc (lastKind - suc i)
+module _ (w : List ℕ) (k : ℕ) (h : k < lastKind) {b : Bool} (f : b ≡ sameText w (kindName (k + 1))) where
+  more : lastKind - k ≡ suc (lastKind - suc k)
   more = omega arith
 
-  pub place-here : b ≡ true → placeFrom (lastKind - i) i line w ≡ i + 1
-  unfolding placeFrom
-  place-here t = rw (more, ← e, ← f, t, add-one)
+  test : b ≡ sameText w (kindName (suc k))
+  test = rw add-one at f
 
-  pub place-on : b ≡ false → placeFrom (lastKind - i) i line w ≡ placeFrom (lastKind - (i + 1)) (i + 1) line w
-  unfolding placeFrom
-  place-on t = rw (more, ← e, ← f, t, add-one)
+  pub named-here : b ≡ true → namedFrom (lastKind - k) k w ≡ k + 1
+  unfolding namedFrom
+  named-here t = rw (more, ← test, t, add-one)
 
-pub place-none : (line w : List ℕ) (i : ℕ) → lastKind ≤ i → placeFrom (lastKind - i) i line w ≡ 0
-unfolding placeFrom
-place-none line w i h = let z : lastKind - i ≡ 0 = omega arith in rw z
+  pub named-on : b ≡ false → namedFrom (lastKind - k) k w ≡ namedFrom (lastKind - (k + 1)) (k + 1) w
+  unfolding namedFrom
+  named-on t = rw (more, ← test, t, add-one)
+
+pub named-none : (w : List ℕ) (k : ℕ) → lastKind ≤ k → namedFrom (lastKind - k) k w ≡ 0
+unfolding namedFrom
+named-none w k h = let z : lastKind - k ≡ 0 = omega arith in rw z
 
 -- ---- a kind by its name, or by its number
 
-module _ (w : List ℕ) {n : ℕ} (e : n ≡ placeFrom lastKind 0 names (lowered w)) where
+module _ (w : List ℕ) {n : ℕ} (e : n ≡ namedFrom lastKind 0 (lowered w)) where
   pub by-number : {x : Whole} → n ≡ 0 → x ≡ amountOf 0 w → x ≡ kindOf w
   unfolding kindOf
   by-number z f = rw (← e, eq-eqb _ _ z) f

@@ -7,11 +7,10 @@ use lib.ListN.{length, take, replicate}
 use lib.Dec.{eqb, leb}
 use Rattle.base.specs.Choice.{pick}
 use Rattle.codec.specs.Table.{lastKind}
-use Rattle.printing.specs.Ascii.{ascii}
 use Rattle.typed_words.specs.declared.Whole.{Whole}
 use Rattle.typed_words.specs.Words.{nthWord, sameText, lowered}
 use Rattle.typed_words.specs.Amounts.{amountOf}
-use Rattle.names.specs.Names.{decimalsAt}
+use Rattle.names.specs.Names.{kindName, decimalsAt}
 use Rattle.book.specs.declared.State.{State}
 use Rattle.make_record.specs.Write.{Write, write}
 use Rattle.typed_line.specs.declared.Values.{Values}
@@ -22,18 +21,14 @@ use Rattle.typed_line.specs.declared.Said.the-variants.{Nothing, Record,
 
 -- ---- the kind
 
--- the names of the eight kinds, in the order of their numbers
-unfoldable pub names : List ℕ
-names = ascii "farm heading enteric cattle pig energy soil close"
-
--- the place of the word w among the n words of line from the ith on, counted from 1; 0 where it is none of them
-unfoldable pub placeFrom : ℕ → ℕ → List ℕ → List ℕ → ℕ
-placeFrom zero i line w = 0
-placeFrom (suc n) i line w = pick (sameText w (nthWord i line)) (suc i) (placeFrom n (suc i) line w)
+-- the kind whose name the word w is, of the n kinds above k; 0 where it is none of them
+unfoldable pub namedFrom : ℕ → ℕ → List ℕ → ℕ
+namedFrom zero k w = 0
+namedFrom (suc n) k w = pick (sameText w (kindName (suc k))) (suc k) (namedFrom n (suc k) w)
 
 -- a kind by its name, in capitals or not, or else by a whole number
 unfoldable pub kindOf : List ℕ → Whole
-kindOf w = pick (eqb (placeFrom lastKind 0 names (lowered w)) 0) (amountOf 0 w) (record { good = true; value = placeFrom lastKind 0 names (lowered w) })
+kindOf w = pick (eqb (namedFrom lastKind 0 (lowered w)) 0) (amountOf 0 w) (record { good = true; value = namedFrom lastKind 0 (lowered w) })
 
 -- ---- the values
 

@@ -8,7 +8,7 @@ ghost use lib.ListN.{length};
 ghost use Rattle.codec.specs.Table.{lastKind};
 ghost use Rattle.typed_words.specs.Words.{lowered};
 ghost use Rattle.make_record.specs.Write.{writtenOf, laid};
-ghost use Rattle.typed_line.specs.Line.{placeFrom, kindOf, valuesFrom, listed, noRecord, lineOf, completedOf, writeEntry};
+ghost use Rattle.typed_line.specs.Line.{namedFrom, kindOf, valuesFrom, listed, noRecord, lineOf, completedOf, writeEntry};
 
 // How many values are typed and the first 13 of them, zeros behind; the place of a word that is no number, counted from 1, or 0.
 struct Values {
@@ -38,16 +38,16 @@ pub struct Line {
     pub entry: Entry,
 }
 
-// The place of the word among the eight words of names, counted from 1; 0 where it is none of them.
-fn place(word: &[u8], names: &[u8]) -> u64
-    ensures { λ r. ⌜ r ≡ placeFrom lastKind 0 (now (names .entry)) (lowered (now (word .entry))) ⌝ }
+// The kind whose name the word is; 0 where it is none.
+fn named(word: &[u8]) -> u64
+    ensures { λ r. ⌜ r ≡ namedFrom lastKind 0 (lowered (now (word .entry))) ⌝ }
 {
-    let mut i = 0;
-    while i < codec::LAST_KIND as usize {
-        if typed_words::is_name(word, typed_words::word(names, i)) {
-            return i as u64 + 1;
+    let mut kind = 0;
+    while kind < codec::LAST_KIND {
+        if names::is_kind_name(word, kind + 1) {
+            return kind + 1;
         }
-        i += 1;
+        kind += 1;
     }
     0
 }
@@ -55,7 +55,7 @@ fn place(word: &[u8], names: &[u8]) -> u64
 fn read_kind(word: &[u8]) -> Whole
     ensures { λ r. ⌜ r ≡ kindOf (now (word .entry)) ⌝ }
 {
-    let number = place(word, b"farm heading enteric cattle pig energy soil close");
+    let number = named(word);
     if number == 0 {
         return typed_words::read_amount(word, 0);
     }

@@ -1,21 +1,24 @@
-//! Document 01's arithmetic: P1 to P9, exact halves, the warming sets.
+//! Document 01's arithmetic: P1 to P9, what is rounded when, the warming sets.
 
 use super::{adds, under, COW, PIG};
 use crate::figures::{self, co2e, pig_ch4_product, round, Figures};
 use crate::kind;
 
 #[test]
-fn round_takes_halves_up() {
+fn round_takes_halves_to_the_even_number() {
+    let halves: Vec<u64> = (0..9).map(|n| round(n, 2)).collect();
+    assert_eq!(halves, [0, 0, 1, 2, 2, 2, 3, 4, 4]);
     let thirds: Vec<u64> = (0..7).map(|n| round(n, 3)).collect();
     assert_eq!(thirds, [0, 0, 1, 1, 1, 2, 2]);
-    let quarters: Vec<u64> = (0..9).map(|n| round(n, 4)).collect();
-    assert_eq!(quarters, [0, 0, 1, 1, 1, 1, 2, 2, 2]);
+    let quarters: Vec<u64> = (0..13).map(|n| round(n, 4)).collect();
+    assert_eq!(quarters, [0, 0, 0, 1, 1, 1, 2, 2, 2, 2, 2, 3, 3]);
+    assert_eq!(round(7, 1), 7);
     assert_eq!(round(14_713_200_000_000_000_000, 625_000_000), 23_541_120_000);
 }
 
 #[test]
 fn p1_to_p4_enteric_halves() {
-    for (product, grams) in [(27_824, 0), (27_825, 1), (27_826, 1), (83_475, 2)] {
+    for (product, grams) in [(27_824, 0), (27_825, 0), (27_826, 1), (83_475, 2)] {
         assert_eq!(adds(&under(1, 1), kind::ENTERIC, &[1, product, 1]).ch4, grams);
     }
 }
@@ -36,8 +39,14 @@ fn p6_cattle_nitrogen() {
 #[test]
 fn p7_pig() {
     let made = adds(&under(4, 100), kind::PIG, &PIG);
-    let wanted =
-        Figures { ch4: 128_640, n2o: 1_267 + 1_584, co2: 0, excreted: 403_200, land: 302_400 };
+    let wanted = Figures {
+        ch4: 128_640,
+        n2o: 1_267 + 1_584,
+        co2: 0,
+        excreted: 403_200,
+        land: 302_400,
+        grazing: 0,
+    };
     assert_eq!(made, wanted);
 }
 
@@ -64,49 +73,11 @@ fn the_pig_product_passes_half_of_64_bits() {
 }
 
 #[test]
-fn other_halves() {
-    assert_eq!(adds(&under(1, 1), kind::ENERGY, &[1, 5, 1]).co2, 1);
+fn the_largest_energy_record() {
+    let made = adds(&under(1, 1), kind::ENERGY, &[8, 10_000_000, 10_000_000]);
+    assert_eq!(made.co2, 10_000_000_000_000);
     assert_eq!(adds(&under(1, 1), kind::ENERGY, &[1, 4, 1]).co2, 0);
-    assert_eq!(
-        adds(&under(1, 1), kind::ENERGY, &[8, 10_000_000, 10_000_000]).co2,
-        10_000_000_000_000
-    );
-    assert_eq!(adds(&under(1, 1), kind::CATTLE, &[1, 50, 125, 0, 0, 0, 0, 0, 10_000]).excreted, 1);
-    assert_eq!(adds(&under(1, 1), kind::CATTLE, &[1, 50, 62, 0, 0, 0, 0, 0, 10_000]).excreted, 0);
-    assert_eq!(adds(&under(1, 1), kind::CATTLE, &[1, 25, 125, 0, 0, 0, 0, 0, 10_000]).excreted, 1);
-}
-
-#[test]
-fn cattle_halves_of_both_n2o() {
-    // 35,000 g on solid: direct 434.5 and indirect 258.5.
-    let made = adds(&under(1, 70), kind::CATTLE, &[1, 1_250, 2_500, 0, 0, 0, 10_000, 0, 0]);
-    assert_eq!((made.excreted, made.n2o), (35_000, 435 + 259));
-}
-
-#[test]
-fn pig_halves() {
-    // V is 0.5 mg before its rounding, and 1 mg makes 2,354 g.
-    let one_mg = [366, 1, 500, 1, 1_000, 0, 0, 0, 0, 0, 0, 0];
-    assert_eq!(adds(&under(4, 20_000), kind::PIG, &one_mg).ch4, 2_354);
-    // CH4 100.5.
-    assert_eq!(
-        adds(&under(4, 3_125), kind::PIG, &[100, 1_000, 1, 1, 1_000, 0, 0, 0, 0, 0, 0, 0]).ch4,
-        101
-    );
-    // Excreted 3.5.
-    assert_eq!(
-        adds(&under(4, 1), kind::PIG, &[1, 1_000, 0, 0, 0, 3_125, 10, 0, 0, 0, 0, 0]).excreted,
-        4
-    );
-    // 350 g: direct 5.5, indirect 5.5.
-    let both =
-        adds(&under(4, 1), kind::PIG, &[1, 1_000, 0, 0, 0, 3_125, 1_000, 1_000, 100, 10_000, 0, 0]);
-    assert_eq!((both.excreted, both.n2o, both.land), (350, 6 + 6, 315));
-    // 1 g, of which half goes to land.
-    assert_eq!(
-        adds(&under(4, 1), kind::PIG, &[1, 100, 0, 0, 0, 100, 1_000, 0, 250, 0, 250, 0]).land,
-        1
-    );
+    assert_eq!(adds(&under(1, 1), kind::ENERGY, &[1, 6, 1]).co2, 1);
 }
 
 #[test]
@@ -119,7 +90,7 @@ fn direct_and_indirect_are_rounded_apart() {
 
 #[test]
 fn both_warming_sets() {
-    let sums = Figures { ch4: 2, n2o: 3, co2: 5, excreted: 7, land: 11 };
-    assert_eq!(co2e(1, sums), 5 + 2 * 21 + 3 * 310);
-    assert_eq!(co2e(2, sums), 5 + 2 * 23 + 3 * 296);
+    let sums = Figures { ch4: 2, n2o: 3, co2: 5, excreted: 7, land: 11, grazing: 13 };
+    assert_eq!(co2e(1, sums), 5 + 2 * 21 + 3 * 310 + 13);
+    assert_eq!(co2e(2, sums), 5 + 2 * 23 + 3 * 296 + 13);
 }

@@ -10,11 +10,11 @@ use crate::plain::sample;
 use crate::record::record_of;
 use crate::state::{Refusal, State};
 
-const SAMPLE_TEXT: &str = "3 12 434501 0 0 0 0
-6 0 0 0 875000 0 0
-3 12 392453 0 0 0 0
-16 12 826954 0 0 0 0
-8 0 826954 0 875000 0 0 18241034
+const SAMPLE_TEXT: &str = "3 12 434501 0 0 0 0 0
+6 0 0 0 875000 0 0 0
+3 12 392453 0 0 0 0 0
+16 12 826954 0 0 0 0 0
+8 0 826954 0 875000 0 0 0 18241034
 closed
 ";
 
@@ -32,11 +32,11 @@ fn the_sample_book() {
 #[test]
 fn the_sample_for_the_herd_desk() {
     let book = sample();
-    assert_eq!(herd_desk(&book, 238).0, 238);
-    assert_eq!(herd_desk(&book, 237).0, (16 << 32) + 138);
-    assert_eq!(herd_desk(&book, 45).0, 16 << 32);
-    assert_eq!(herd_desk(&book[..60], 238).0, (17 << 32) + 138);
-    assert_eq!(herd_desk(&[book, vec![0]].concat(), 238).0, (18 << 32) + 238);
+    assert_eq!(herd_desk(&book, 278).0, 278);
+    assert_eq!(herd_desk(&book, 277).0, (16 << 32) + 162);
+    assert_eq!(herd_desk(&book, 53).0, 16 << 32);
+    assert_eq!(herd_desk(&book[..60], 278).0, (17 << 32) + 162);
+    assert_eq!(herd_desk(&[book, vec![0]].concat(), 278).0, (18 << 32) + 278);
     assert_eq!(herd_desk(&[], 0).0, 17 << 32);
     assert_eq!(herd_desk(&[0, 27], 0).0, 1 << 32);
 }
@@ -45,18 +45,18 @@ fn the_sample_for_the_herd_desk() {
 fn full_keeps_the_last_byte() {
     let state = under(1, 1);
     let record = record_of(kind::ENTERIC, &[1, 2, 3]);
-    let reply = feed(&state, &record, 45);
+    let reply = feed(&state, &record, 53);
     assert_eq!((reply.answer, reply.taken, reply.lines.len()), (Answer::Full, 11, 0));
     assert_eq!(feed(&reply.state, &[], 0).answer, Answer::More);
-    assert_eq!(feed(&reply.state, &record[11..], 45).answer, Answer::Full);
-    let done = feed(&reply.state, &record[11..], 46);
-    assert_eq!((done.answer, done.taken, done.lines.len()), (Answer::More, 1, 46));
+    assert_eq!(feed(&reply.state, &record[11..], 53).answer, Answer::Full);
+    let done = feed(&reply.state, &record[11..], 54);
+    assert_eq!((done.answer, done.taken, done.lines.len()), (Answer::More, 1, 54));
 }
 
 /// With less room all but the last byte is taken and nothing written; with just enough, or more, all of it.
 fn fits_from(state: &State, record: &[u8], room: usize) {
     let last = record.len() - 1;
-    for short in [0, 1, 45, 46, 53, 54, 99].into_iter().filter(|&short| short < room) {
+    for short in [0, 1, 53, 54, 61, 62, 115].into_iter().filter(|&short| short < room) {
         let reply = feed(state, record, short);
         let (answer, written) = (reply.answer, reply.lines.len());
         assert_eq!((answer, reply.taken, written), (Answer::Full, last, 0));
@@ -74,12 +74,12 @@ fn fits_from(state: &State, record: &[u8], room: usize) {
 fn the_lines_of_one_record_fit_together_or_not_at_all() {
     fits_from(&State::default(), &record_of(kind::FARM, &[7, 2010, 1]), 0);
     fits_from(&no_group(), &record_of(kind::HEADING, &[9, 1, 0]), 0);
-    fits_from(&no_group(), &right_close(&no_group()), 54);
+    fits_from(&no_group(), &right_close(&no_group()), 62);
     for class in 1..=4 {
         let state = with_group(class);
-        fits_from(&state, &record_of(kind::HEADING, &[10, 1, 0]), 46);
-        fits_from(&state, &record_of(kind::SOIL, &[100]), 46);
-        fits_from(&state, &right_close(&state), 100);
+        fits_from(&state, &record_of(kind::HEADING, &[10, 1, 0]), 54);
+        fits_from(&state, &record_of(kind::SOIL, &[100]), 54);
+        fits_from(&state, &right_close(&state), 116);
     }
 }
 
@@ -87,11 +87,11 @@ fn the_lines_of_one_record_fit_together_or_not_at_all() {
 fn the_longest_book_and_one_more() {
     let longest = all(&State::default(), &long_book(4_094));
     assert_eq!((longest.answer, longest.state.records), (Answer::Closed, 4_096));
-    assert_eq!(longest.lines.len(), 4_094 * 46 + 54);
+    assert_eq!(longest.lines.len(), 4_094 * 54 + 62);
     let longer = all(&State::default(), &long_book(4_095));
     assert_eq!(longer.answer, Answer::Refused(Refusal { code: 5, record: 4_096, field: 0 }));
-    assert_eq!(longer.lines.len(), 4_095 * 46);
+    assert_eq!(longer.lines.len(), 4_095 * 54);
     // Each heading's line comes later than it does, so that headings alone need the same room.
     let groups = all(&State::default(), &many_groups(4_094));
-    assert_eq!((groups.answer, groups.lines.len()), (Answer::Closed, 4_094 * 46 + 54));
+    assert_eq!((groups.answer, groups.lines.len()), (Answer::Closed, 4_094 * 54 + 62));
 }

@@ -2,6 +2,8 @@
 
 mod cases;
 mod figures;
+mod grazing;
+mod halves;
 mod lines;
 mod parts;
 mod programs;
@@ -15,15 +17,14 @@ mod typed;
 mod typed_lines;
 mod writer;
 
-use crate::books::LARGE;
 use crate::feed::{feed, Answer, Reply};
 use crate::figures::{Figures, Subtotal};
 use crate::record::record_of;
-use crate::state::{Heading, State, OPEN};
+use crate::state::{Heading, State, LARGE, OPEN};
 
 /// An open state under a heading of this class and head count.
 fn under(class: u8, head: u16) -> State {
-    let heading = Heading { group: 9, class, head, days: [0; 3] };
+    let heading = Heading { group: 9, class, head, days: [0; 3], grazed: 0 };
     State { stage: OPEN, records: 2, set: 1, heading, ..State::default() }
 }
 

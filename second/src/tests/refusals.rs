@@ -67,8 +67,8 @@ fn a_wrong_record_comes_before_full() {
 fn refusals_in_their_order() {
     let open = under(1, 1);
     let bytes = |head: &[u8], n: usize| [head.to_vec(), vec![255; n]].concat();
-    assert_eq!(refused_by(&open, &bytes(&[0, 5, 2, 10], 3)), (2, 0));
-    assert_eq!(refused_by(&open, &bytes(&[0, 5, 1, 10], 3)), (3, 0));
+    assert_eq!(refused_by(&open, &bytes(&[0, 5, 2, 11], 3)), (2, 0));
+    assert_eq!(refused_by(&open, &bytes(&[0, 5, 1, 11], 3)), (3, 0));
     assert_eq!(refused_by(&open, &bytes(&[0, 5, 1, 1], 3)), (4, 0));
     let full = State { records: MOST_RECORDS, ..open };
     assert_eq!(refused_by(&full, &bytes(&[0, 9, 1, 1], 7)), (5, 0));
@@ -94,7 +94,7 @@ fn days_are_summed_each_kind_for_itself() {
     state = after(&state, &record_of(kind::ENERGY, &[1, 1, 1]));
     assert_eq!(state.heading.days, [366, 366, 0]);
     state = after(&state, &record_of(kind::HEADING, &[10, 2, 3]));
-    assert_eq!(state.heading, Heading { group: 10, class: 2, head: 3, days: [0; 3] });
+    assert_eq!(state.heading, Heading { group: 10, class: 2, head: 3, days: [0; 3], grazed: 0 });
 }
 
 #[test]

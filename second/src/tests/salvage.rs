@@ -78,7 +78,7 @@ fn a_dropped_heading_takes_its_details_along() {
 
 #[test]
 fn a_heading_with_a_damaged_kind_is_no_heading() {
-    let (clean, dropped) = saved(&[farm(), heading(4), with(heading(5), 3, 10), ration()]);
+    let (clean, dropped) = saved(&[farm(), heading(4), with(heading(5), 3, 11), ration()]);
     assert_eq!(dropped, [(2, 3)]);
     assert_eq!(clean, [farm(), heading(4), ration(), close(3)].concat());
 }

@@ -78,6 +78,9 @@ fn ranges_of_a_state() {
     assert!(!fits(&|s| s.subtotal.excreted = 200_000_000_001));
     assert!(fits(&|s| s.subtotal.land = 200_000_000_000));
     assert!(!fits(&|s| s.subtotal.land = 200_000_000_001));
+    assert!(fits(&|s| s.sums.grazing = 200_000_000_000));
+    assert!(!fits(&|s| s.sums.grazing = 200_000_000_001));
+    assert!(fits(&|s| s.heading.grazed = 10_000) && !fits(&|s| s.heading.grazed = 10_001));
     assert!(!fits(&|s| s.refusal.code = 1) && !fits(&|s| s.refusal.field = 1));
 }
 
@@ -105,12 +108,12 @@ fn a_sure_step() {
         let cut = dice.below(input.len() as u64 + 1) as usize;
         let reached = after(&state, &input[..cut]);
         if reached.stage == OPEN && cut < input.len() {
-            assert!(feed(&reached, &input[cut..], 100).taken > 0);
+            assert!(feed(&reached, &input[cut..], 116).taken > 0);
         }
     }
     let last_byte_missing = after(&with_group(1), &right_close(&with_group(1))[..5]);
-    assert_eq!(feed(&last_byte_missing, &[4], 99).taken, 0);
-    assert_eq!(feed(&last_byte_missing, &[4], 100).taken, 1);
+    assert_eq!(feed(&last_byte_missing, &[4], 115).taken, 0);
+    assert_eq!(feed(&last_byte_missing, &[4], 116).taken, 1);
 }
 
 #[test]

@@ -70,7 +70,7 @@ fn worked_values() {
     let rows: [([u64; 4], i64, [i64; 3]); 5] = [
         ([1, 1, 1, 1], 3_698, [-135_593, -1_356, -13_559_333_333]),
         ([1, 3, 3, 100], 404, [-14_813, -148, -1_481_333_333]),
-        ([7, 3, 1, 1], 225, [-8_250, -83, -825_000_000]),
+        ([7, 3, 1, 1], 225, [-8_250, -82, -825_000_000]),
         ([8, 2, 5, 10], -22_340, [819_133, 8_191, 81_913_333_333]),
         ([9, 3, 6, 100], -767, [28_123, 281, 2_812_333_333]),
     ];
@@ -99,8 +99,8 @@ fn every_rate() {
 }
 
 #[test]
-fn halves_go_away_from_zero_and_zero_has_no_sign() {
-    for (area, grams) in [(0, 0), (1, 83), (2, 165), (3, 248), (4, 330), (5, 413)] {
+fn halves_go_to_the_even_gram_and_zero_has_no_sign() {
+    for (area, grams) in [(0, 0), (1, 82), (2, 165), (3, 248), (4, 330), (5, 412)] {
         assert_eq!(co2([7, 3, 1, 1, area]), -grams);
         assert_eq!(co2([7, 3, 4, 1, area]), grams);
     }
@@ -109,10 +109,10 @@ fn halves_go_away_from_zero_and_zero_has_no_sign() {
 #[test]
 fn eight_bytes_of_a_line_in_twos_complement() {
     let reply = all(&no_group(), &record_of(kind::TILLAGE, &[1, 1, 1, 1, 100]));
-    let mut wanted = vec![0, 44, 1, 9, 0, 0];
+    let mut wanted = vec![0, 52, 1, 9, 0, 0];
     wanted.extend([0; 16]);
     wanted.extend((-135_593_i64).to_be_bytes());
-    wanted.extend([0; 16]);
+    wanted.extend([0; 24]);
     assert_eq!(reply.lines, wanted);
     assert_eq!(wanted[22..30], [255, 255, 255, 255, 255, 253, 238, 87]);
     assert_eq!(signed(number(&wanted[22..30]) as u64), -135_593);
@@ -128,14 +128,14 @@ fn a_book_whose_total_is_below_zero() {
         &record_of(kind::CLOSE, &[8]),
     ]
     .concat();
-    let text = "3 12 434501 0 0 0 0
-6 0 0 0 875000 0 0
-3 12 392453 0 0 0 0
-9 0 0 0 -135593 0 0
-9 0 0 0 8191 0 0
-9 0 0 0 -13559333333 0 0
-16 12 826954 0 0 0 0
-8 0 826954 0 -13558585735 0 0 -13541219701
+    let text = "3 12 434501 0 0 0 0 0
+6 0 0 0 875000 0 0 0
+3 12 392453 0 0 0 0 0
+9 0 0 0 -135593 0 0 0
+9 0 0 0 8191 0 0 0
+9 0 0 0 -13559333333 0 0 0
+16 12 826954 0 0 0 0 0
+8 0 826954 0 -13558585735 0 0 0 -13541219701
 closed
 ";
     assert_eq!(list(&book), text);
@@ -201,7 +201,7 @@ fn each_field_is_held_to_its_range() {
     }
     let short = [vec![0, 10, 1, 9], vec![1; 8]].concat();
     assert_eq!(refused_by(&under(1, 1), &short), (4, 0));
-    assert_eq!(refused_by(&under(1, 1), &[0, 4, 1, 10, 0, 0]), (3, 0));
+    assert_eq!(refused_by(&under(1, 1), &[0, 4, 1, 11, 0, 0]), (3, 0));
 }
 
 #[test]
@@ -244,8 +244,8 @@ fn tillage_in_the_other_tools() {
     let wanted = "refused 7 record 1 bytes 11 to 23 field 4 value 101 limit 100\n\
         record 1 (tillage), bytes 11 to 23: years is 101; it must be at most 100\n";
     assert_eq!(said, wanted);
-    let (said, _) = why(&[farm, vec![0, 4, 1, 10, 0, 0]].concat());
-    let wanted = "refused 3 record 1 bytes 11 to 16 value 10 limit 9\n\
-        record 1, bytes 11 to 16: the kind is 10; it must be at most 9\n";
+    let (said, _) = why(&[farm, vec![0, 4, 1, 11, 0, 0]].concat());
+    let wanted = "refused 3 record 1 bytes 11 to 16 value 11 limit 10\n\
+        record 1, bytes 11 to 16: the kind is 11; it must be at most 10\n";
     assert_eq!(said, wanted);
 }

@@ -82,16 +82,16 @@ fn details_do_not_stand_under_a_lost_heading() {
         "heading 13 5 14",
         "heading 12 2 14",
         "heading 13 2",
-        "10 1",
+        "11 1",
         "0",
         "77 x",
         &long,
     ] {
         let text = format!(
-            "{losing}\nenteric 1 1 1\n4 1\npig 1\nsoil 5\nheading 13 2 14\nenteric 1 1 1\n"
+            "{losing}\nenteric 1 1 1\n4 1\npig 1\ngrazing 1 1 1 1\nsoil 5\nheading 13 2 14\nenteric 1 1 1\n"
         );
         let told: Vec<String> = remarks(&text).lines().skip(1).map(str::to_string).collect();
-        let wanted = [4, 5, 6]
+        let wanted = [4, 5, 6, 7]
             .map(|n| format!("line {n}: without heading: the heading in line 3 was not written"));
         assert_eq!(told, wanted, "{losing}");
     }
@@ -105,6 +105,8 @@ fn details_do_not_stand_under_a_lost_heading() {
         "energy 9 1 1",
         "tillage 9 1 1",
         "9 x",
+        "grazing 9 1 1 1",
+        "10 x",
         "pig 1",
         "4 x",
     ] {
@@ -243,7 +245,7 @@ fn texts_by_chance_come_to_everything() {
     for code in [3, 4, 5, 6, 8, 9, 10, 11, 12, 22] {
         assert!(said.contains(&format!(": refused {code}: ")), "{code}");
     }
-    for kind in 1..=9 {
+    for kind in 1..=10 {
         for f in spoken_of(kind) {
             assert!(
                 said.contains(&format!("not read: {}, {}: ", kind_name(kind), f.name)),

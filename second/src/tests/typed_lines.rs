@@ -28,7 +28,8 @@ fn the_sample_in_other_dresses() {
 
 #[test]
 fn a_mark_is_skipped_once_and_in_the_first_line_only() {
-    let no_kind = "\"???farm\" is no kind of record; expected farm, heading, enteric, cattle, pig, energy, soil, close, tillage or its number";
+    let no_kind = "\"???farm\" is no kind of record; expected farm, heading, enteric, cattle, pig, energy, soil, \
+        close, tillage, grazing or its number";
     assert!(said("\u{feff}\u{feff}farm 7 2010 1")
         .starts_with(&format!("line 1: not read: {no_kind}\n")));
     assert!(said("\n\u{feff}farm 7 2010 1").starts_with(&format!("line 2: not read: {no_kind}\n")));
@@ -93,13 +94,13 @@ fn numbers_of_any_count_of_digits() {
     let third = (1_u128 << 64) + 3;
     assert_eq!(
         remarks(&format!("{third} 1 1 1\n")),
-        "line 3: refused 3: no such kind of record: kinds are 1 to 9\n"
+        "line 3: refused 3: no such kind of record: kinds are 1 to 10\n"
     );
 }
 
 #[test]
 fn every_field_has_its_decimals() {
-    for kind in 1..=9_u64 {
+    for kind in 1..=10_u64 {
         let spoken = spoken_of(kind);
         assert_eq!(spoken.len(), fields_of(kind as u8).len());
         for (place, (f, field)) in spoken.iter().zip(fields_of(kind as u8)).enumerate() {
@@ -157,13 +158,14 @@ fn words_are_shown_by_24_bytes() {
 fn each_refusal_has_its_words() {
     let cattle = |shares: &str, gain: u64| format!("cattle 1 0 0 0 0 {gain} {shares}\n");
     let cases = [
-        ("10 1\n".to_string(), "3: no such kind of record: kinds are 1 to 9"),
+        ("11 1\n".to_string(), "3: no such kind of record: kinds are 1 to 10"),
         ("enteric 1 2\n".to_string(), "4: a wrong count of values; expected days, GE, Ym"),
         ("farm 7 2010 1\n".to_string(), "6: out of its place: a book begins with its one farm record; \
-             enteric and cattle stand under a heading of class 1 to 3, pig under one of class 4"),
+             enteric, cattle and grazing stand under a heading of class 1 to 3, pig under one of class 4"),
         ("enteric 0 2 3\n".to_string(), "7 field 1: days: \"0\" is out of its range; expected 1 to 366"),
         ("heading 12 1 1\n".to_string(), "8: the group number must be above that of the heading before"),
-        (cattle("0 0 99.99", 0), "10: cattle shares must be 100.00 per cent together; a pig's volatilised and leached parts at most 1.000"),
+        (cattle("0 0 99.99", 0), "10: cattle shares must be 100.00 per cent together, grazing fractions under a heading at most that; \
+             a pig's volatilised and leached parts at most 1.000"),
         (cattle("0 0 100.00", 1), "11: more nitrogen in milk and gain than in the feed"),
         ("close 3\n".to_string(), "12: the close counts other records than there are before it; left out, the count is filled in"),
     ];
@@ -175,7 +177,7 @@ fn each_refusal_has_its_words() {
         "line 4: refused 9: more than 366 days of this kind under the heading\n"
     );
     assert_eq!(remarks("close\nsoil 1\n"), "line 4: refused 22: the book is closed already\n");
-    assert_eq!(remarks("close\n10\n"), "line 4: refused 22: the book is closed already\n");
+    assert_eq!(remarks("close\n11\n"), "line 4: refused 22: the book is closed already\n");
 }
 
 #[test]

@@ -33,14 +33,14 @@ put-line-spec =
     (λ c κs. let t = c .before .before in omega (arith, seven t, detail (t .before)))
     (λ c. search needs)
     (λ c.
-    let p = c .before .before .put-numbers .ensures in
+    let p = c .before .before .put-row .ensures in
     let t = c .before .before .before .before .before in
     let k = t .before .if1 .taken in
     let line = t .before .before .before .before .before .args .s .now in
     (rw (numbers-total line k, ← t .total-numbers .ensures) (p .0), omega (arith, p .1, eight t, total (t .before))))
     (λ c. search needs)
     (λ c.
-    let p = c .before .before .put-numbers2 .ensures in
+    let p = c .before .before .put-row2 .ensures in
     let t = c .before .before .before .before .before in
     let k = t .before .if1 .left in
     let line = t .before .before .before .before .before .args .s .now in

@@ -12,4 +12,4 @@ say-kind-spec =
     (λ c κs. search needs)
     (λ c κs. search needs)
     (λ c. search needs)
-    (λ c. rw (c .before .before .before .before .line-of .ensures) at (c .before .before .say .ensures)))
+    (λ c. rw (c .before .before .before .line-of .ensures) at (c .before .before .say .ensures)))

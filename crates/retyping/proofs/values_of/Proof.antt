@@ -9,13 +9,14 @@ use Rattle.retyping.proofs.Steps.{long-by, values-by, twelve-by}
 use Rattle.retyping.proofs.values_of.Statement.{statement}
 use Rattle.retyping.proofs.values_of.Tie as tie
 
-eight : (c : tie.At-match-rest) → c .before .before .args .kind ≡ 8
-eight c =
+nine : (c : tie.At-match-rest) → c .before .before .args .kind ≡ 9
+nine c =
     let r = c .match .rest in
     let p = c .before .before .pre in
     let least : 1 ≤ c .before .before .args .kind = omega (arith, p .1, p .0 .least) in
     let most : c .before .before .args .kind ≤ lastKind = omega (arith, p .1, p .0 .most) in
-    last-kind _ least most (r .0 .0 .0 .0 .0 .0 .1) (r .0 .0 .0 .0 .0 .1) (r .0 .0 .0 .0 .1) (r .0 .0 .0 .1) (r .0 .0 .1) (r .0 .1) (r .1)
+    let s = r .0 .0 .0 .0 in
+    last-kind _ least most (s .0 .0 .0 .1) (s .0 .0 .1) (s .0 .1) (s .1) (r .0 .0 .0 .1) (r .0 .0 .1) (r .0 .1) (r .1)
 
 pub values-of-spec : {M : Type 1} → statement M
 unfolding table size
@@ -35,7 +36,9 @@ values-of-spec =
     (λ c κs. search needs)
     (λ c κs. let s = c .before .before in omega (arith, long-by 7 (c .match .keys7) (s .args .bytes .now) (s .pre .1) 6 refl (s .pre .0)))
     (λ c κs. search needs)
-    (λ c κs. let s = c .before .before in omega (arith, long-by 8 (eight c) (s .args .bytes .now) (s .pre .1) 4 refl (s .pre .0)))
+    (λ c κs. let s = c .before .before in omega (arith, long-by 8 (c .match .keys8) (s .args .bytes .now) (s .pre .1) 4 refl (s .pre .0)))
+    (λ c κs. search needs)
+    (λ c κs. let s = c .before .before in omega (arith, long-by 9 (nine c) (s .args .bytes .now) (s .pre .1) 11 refl (s .pre .0)))
     (λ c κs. search needs)
     (λ c.
     let c4 = c .before .before .before .before in
@@ -64,5 +67,9 @@ values-of-spec =
     (c .before .read7 .ensures) (c .from-one .ensures))
     (λ c.
     let c4 = c .before .before .before .before in
-    let s = c4 in values-by 8 (eight (c .before .before)) (s .args .bytes .now) (s .pre .1)
-    (c .before .read8 .ensures) (c .from-one2 .ensures)))
+    let s = c4 in values-by 8 (c .before .before .match .keys8) (s .args .bytes .now) (s .pre .1)
+    (c .before .read8 .ensures) (c .from-one2 .ensures))
+    (λ c.
+    let c4 = c .before .before .before .before in
+    let s = c4 in values-by 9 (nine (c .before .before)) (s .args .bytes .now) (s .pre .1)
+    (c .before .read9 .ensures) (c .from-five .ensures)))

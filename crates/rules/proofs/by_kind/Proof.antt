@@ -6,13 +6,13 @@ use Rattle.rules.proofs.ByKind.{there, by-kind}
 use Rattle.rules.proofs.by_kind.Statement.{statement}
 use Rattle.rules.proofs.by_kind.Tie as tie
 
-nine : (c : tie.At-match-rest) → c .before .before .args .kind ≡ 9
-nine c =
+ten : (c : tie.At-match-rest) → c .before .before .args .kind ≡ 10
+ten c =
     let r = c .match .rest in
     let p = c .before .before .pre in
     let k = p .2 .kinds in
     let s = r .0 .0 .0 .0 in
-    last-kind _ (rw (p .3) (kind-least _ k)) (rw (p .3) (kind-most _ k)) (s .0 .0 .0 .1) (s .0 .0 .1) (s .0 .1) (s .1) (r .0 .0 .0 .1) (r .0 .0 .1) (r .0 .1) (r .1)
+    last-kind _ (rw (p .3) (kind-least _ k)) (rw (p .3) (kind-most _ k)) (s .0 .0 .0 .0 .1) (s .0 .0 .0 .1) (s .0 .0 .1) (s .0 .1) (s .1) (r .0 .0 .0 .1) (r .0 .0 .1) (r .0 .1) (r .1)
 
 pub by-kind-spec : {M : Type 1} → statement M
 unfolding table size
@@ -35,7 +35,9 @@ by-kind-spec =
     (λ c κs. let p = c .before .before .before .pre in (p .0, p .1))
     (λ c κs. let p = c .before .before .pre in there (p .2) 8 (sym (p .3) ∙ c .match .keys8) 6 refl)
     (λ c κs. let p = c .before .before .before .pre in (p .0, p .1))
-    (λ c κs. let p = c .before .before .pre in there (p .2) 9 (sym (p .3) ∙ nine c) 13 refl)
+    (λ c κs. let p = c .before .before .pre in there (p .2) 9 (sym (p .3) ∙ c .match .keys9) 13 refl)
+    (λ c κs. let p = c .before .before .before .pre in (p .0, p .1))
+    (λ c κs. let p = c .before .before .pre in there (p .2) 10 (sym (p .3) ∙ ten c) 10 refl)
     (λ c κs. let p = c .before .before .before .pre in (p .0, p .1))
     (λ c.
     let p = c .before .before .before .before .pre in
@@ -63,4 +65,7 @@ by-kind-spec =
     by-kind (p .2) 8 (sym (p .3) ∙ c .before .before .match .keys8) _ _ _ _ (c .before .read8 .ensures) (c .weigh8 .ensures))
     (λ c.
     let p = c .before .before .before .before .pre in
-    by-kind (p .2) 9 (sym (p .3) ∙ nine (c .before .before)) _ _ _ _ (c .before .read9 .ensures) (c .weigh9 .ensures)))
+    by-kind (p .2) 9 (sym (p .3) ∙ c .before .before .match .keys9) _ _ _ _ (c .before .read9 .ensures) (c .weigh9 .ensures))
+    (λ c.
+    let p = c .before .before .before .before .pre in
+    by-kind (p .2) 10 (sym (p .3) ∙ ten (c .before .before)) _ _ _ _ (c .before .read10 .ensures) (c .weigh10 .ensures)))

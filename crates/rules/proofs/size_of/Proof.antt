@@ -18,7 +18,8 @@ size-of-spec =
     (λ c. rw (c .match .keys7))
     (λ c. rw (c .match .keys8))
     (λ c. rw (c .match .keys9))
+    (λ c. rw (c .match .keys10))
     (λ c.
     let r = c .match .rest in
     let s = r .0 .0 .0 .0 in
-    rw (no-kind _ (s .0 .0 .0 .0 .1) (s .0 .0 .0 .1) (s .0 .0 .1) (s .0 .1) (s .1) (r .0 .0 .0 .1) (r .0 .0 .1) (r .0 .1) (r .1))))
+    rw (no-kind _ (s .0 .0 .0 .0 .0 .1) (s .0 .0 .0 .0 .1) (s .0 .0 .0 .1) (s .0 .0 .1) (s .0 .1) (s .1) (r .0 .0 .0 .1) (r .0 .0 .1) (r .0 .1) (r .1))))

@@ -10,4 +10,5 @@ by-fields-spec =
     (λ c κs. tt)
     (λ c κs. tt)
     (λ c κs. tt)
-    (λ c. rw (c .same3 .ensures, c .before .same2 .ensures, c .before .before .same .ensures) refl))
+    (λ c κs. tt)
+    (λ c. rw (c .same4 .ensures, c .before .same3 .ensures, c .before .before .same2 .ensures, c .before .before .before .same .ensures) refl))

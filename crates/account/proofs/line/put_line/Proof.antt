@@ -9,6 +9,9 @@ put-line-spec =
     (tie.spec
     (λ c κs. tt)
     (λ c κs. tt)
-    (λ c κs. c .before .before .before .before .pre)
+    (λ c κs. tt)
+    (λ c κs. c .before .before .before .before .before .pre)
     (λ c. search needs)
-    (λ c. let read = c .before .before .before .before in rw (← read .before .grams .ensures, ← read .word .ensures) (c .before .before .put-line .ensures)))
+    (λ c.
+    let read = c .before .before .before .before in
+    rw (← read .before .before .grams .ensures, ← read .before .word .ensures, ← read .grams2 .ensures) (c .before .before .put-line .ensures)))

@@ -10,8 +10,15 @@ put-total-spec =
     (λ c κs. tt)
     (λ c κs. tt)
     (λ c κs. tt)
-    (λ c κs. c .before .before .before .before .before .pre)
+    (λ c κs. tt)
+    (λ c κs. c .before .before .before .before .before .before .pre)
     (λ c. search needs)
     (λ c.
     let read = c .before .before .before in
-    rw (← read .before .before .before .grams .ensures, ← read .before .before .word .ensures, ← read .word2 .ensures) (c .before .before .put-total .ensures)))
+    rw (
+      ← read .before .before .before .before .grams .ensures,
+      ← read .before .before .before .word .ensures,
+      ← read .before .before .grams2 .ensures,
+      ← read .word2 .ensures,
+    )
+    (c .before .before .put-total .ensures)))

@@ -14,4 +14,6 @@ bounded-spec =
     (λ c κs. search needs)
     (λ c. search needs)
     (λ c. search needs)
-    (λ c. rw (c .before .before .within .ensures, c .before .before .before .grams .ensures) refl))
+    (λ c κs. tt)
+    (λ c. search needs)
+    (λ c. let co2 = c .before .before .before in rw (c .grams2 .ensures, co2 .within .ensures, co2 .before .grams .ensures) refl))

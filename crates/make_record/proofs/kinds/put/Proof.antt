@@ -7,11 +7,12 @@ use Rattle.make_record.proofs.ByKind.{counted, fitting, stored}
 use Rattle.make_record.proofs.kinds.put.Statement.{statement}
 use Rattle.make_record.proofs.kinds.put.Tie as tie
 
-eight : (c : tie.At-match-rest) → c .before .before .before .args .kind ≡ 8
-eight c =
+nine : (c : tie.At-match-rest) → c .before .before .before .args .kind ≡ 9
+nine c =
     let r = c .match .rest in
     let o = c .before .before .before .pre .2 in
-    last-kind _ (o .least) (o .most) (r .0 .0 .0 .0 .0 .0 .1) (r .0 .0 .0 .0 .0 .1) (r .0 .0 .0 .0 .1) (r .0 .0 .0 .1) (r .0 .0 .1) (r .0 .1) (r .1)
+    let s = r .0 .0 .0 .0 in
+    last-kind _ (o .least) (o .most) (s .0 .0 .0 .1) (s .0 .0 .1) (s .0 .1) (s .1) (r .0 .0 .0 .1) (r .0 .0 .1) (r .0 .1) (r .1)
 
 pub put-spec : {M : Type 1} → statement M
 unfolding table size
@@ -32,8 +33,10 @@ put-spec =
     (λ c κs. fitting 6 (c .before .before .match .keys6) (c .three-values4 .ensures) (c .before .before .before .before .before .pre .0) (c .before .before .before .before .before .pre .1))
     (λ c κs. counted 7 (c .before .match .keys7) 1 refl (c .before .before .before .before .pre .2))
     (λ c κs. fitting 7 (c .before .before .match .keys7) (c .one-value .ensures) (c .before .before .before .before .before .pre .0) (c .before .before .before .before .before .pre .1))
-    (λ c κs. counted 8 (eight (c .before)) 1 refl (c .before .before .before .before .pre .2))
-    (λ c κs. fitting 8 (eight (c .before .before)) (c .one-value2 .ensures) (c .before .before .before .before .before .pre .0) (c .before .before .before .before .before .pre .1))
+    (λ c κs. counted 8 (c .before .match .keys8) 1 refl (c .before .before .before .before .pre .2))
+    (λ c κs. fitting 8 (c .before .before .match .keys8) (c .one-value2 .ensures) (c .before .before .before .before .before .pre .0) (c .before .before .before .before .before .pre .1))
+    (λ c κs. counted 9 (nine (c .before)) 5 refl (c .before .before .before .before .pre .2))
+    (λ c κs. fitting 9 (nine (c .before .before)) (c .five-values .ensures) (c .before .before .before .before .before .pre .0) (c .before .before .before .before .before .pre .1))
     (λ c. omega arith)
     (λ c. stored 1 (c .before .before .before .before .before .match .keys1) (c .before .before .before .three-values .ensures) _ (c .before .before .write .ensures))
     (λ c. omega arith)
@@ -49,4 +52,6 @@ put-spec =
     (λ c. omega arith)
     (λ c. stored 7 (c .before .before .before .before .before .match .keys7) (c .before .before .before .one-value .ensures) _ (c .before .before .write7 .ensures))
     (λ c. omega arith)
-    (λ c. stored 8 (eight (c .before .before .before .before .before)) (c .before .before .before .one-value2 .ensures) _ (c .before .before .write8 .ensures)))
+    (λ c. stored 8 (c .before .before .before .before .before .match .keys8) (c .before .before .before .one-value2 .ensures) _ (c .before .before .write8 .ensures))
+    (λ c. omega arith)
+    (λ c. stored 9 (nine (c .before .before .before .before .before)) (c .before .before .before .five-values .ensures) _ (c .before .before .write9 .ensures)))

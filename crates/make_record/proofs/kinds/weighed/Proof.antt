@@ -6,11 +6,12 @@ use Rattle.make_record.proofs.ByKind.{counted, told}
 use Rattle.make_record.proofs.kinds.weighed.Statement.{statement}
 use Rattle.make_record.proofs.kinds.weighed.Tie as tie
 
-eight : (c : tie.At-match-rest) → c .before .before .args .kind ≡ 8
-eight c =
+nine : (c : tie.At-match-rest) → c .before .before .args .kind ≡ 9
+nine c =
     let r = c .match .rest in
     let o = c .before .before .pre .2 in
-    last-kind _ (o .least) (o .most) (r .0 .0 .0 .0 .0 .0 .1) (r .0 .0 .0 .0 .0 .1) (r .0 .0 .0 .0 .1) (r .0 .0 .0 .1) (r .0 .0 .1) (r .0 .1) (r .1)
+    let s = r .0 .0 .0 .0 in
+    last-kind _ (o .least) (o .most) (s .0 .0 .0 .1) (s .0 .0 .1) (s .0 .1) (s .1) (r .0 .0 .0 .1) (r .0 .0 .1) (r .0 .1) (r .1)
 
 pub weighed-spec : {M : Type 1} → statement M
 unfolding table
@@ -31,7 +32,9 @@ weighed-spec =
     (λ c κs. (c .before .before .before .pre .0, c .before .before .before .pre .1))
     (λ c κs. counted 7 (c .match .keys7) 1 refl (c .before .before .pre .2))
     (λ c κs. (c .before .before .before .pre .0, c .before .before .before .pre .1))
-    (λ c κs. counted 8 (eight c) 1 refl (c .before .before .pre .2))
+    (λ c κs. counted 8 (c .match .keys8) 1 refl (c .before .before .pre .2))
+    (λ c κs. (c .before .before .before .pre .0, c .before .before .before .pre .1))
+    (λ c κs. counted 9 (nine c) 5 refl (c .before .before .pre .2))
     (λ c κs. (c .before .before .before .pre .0, c .before .before .before .pre .1))
     (λ c. told 1 (c .before .before .match .keys1) (c .before .three-values .ensures) _ (c .weigh .ensures))
     (λ c. told 2 (c .before .before .match .keys2) (c .before .three-values2 .ensures) _ (c .weigh2 .ensures))
@@ -40,4 +43,5 @@ weighed-spec =
     (λ c. told 5 (c .before .before .match .keys5) (c .before .twelve-values .ensures) _ (c .weigh5 .ensures))
     (λ c. told 6 (c .before .before .match .keys6) (c .before .three-values4 .ensures) _ (c .weigh6 .ensures))
     (λ c. told 7 (c .before .before .match .keys7) (c .before .one-value .ensures) _ (c .weigh7 .ensures))
-    (λ c. told 8 (eight (c .before .before)) (c .before .one-value2 .ensures) _ (c .weigh8 .ensures)))
+    (λ c. told 8 (c .before .before .match .keys8) (c .before .one-value2 .ensures) _ (c .weigh8 .ensures))
+    (λ c. told 9 (nine (c .before .before)) (c .before .five-values .ensures) _ (c .weigh9 .ensures)))

@@ -2,19 +2,20 @@ use mathlib.Core.Path.{_≡_, refl}
 use Prim.Native.Nat.{_≤_}
 use native.Mathlib.Omega.{arith}
 use borrow.Author.Needs.{needs}
-use Rattle.codec.specs.Table.{table, size}
+use Rattle.codec.specs.Table.{table, size, lastKind}
 use Rattle.codec.proofs.EachKind.{last-kind}
 use Rattle.reasons.proofs.ValueLaws.{long-by, value-by}
 use Rattle.reasons.proofs.values.value_at.Statement.{statement}
 use Rattle.reasons.proofs.values.value_at.Tie as tie
 
-eight : (c : tie.At-match-rest) → c .before .before .args .kind ≡ 8
-eight c =
+nine : (c : tie.At-match-rest) → c .before .before .args .kind ≡ 9
+nine c =
     let r = c .match .rest in
     let p = c .before .before .pre in
     let least : 1 ≤ c .before .before .args .kind = omega (arith, p .1, p .0 .least) in
-    let most : c .before .before .args .kind ≤ 8 = omega (arith, p .1, p .0 .most) in
-    last-kind _ least most (r .0 .0 .0 .0 .0 .0 .1) (r .0 .0 .0 .0 .0 .1) (r .0 .0 .0 .0 .1) (r .0 .0 .0 .1) (r .0 .0 .1) (r .0 .1) (r .1)
+    let most : c .before .before .args .kind ≤ lastKind = omega (arith, p .1, p .0 .most) in
+    let s = r .0 .0 .0 .0 in
+    last-kind _ least most (s .0 .0 .0 .1) (s .0 .0 .1) (s .0 .1) (s .1) (r .0 .0 .0 .1) (r .0 .0 .1) (r .0 .1) (r .1)
 
 pub value-at-spec : {M : Type 1} → statement M
 unfolding table size
@@ -35,7 +36,9 @@ value-at-spec =
     (λ c κs. tt)
     (λ c κs. let s = c .before .before in omega (arith, long-by 7 (c .match .keys7) (s .args .r .now) (s .pre .1) 6 refl (s .pre .0)))
     (λ c κs. tt)
-    (λ c κs. let s = c .before .before in omega (arith, long-by 8 (eight c) (s .args .r .now) (s .pre .1) 4 refl (s .pre .0)))
+    (λ c κs. let s = c .before .before in omega (arith, long-by 8 (c .match .keys8) (s .args .r .now) (s .pre .1) 4 refl (s .pre .0)))
+    (λ c κs. tt)
+    (λ c κs. let s = c .before .before in omega (arith, long-by 9 (nine c) (s .args .r .now) (s .pre .1) 11 refl (s .pre .0)))
     (λ c κs. tt)
     (λ c.
     let m = c .before .before in
@@ -68,4 +71,8 @@ value-at-spec =
     (λ c.
     let m = c .before .before in
     let s = m .before .before in
-    value-by 8 (eight m) (s .args .r .now) (s .pre .1) (s .args .i) (c .before .read8 .ensures) (c .one-at2 .ensures)))
+    value-by 8 (m .match .keys8) (s .args .r .now) (s .pre .1) (s .args .i) (c .before .read8 .ensures) (c .one-at2 .ensures))
+    (λ c.
+    let m = c .before .before in
+    let s = m .before .before in
+    value-by 9 (nine m) (s .args .r .now) (s .pre .1) (s .args .i) (c .before .read9 .ensures) (c .five-at .ensures)))

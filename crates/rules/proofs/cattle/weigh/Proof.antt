@@ -44,7 +44,7 @@ nitrogen-requires c κs = rw (c .before .cattle-ration .ensures) (cattle-in _ _ 
 
 grouped-detail-requires : tie.Need-grouped-detail-requires
 grouped-detail-requires c κs =
-    (passed (c .before .before .before .before .before .before .before .before .before .before .before) .room, sums-most _ (c .before .before .before .before .before .before .before .before .before .before .before .before .before .before .before .before .pre .0), subtotal-most _ (c .before .before .before .before .before .before .before .before .before .before .before .before .before .before .before .before .pre .0), small-cattle _ _ _ (c .before .before .before .before .nitrogen .ensures) _ (c .before .before .n .given .1) _ (c .manure-figures .ensures))
+    (passed (c .before .before .before .before .before .before .before .before .before .before .before) .room, sums-most _ (c .before .before .before .before .before .before .before .before .before .before .before .before .before .before .before .before .pre .0), subtotal-most _ (c .before .before .before .before .before .before .before .before .before .before .before .before .before .before .before .before .pre .0), small-cattle _ _ _ (c .before .before .before .before .nitrogen .ensures) _ (c .before .before .n .given .1) _ (c .cattle-figures .ensures))
 
 returns-4 : tie.Need-returns-4
 unfolding first
@@ -63,7 +63,7 @@ returns-5 c =
     told-in _ _ _ _ _ (c .grouped-detail .ensures)
     (rw (
       accepts _ 4 _ (passed (c .before .before .before .before .before .before .before .before .before .before .before .before)) (rw (le-ltb _ _ (c .before .before .before .before .before .before .before .before .before .if2 .left), eq-eqb _ 10000 (c .before .before .before .before .before .before .before .before .if3 .left), rw (c .before .before .before .before .before .before .before .cattle-ration .ensures) at above)),
-      c .before .manure-figures .ensures,
+      c .before .cattle-figures .ensures,
       rw (c .before .before .before .before .before .before .before .cattle-ration .ensures) at manure,
     )
     (tells-detail (c .before .before .before .before .before .before .before .before .before .before .before .before .before .before .before .before .before .args .a) _ _ _ _ _))

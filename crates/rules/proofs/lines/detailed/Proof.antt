@@ -4,6 +4,7 @@ use mathlib.Core.Path.{refl, sym, _∙_}
 use borrow.Author.Needs.{needs}
 use borrow.Author.Tests.{le-leb}
 use Rattle.account.proofs.Told.{in-full}
+use Rattle.codec.specs.Table.{lineSize}
 use Rattle.rules.proofs.lines.detailed.Statement.{statement}
 use Rattle.rules.proofs.lines.detailed.Tie as tie
 
@@ -12,7 +13,7 @@ detailed-spec =
     tie.close
     (tie.spec
     (λ c κs. tt)
-    (λ c. let short : c .before .before .args .room < 46 = c .before .if1 .taken in c .full .ensures ∙ sym (in-full _ _ _ short))
+    (λ c. let short : c .before .before .args .room < lineSize = c .before .if1 .taken in c .full .ensures ∙ sym (in-full _ _ _ short))
     (λ c κs. search needs)
     (λ c κs. tt)
     (λ c. search needs)

@@ -13,9 +13,14 @@ say-no-kind-spec =
     (λ c κs. search needs)
     (λ c. search needs)
     (λ c κs. search needs)
+    (λ c κs. search needs)
+    (λ c. search needs)
+    (λ c κs. search needs)
     (λ c. search needs)
     (λ c.
     let p1 = c .before .before in
     let p2 = p1 .before .before .before .before .before in
     let p3 = p2 .before .before .before .before in
-    p3 .say .ensures ⟫ p2 .say-word .ensures ⟫ p1 .say2 .ensures))
+    let p4 = p3 .before .before .before .before .before in
+    let p5 = p4 .before .before .before .before in
+    p5 .say .ensures ⟫ p4 .say-word .ensures ⟫ p3 .say2 .ensures ⟫ p2 .say-kinds .ensures ⟫ p1 .say3 .ensures))
