@@ -11,8 +11,9 @@ use borrow.Author.Tests.{ltb-true, ltb-false, leb-true, eqb-true, lt-ltb, le-ltb
 use Rattle.base.specs.Choice.{pick}
 use Rattle.codec.specs.Codec.{bytesHold}
 use Rattle.printing.specs.Decimal.{decimal}
+use Rattle.printing.proofs.Digits.{signed-small, signed-below}
 use Rattle.sheets.specs.declared.rows.Column.{Column}
-use Rattle.sheets.specs.Numbers.{half, full, signed, signedText, first, Number, found, positive, unsigned, Cell, inField, unsignedCell}
+use Rattle.sheets.specs.Numbers.{half, full, signedText, first, Number, found, positive, unsigned, Cell, inField, unsignedCell}
 use Rattle.sheets.specs.Numbers.{signedCell, emptyCell}
 use Rattle.sheets.specs.Rows.{ending, cellText, startsWith, readCell, ended, readColumn}
 use Rattle.base.proofs.Tests.{of-choice, by-test, no-bool, and-l, and-r}
@@ -41,16 +42,6 @@ unfolding unsignedCell
 unsigned-cell h v q l e = rw (unsigned-back v q e, le-leb v h l)
 
 -- ---- a signed number
-
--- a word below its half stands for itself
-pub signed-small : (w : ℕ) → w < half → signedText w ≡ decimal w
-unfolding signed
-signed-small w h = rw (lt-ltb w half h) refl
-
--- any other for a number below zero, whose amount it lacks
-pub signed-below : (w n : ℕ) → half ≤ w → n + w ≡ full → 0 < n → signedText w ≡ 45 ∷ decimal n
-unfolding signed
-signed-below w n h e m = let amount : suc (full - suc w) ≡ n = omega arith in rw (le-ltb w half h, amount) refl
 
 module _ (h : ℕ) (o : h + 1 ≡ half) where
   signed-reads : (s : List ℕ) → signedCell h s .fits ≡ true → Reads s (signedCell h s) signedText full

@@ -3,8 +3,8 @@ use Prim.Native.Nat.{ℕ}
 use mathlib.Core.Path.{_≡_, refl}
 use mathlib.Core.List.{List, [], _∷_, _++_}
 use Rattle.codec.specs.Codec.{bytesHold, valAt, be}
-use Rattle.printing.specs.Decimal.{digitsBy, decimal}
-use Rattle.sheets.specs.Numbers.{signed, digits, positive, unsigned, unsignedCell, signedCell}
+use Rattle.printing.specs.Decimal.{digitsBy, decimal, signed}
+use Rattle.sheets.specs.Numbers.{digits, positive, unsigned, unsignedCell, signedCell}
 use Rattle.sheets.specs.Rows.{columns, bytes, values, lineOf, isLine, lineRow, cellText, rowText, startsWith, readCell, readRow}
 use Rattle.sheets.specs.Sheets.{Item, item, wrong, lineItem, rowItem}
 

@@ -1,14 +1,13 @@
 -- Document 02, W13: "Numbers have no leading zeros, and zero has no minus sign." Numbers as text, and read off the front of a text.
 -- A signed number is its two's complement of eight bytes, as it stands in a line.
-use Prim.Native.Nat.{ℕ, suc, _+_, _-_, _*_}
+use Prim.Native.Nat.{ℕ, _+_, _-_, _*_}
 use mathlib.Core.Bool.{Bool, true, false, _&&_}
 use mathlib.Core.List.{List, [], _∷_, _++_}
 use lib.ListN.{getD, drop}
 use lib.Dec.{leb, ltb, eqb}
-use lib.IntN.{ℤ, pos, negsuc}
 use Rattle.base.specs.Choice.{pick}
 use Rattle.base.specs.Signed.{signedOf}
-use Rattle.printing.specs.Decimal.{decimal}
+use Rattle.printing.specs.Decimal.{signed}
 
 -- ---- a number as text
 
@@ -19,11 +18,6 @@ half = 9223372036854775808
 -- 2^64: how many there are
 abbrev pub full : ℕ
 full = 18446744073709551616
-
--- a signed number: a minus sign before the digits of one below zero, `negsuc n` being −(n + 1)
-unfoldable pub signed : ℤ → List ℕ
-signed (pos n) = decimal n
-signed (negsuc n) = 45 ∷ decimal (suc n)
 
 -- the number that a word of a line stands for
 abbrev pub signedText : ℕ → List ℕ

@@ -1,4 +1,4 @@
--- What a person is told of a sheet that is read, on standard error: "N lines", or "refused" with the number and the row. And the byte of the exit status.
+-- What a person is told of a sheet that is read or written, on standard error: "N lines", or "refused" with the number and the row. And the byte of the exit status.
 use Prim.Native.Nat.{ℕ, _+_, _-_}
 use mathlib.Core.Bool.{Bool, _&&_}
 use mathlib.Core.List.{List, [], _∷_, _++_}
@@ -36,6 +36,10 @@ endText text (Refused code row) = refusedText code row
 -- a text that is longer than the program has room for
 abbrev pub tooLongText : List ℕ
 tooLongText = ascii "the sheet is longer than 131072 bytes: nothing is written\n"
+
+-- the same of line records
+abbrev pub linesTooLongText : List ℕ
+linesTooLongText = ascii "the lines are longer than 131072 bytes: nothing is written\n"
 
 -- `0` where the sheet was accepted, and everything was written, else `1`
 abbrev pub statusByte : Bool → Bool → ℕ

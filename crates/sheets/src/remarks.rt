@@ -8,7 +8,7 @@ ghost use lib.Dec.{eqb};
 ghost use lib.ListN.{length};
 ghost use Rattle.base.specs.Choice.{pick};
 ghost use Rattle.printing.specs.Said.{Said};
-ghost use Rattle.sheets.specs.Remarks.{feeds, lineCount, linesText, rowWord, refusedText, endText, tooLongText, statusByte};
+ghost use Rattle.sheets.specs.Remarks.{feeds, lineCount, linesText, rowWord, refusedText, endText, tooLongText, linesTooLongText, statusByte};
 
 fn one_if_feed(b: u8) -> usize
     ensures { λ r. ⌜ r ≡ pick (eqb b 10) 1 0 ⌝ }
@@ -85,6 +85,17 @@ pub fn say_too_long(out: &mut [u8]) -> usize
         out,
         0,
         b"the sheet is longer than 131072 bytes: nothing is written\n",
+    )
+}
+
+// The same of line records.
+pub fn say_lines_too_long(out: &mut [u8]) -> usize
+    ensures { λ r. ⌜ Said (now (out .entry)) (now (out .exit)) 0 linesTooLongText r ⌝ }
+{
+    say(
+        out,
+        0,
+        b"the lines are longer than 131072 bytes: nothing is written\n",
     )
 }
 

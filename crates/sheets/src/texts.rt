@@ -7,6 +7,7 @@ use crate::rows::column_of;
 use base::first_of;
 use printing::put_byte;
 use printing::put_decimal;
+use printing::put_signed;
 use printing::put_text;
 ghost use mathlib.Core.Path.{_≡_};
 ghost use mathlib.Core.Bool.{true};
@@ -15,20 +16,7 @@ ghost use Prim.Native.Nat.{_+_, _*_, _≤_};
 ghost use lib.ListN.{length, drop};
 ghost use Rattle.codec.specs.Codec.{valAt};
 ghost use Rattle.printing.specs.Decimal.{Put};
-ghost use Rattle.sheets.specs.Numbers.{signedText};
 ghost use Rattle.sheets.specs.Rows.{columns, lengthOf, values, kindAt, isLine, ending, cellText, rowText, lineRow};
-
-fn put_signed(out: &mut [u8], at: usize, v: u64) -> usize
-    requires { ⌜ at + 21 ≤ length (now out) ⌝ }
-    ensures { λ r. ⌜ Put (now (out .entry)) (now (out .exit)) at (signedText v) r ⌝ }
-    ensures { λ r. ⌜ r ≤ at + 21 ⌝ }
-{
-    if v < 9_223_372_036_854_775_808 {
-        return put_decimal(out, at, v);
-    }
-    let behind = put_byte(out, at, b'-');
-    put_decimal(out, behind, 18_446_744_073_709_551_615 - v + 1)
-}
 
 fn put_cell(out: &mut [u8], at: usize, c: Column, v: u64) -> usize
     requires { ⌜ at + 21 ≤ length (now out) ⌝ }
