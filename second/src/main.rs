@@ -58,6 +58,7 @@ const USAGE: &str = "usage:
   second unsheeted                   reads a sheet, writes its line records and says what unsheet says
   second lines SEED INDEX            line records by chance
   second sheet SEED INDEX            a sheet by chance
+  second booksheet                   reads a book, writes and says what sheet does
   second booklines                   reads a book, writes its line records
 ";
 
@@ -84,6 +85,7 @@ fn main() {
         ["unsheeted"] => tell_sheet(sheets::unsheeted),
         ["lines", seed, index] => by_chance(sheets::lines, seed, index),
         ["sheet", seed, index] => by_chance(sheets::sheet, seed, index),
+        ["booksheet"] => tell_sheet(sheets::booksheet),
         ["booklines"] => book_lines(),
         _ => Err(USAGE.to_string()),
     };

@@ -1,6 +1,9 @@
 //! Document 02, W13: line records as a sheet for the spreadsheet, and back; sheets and lines by chance to try it on.
 
 use crate::dice::Dice;
+use crate::feed::feed;
+use crate::programs::listed;
+use crate::state::{State, LARGE};
 
 pub const HEADER: &str = "kind,group,ch4,n2o,co2,excreted,land,grazing,co2e\r\n";
 
@@ -155,6 +158,15 @@ pub fn unsheeted(text: &[u8]) -> Told {
         Ok((lines, count)) => (lines, format!("{count} lines\n"), true),
         Err(refusal) => refused(refusal),
     }
+}
+
+/// What `sheet` does with a book: its lines as a sheet; the lister's last word is said, and its remark.
+pub fn booksheet(book: &[u8]) -> Told {
+    let lines = feed(&State::default(), book, LARGE).lines;
+    let Ok(text) = export(&lines) else { unreachable!("a book's lines are whole lines") };
+    let listed = listed(book);
+    let last = listed.printed.lines().last().unwrap_or_default().to_string();
+    (text, last + "\n" + &listed.said, listed.right)
 }
 
 /// A figure by chance: often an end of its range, zero or small.

@@ -74,11 +74,13 @@ pub wrong-row : (s : List ℕ) (code : ℕ) → rowItem s ≡ wrong code
 unfolding rowItem
 wrong-row s code =
     of-choice
-    (λ (x : Item). x ≡ wrong code → ((code ≡ 20) × (rowIn s .good ≡ false)) ⊎ ((code ≡ 21) × (rowIn s .good ≡ true) × ((rowIn s .fits && isKind (kindIn s)) ≡ false)))
+    (λ (x : Item). x ≡ wrong code → ((code ≡ 20) × (rowIn s .good ≡ false))
+    ⊎ ((code ≡ 21) × (rowIn s .good ≡ true) × ((rowIn s .fits && isKind (kindIn s)) ≡ false)))
     (rowIn s .good)
     (λ g.
     of-choice
-    (λ (x : Item). x ≡ wrong code → ((code ≡ 20) × (rowIn s .good ≡ false)) ⊎ ((code ≡ 21) × (rowIn s .good ≡ true) × ((rowIn s .fits && isKind (kindIn s)) ≡ false)))
+    (λ (x : Item). x ≡ wrong code → ((code ≡ 20) × (rowIn s .good ≡ false))
+    ⊎ ((code ≡ 21) × (rowIn s .good ≡ true) × ((rowIn s .fits && isKind (kindIn s)) ≡ false)))
     (rowIn s .fits && isKind (kindIn s))
     (λ f e. other (sym e))
     (λ f e. inr (cc, g, f)))
@@ -152,7 +154,8 @@ pub room-last : (m : Made) (room code row : ℕ) → answer m room ≡ Refused c
 unfolding answer
 room-last (refused c r) room code row = λ e. inl (let a : c ≡ code = cc in let b : r ≡ row = cc in rw (a, b))
 room-last (made t) room code row =
-    of-choice (λ (a : Answer). a ≡ Refused code row → (made t ≡ refused code row) ⊎ ((code ≡ 16) × (row ≡ 0) × NoRoom (made t) room)) (leb (length t) room)
+    of-choice (λ (a : Answer). a ≡ Refused code row → (made t ≡ refused code row)
+    ⊎ ((code ≡ 16) × (row ≡ 0) × NoRoom (made t) room)) (leb (length t) room)
     (λ b e. let z : _≡_ {A = ℕ} 0 1 = cc in absurd (omega arith))
     (λ b e. inr (cc, cc, record { text = t; all = refl; less = leb-false (length t) room b }))
 

@@ -1,4 +1,5 @@
--- What a person is told of a sheet that is read or written, on standard error: "N lines", or "refused" with the number and the row. And the byte of the exit status.
+-- What a person is told of a sheet that is read or written, on standard error: "N lines", or "refused" with the number and the row. And the byte of
+-- the exit status.
 use Prim.Native.Nat.{ℕ, _+_, _-_}
 use mathlib.Core.Bool.{Bool, _&&_}
 use mathlib.Core.List.{List, [], _∷_, _++_}

@@ -42,5 +42,6 @@ count-feeds-spec =
     (λ c.
     let l = c .before .before .before .loop in
     let text = c .before .before .before .before .before .args .text .now in
-    (omega arith, omega (arith, c .one-if-feed .ensures .1), omega (arith, one-on text (l .i) (c .before .before .loop-test .taken), c .one-if-feed .ensures .0)))
+    let on = one-on text (l .i) (c .before .before .loop-test .taken) in
+    (omega arith, omega (arith, c .one-if-feed .ensures .1), omega (arith, on, c .one-if-feed .ensures .0)))
     (λ c. let l = c .before .loop in omega (arith, none-left (c .before .before .before .args .text .now) (l .i) (c .loop-test .left))))
