@@ -19,6 +19,7 @@ mod plain;
 mod programs;
 mod record;
 mod salvage;
+mod sheets;
 mod slip;
 mod slips;
 mod state;
@@ -53,6 +54,12 @@ const USAGE: &str = "usage:
   second retyped                     reads a book, prints and says what retype does
   second why                         reads a book, says why it is refused
   second doubtful SEED INDEX         a book by chance to ask that of
+  second sheeted                     reads line records, writes their sheet and says what sheet_lines says
+  second unsheeted                   reads a sheet, writes its line records and says what unsheet says
+  second lines SEED INDEX            line records by chance
+  second sheet SEED INDEX            a sheet by chance
+  second booksheet                   reads a book, writes and says what sheet does
+  second booklines                   reads a book, writes its line records
 ";
 
 fn main() {
@@ -74,6 +81,12 @@ fn main() {
         ["retyped"] => tell(programs::retyped),
         ["why"] => say_why(),
         ["doubtful", seed, index] => some_doubtful(seed, index),
+        ["sheeted"] => tell_sheet(sheets::sheeted),
+        ["unsheeted"] => tell_sheet(sheets::unsheeted),
+        ["lines", seed, index] => by_chance(sheets::lines, seed, index),
+        ["sheet", seed, index] => by_chance(sheets::sheet, seed, index),
+        ["booksheet"] => tell_sheet(sheets::booksheet),
+        ["booklines"] => book_lines(),
         _ => Err(USAGE.to_string()),
     };
     if let Err(fault) = done {
@@ -209,4 +222,27 @@ fn say_why() -> Result<(), String> {
 fn some_doubtful(seed: &str, index: &str) -> Result<(), String> {
     let (seed, index) = (whole_number(seed)?, whole_number(index)?);
     write_bytes(&why::doubtful(seed, index))
+}
+
+/// Writes what a program of sheets writes, says what it says, and ends as it ends.
+fn tell_sheet(program: fn(&[u8]) -> sheets::Told) -> Result<(), String> {
+    let mut input = Vec::new();
+    io::stdin().read_to_end(&mut input).map_err(|e| e.to_string())?;
+    let (written, said, right) = program(&input);
+    write_bytes(&written)?;
+    eprint!("{said}");
+    if !right {
+        std::process::exit(1);
+    }
+    Ok(())
+}
+
+fn by_chance(make: fn(u64, u64) -> Vec<u8>, seed: &str, index: &str) -> Result<(), String> {
+    write_bytes(&make(whole_number(seed)?, whole_number(index)?))
+}
+
+fn book_lines() -> Result<(), String> {
+    let mut book = Vec::new();
+    io::stdin().read_to_end(&mut book).map_err(|e| e.to_string())?;
+    write_bytes(&feed::feed(&state::State::default(), &book, state::LARGE).lines)
 }

@@ -9,6 +9,7 @@ mod parts;
 mod programs;
 mod refusals;
 mod salvage;
+mod sheets;
 mod slips;
 mod states;
 mod subtotals;

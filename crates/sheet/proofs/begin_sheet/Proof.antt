@@ -1,0 +1,19 @@
+use mathlib.Core.Path.{sym}
+use borrow.Author.Needs.{needs}
+use lib.Seq.{length-take-le}
+use Rattle.sheet.proofs.begin_sheet.Statement.{statement}
+use Rattle.sheet.proofs.begin_sheet.Tie as tie
+
+pub begin-sheet-spec : {M : Type 1} → statement M
+begin-sheet-spec =
+    tie.close
+    (tie.spec
+    (λ c κs. search needs)
+    (λ c. search needs)
+    (λ c. sym (length-take-le _ _ (search needs)))
+    (λ c κs. search needs)
+    (λ c κs. search needs)
+    (λ c. search needs)
+    (λ c. search needs)
+    (λ c. search needs)
+    (λ c. search needs))

@@ -1,0 +1,16 @@
+pub mod Numerals
+pub mod Cells
+pub mod Columns
+pub mod Runs
+pub mod RoundTrip
+pub mod Held
+pub mod Reading
+pub mod Plans
+pub mod Items
+pub mod Writing
+pub mod Fields
+pub mod Exporting
+pub mod Refusals
+pub mod CodecLines
+pub mod OneAnswer
+pub mod Examples

@@ -1,0 +1,6 @@
+pub mod Numbers
+pub mod Rows
+pub mod Sheets
+pub mod Refusals
+pub mod Remarks
+pub mod Code

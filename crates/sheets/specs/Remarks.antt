@@ -1,0 +1,47 @@
+-- What a person is told of a sheet that is read or written, on standard error: "N lines", or "refused" with the number and the row. And the byte of
+-- the exit status.
+use Prim.Native.Nat.{ℕ, _+_, _-_}
+use mathlib.Core.Bool.{Bool, _&&_}
+use mathlib.Core.List.{List, [], _∷_, _++_}
+use lib.Dec.{eqb}
+use Rattle.base.specs.Choice.{pick}
+use Rattle.printing.specs.Ascii.{ascii}
+use Rattle.printing.specs.Decimal.{decimal}
+use Rattle.sheets.specs.declared.Answer.{Answer}
+use Rattle.sheets.specs.declared.Answer.the-variants.{Written, Refused}
+
+-- how many line feeds a text has: one for each row
+unfoldable pub feeds : List ℕ → ℕ
+feeds [] = 0
+feeds (b ∷ s) = pick (eqb b 10) 1 0 + feeds s
+
+-- a row for each line; the header is none
+abbrev pub lineCount : List ℕ → ℕ
+lineCount text = feeds text - 1
+
+abbrev pub linesText : ℕ → List ℕ
+linesText lines = decimal lines ++ ascii " lines\n"
+
+-- 16 and 23 have no row
+abbrev pub rowWord : ℕ → List ℕ
+rowWord row = pick (eqb row 0) [] (ascii " row " ++ decimal row)
+
+abbrev pub refusedText : ℕ → ℕ → List ℕ
+refusedText code row = ascii "refused " ++ (decimal code ++ (rowWord row ++ ascii "\n"))
+
+-- the last word, of the text and the answer
+abbrev pub endText : List ℕ → Answer → List ℕ
+endText text (Written n) = linesText (lineCount text)
+endText text (Refused code row) = refusedText code row
+
+-- a text that is longer than the program has room for
+abbrev pub tooLongText : List ℕ
+tooLongText = ascii "the sheet is longer than 131072 bytes: nothing is written\n"
+
+-- the same of line records
+abbrev pub linesTooLongText : List ℕ
+linesTooLongText = ascii "the lines are longer than 131072 bytes: nothing is written\n"
+
+-- `0` where the sheet was accepted, and everything was written, else `1`
+abbrev pub statusByte : Bool → Bool → ℕ
+statusByte accepted written = pick (accepted && written) 48 49
