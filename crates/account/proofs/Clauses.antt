@@ -16,7 +16,7 @@ use Rattle.account.specs.declared.Days.{Days}
 use Rattle.account.specs.declared.Figures.{Figures}
 use Rattle.account.specs.declared.Subtotal.{Subtotal}
 use Rattle.account.specs.declared.Refusal.{Refusal}
-use Rattle.account.specs.Range.{Counted, Warmed, Headed, Unheaded, Bounded, Grouped, Ungrouped, Numbered, Unrefused, AccountInRange, countedTest, warmedTest, headedTest, unheadedTest, boundedTest, groupedTest, ungroupedTest, numberedTest, unrefusedTest, accountInRange}
+use Rattle.account.specs.Range.{Counted, Warmed, Headed, Unheaded, Bounded, Grouped, Ungrouped, Numbered, Unrefused, GrazedIn, AccountInRange, countedTest, warmedTest, headedTest, unheadedTest, boundedTest, groupedTest, ungroupedTest, numberedTest, unrefusedTest, grazedTest, accountInRange}
 
 -- ---- clause by clause, from the test
 
@@ -83,7 +83,6 @@ module _ (h : Heading) (d : Days) where
       ∷ leb (d .enteric) 366
       ∷ leb (d .nitrogen) 366
       ∷ leb (d .pig) 366
-      ∷ leb (d .grazed) 10000
       ∷ leb 2 records
       ∷ []
 
@@ -100,19 +99,18 @@ module _ (h : Heading) (d : Days) where
         enteric-most = leb-true _ _ (u .1 .0);
         nitrogen-most = leb-true _ _ (u .1 .1 .0);
         pig-most = leb-true _ _ (u .1 .1 .1 .0);
-        grazed-most = leb-true _ _ (u .1 .1 .1 .1 .0);
-        records-least = leb-true _ _ (u .1 .1 .1 .1 .1 .0);
+        records-least = leb-true _ _ (u .1 .1 .1 .1 .0);
       }
 
   headed-test : (records : ℕ) → Headed h d records → headedTest h d records ≡ true
   headed-test records p =
-      let u : Each (leb (h .head) 20000 ∷ leb (d .enteric) 366 ∷ leb (d .nitrogen) 366 ∷ leb (d .pig) 366 ∷ leb (d .grazed) 10000 ∷ leb 2 records ∷ []) =
-      (le-leb _ _ (p .head-most), (le-leb _ _ (p .enteric-most), (le-leb _ _ (p .nitrogen-most), (le-leb _ _ (p .pig-most), (le-leb _ _ (p .grazed-most), (le-leb _ _ (p .records-least), tt)))))) in
+      let u : Each (leb (h .head) 20000 ∷ leb (d .enteric) 366 ∷ leb (d .nitrogen) 366 ∷ leb (d .pig) 366 ∷ leb 2 records ∷ []) =
+      (le-leb _ _ (p .head-most), (le-leb _ _ (p .enteric-most), (le-leb _ _ (p .nitrogen-most), (le-leb _ _ (p .pig-most), (le-leb _ _ (p .records-least), tt))))) in
       each-all (leb 1 (h .group)) (headedRest records) (le-leb _ _ (p .group-least))
       (le-leb _ _ (p .group-most), (le-leb _ _ (p .class-least), (le-leb _ _ (p .class-most), u)))
 
   abbrev unheadedRest : List Bool
-  unheadedRest = eqb (h .class) 0 ∷ eqb (h .head) 0 ∷ eqb (d .enteric) 0 ∷ eqb (d .nitrogen) 0 ∷ eqb (d .pig) 0 ∷ eqb (d .grazed) 0 ∷ []
+  unheadedRest = eqb (h .class) 0 ∷ eqb (h .head) 0 ∷ eqb (d .enteric) 0 ∷ eqb (d .nitrogen) 0 ∷ eqb (d .pig) 0 ∷ []
 
   pub unheaded-parts : unheadedTest h d ≡ true → Unheaded h d
   unheaded-parts e =
@@ -124,13 +122,12 @@ module _ (h : Heading) (d : Days) where
         enteric = eqb-true _ _ (t .1 .1 .1 .0);
         nitrogen = eqb-true _ _ (t .1 .1 .1 .1 .0);
         pig = eqb-true _ _ (t .1 .1 .1 .1 .1 .0);
-        grazed = eqb-true _ _ (t .1 .1 .1 .1 .1 .1 .0);
       }
 
   unheaded-test : Unheaded h d → unheadedTest h d ≡ true
   unheaded-test p =
       each-all (eqb (h .group) 0) unheadedRest (eq-eqb _ _ (p .group))
-      (eq-eqb _ _ (p .class), (eq-eqb _ _ (p .head), (eq-eqb _ _ (p .enteric), (eq-eqb _ _ (p .nitrogen), (eq-eqb _ _ (p .pig), (eq-eqb _ _ (p .grazed), tt))))))
+      (eq-eqb _ _ (p .class), (eq-eqb _ _ (p .head), (eq-eqb _ _ (p .enteric), (eq-eqb _ _ (p .nitrogen), (eq-eqb _ _ (p .pig), tt)))))
 
   heading-parts : (records : ℕ) → headedTest h d records || unheadedTest h d ≡ true → Headed h d records ⊎ Unheaded h d
   heading-parts records e =
@@ -255,6 +252,17 @@ module _ (r : Refusal) where
   unrefused-test u =
       each-all (eqb (r .code) 0) (eqb (r .accepted) 0 ∷ eqb (r .field) 0 ∷ []) (eq-eqb _ _ (u .code)) (eq-eqb _ _ (u .accepted), (eq-eqb _ _ (u .field), tt))
 
+module _ (group grazed : ℕ) where
+  grazed-parts : grazedTest group grazed ≡ true → GrazedIn group grazed
+  grazed-parts e =
+      let t = all-each (leb grazed 10000) ((not (eqb group 0) || eqb grazed 0) ∷ []) e in
+      record { most = leb-true _ _ (t .0); none = λ h. eqb-true _ _ (implied _ _ (t .1 .0) (eq-eqb _ _ h)) }
+
+  grazed-test : GrazedIn group grazed → grazedTest group grazed ≡ true
+  grazed-test g =
+      each-all (leb grazed 10000) ((not (eqb group 0) || eqb grazed 0) ∷ []) (le-leb _ _ (g .most))
+      (implies (eqb group 0) (eqb grazed 0) (λ h. eq-eqb _ _ (g .none (eqb-true _ _ h))), tt)
+
 -- ---- all of it
 
 module _ (a : Account) where
@@ -266,6 +274,7 @@ module _ (a : Account) where
       ∷ (groupedTest (a .subtotal) (a .records) && (not (eqb (a .heading .group) 0) || ungroupedTest (a .subtotal)))
       ∷ (not (eqb (a .stage) 3) || numberedTest (a .refusal) (a .records))
       ∷ (eqb (a .stage) 3 || unrefusedTest (a .refusal))
+      ∷ grazedTest (a .heading .group) (a .grazed)
       ∷ []
 
   pub in-range-parts : accountInRange a ≡ true → AccountInRange a
@@ -281,6 +290,7 @@ module _ (a : Account) where
         ungrouped = λ h. ungrouped-parts (a .subtotal) (implied _ _ (and-r (groupedTest (a .subtotal) (a .records)) _ (t .1 .1 .1 .1 .0)) (eq-eqb _ _ h));
         refused = λ h. numbered-parts (a .refusal) (a .records) (implied _ _ (t .1 .1 .1 .1 .1 .0) (eq-eqb _ _ h));
         unrefused = λ h. unrefused-parts (a .refusal) (or-right _ _ (t .1 .1 .1 .1 .1 .1 .0) (ne-eqb _ _ h));
+        grazed = grazed-parts _ _ (t .1 .1 .1 .1 .1 .1 .1 .0);
       }
 
   pub in-range-test : AccountInRange a → accountInRange a ≡ true
@@ -296,7 +306,7 @@ module _ (a : Account) where
               subtotal-test (a .subtotal) (a .heading .group) (a .records) (f .grouped) (f .ungrouped),
               (
                 implies (eqb (a .stage) 3) (numberedTest (a .refusal) (a .records)) (λ h. numbered-test (a .refusal) (a .records) (f .refused (eqb-true _ _ h))),
-                (or-left (eqb (a .stage) 3) (unrefusedTest (a .refusal)) (λ h. unrefused-test (a .refusal) (f .unrefused (eqb-false _ _ h))), tt),
+                (or-left (eqb (a .stage) 3) (unrefusedTest (a .refusal)) (λ h. unrefused-test (a .refusal) (f .unrefused (eqb-false _ _ h))), (grazed-test _ _ (f .grazed), tt)),
               ),
             ),
           ),

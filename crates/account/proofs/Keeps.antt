@@ -27,7 +27,7 @@ use Rattle.account.specs.declared.Subtotal.{Subtotal}
 use Rattle.account.specs.Sorts.{sortOf}
 use Rattle.account.specs.Figures.{figuresOf, grouped, groupFigures}
 use Rattle.account.specs.Line.{joined, lineWith, lineOf, subtotals, totalOf}
-use Rattle.account.specs.Range.{Headed, Unheaded, Grouped, Ungrouped, Unrefused, AccountInRange}
+use Rattle.account.specs.Range.{Headed, Unheaded, Grouped, Ungrouped, Unrefused, GrazedIn, AccountInRange}
 use Rattle.account.specs.Judge.{kindOf, valuesOf, noRecord, refused, opened, underHeading, withDetail, closed, headingServes, inPlace, refusals}
 use Rattle.account.specs.Judge.{first, ValuesPass, Step, accepted, judge}
 use Rattle.account.specs.Told.{Small}
@@ -49,12 +49,13 @@ in-range-none =
     record {
       counted = record { stage-most = omega arith; records-most = omega arith; in-zero = λ e. refl; in-one = λ e. absurd (omega arith); in-two = λ e. absurd (omega arith) };
       warmed = record { set-most = omega arith; none = λ e. refl; some = λ e. refl };
-      heading = inr (record { group = refl; class = refl; head = refl; enteric = refl; nitrogen = refl; pig = refl; grazed = refl });
+      heading = inr (record { group = refl; class = refl; head = refl; enteric = refl; nitrogen = refl; pig = refl });
       sums = bounded-none 0;
       grouped = grouped-none 0;
       ungrouped = λ e. ungrouped-none;
       refused = λ e. absurd (omega arith);
       unrefused = λ e. record { code = refl; accepted = refl; field = refl };
+      grazed = record { most = omega arith; none = λ e. refl };
     }
 
 in-range-refused : (a : Account) (code field : ℕ) → AccountInRange a → 1 ≤ code → code ≤ 12 → field ≤ 12 → (code ≡ 7 → 1 ≤ field) → ((code ≡ 7 → ⊥) → field ≡ 0) → AccountInRange (refused a code field)
@@ -68,6 +69,7 @@ in-range-refused a code field f low high most some none =
       ungrouped = f .ungrouped;
       refused = λ e. record { code-least = low; code-most = high; accepted = refl; field-most = most; field-some = some; field-none = none };
       unrefused = λ n. absurd (n refl);
+      grazed = f .grazed;
     }
 
 -- a length outside 4..26
@@ -119,6 +121,7 @@ module _ (a : Account) (f : AccountInRange a) (early : a .stage < 2) where
         ungrouped = f .ungrouped;
         refused = λ e. absurd (omega arith);
         unrefused = λ e. zeros;
+        grazed = f .grazed;
       }
 
   -- from the second record on
@@ -140,7 +143,6 @@ module _ (a : Account) (f : AccountInRange a) (early : a .stage < 2) where
             enteric-most = omega arith;
             nitrogen-most = omega arith;
             pig-most = omega arith;
-            grazed-most = omega arith;
             records-least = omega arith;
           });
           sums = bounded-next (f .sums);
@@ -148,11 +150,12 @@ module _ (a : Account) (f : AccountInRange a) (early : a .stage < 2) where
           ungrouped = λ e. ungrouped-none;
           refused = λ e. absurd (not-three e);
           unrefused = λ e. zeros;
+          grazed = record { most = omega arith; none = λ e. refl };
         }
 
-    headed-on : Headed (a .heading) (a .days) (a .records) → (d : Days) → d .enteric ≤ 366 → d .nitrogen ≤ 366 → d .pig ≤ 366 → d .grazed ≤ 10000
+    headed-on : Headed (a .heading) (a .days) (a .records) → (d : Days) → d .enteric ≤ 366 → d .nitrogen ≤ 366 → d .pig ≤ 366
         → Headed (a .heading) d (a .records + 1)
-    headed-on h d e n p g =
+    headed-on h d e n p =
         record {
           group-least = h .group-least;
           group-most = h .group-most;
@@ -162,14 +165,13 @@ module _ (a : Account) (f : AccountInRange a) (early : a .stage < 2) where
           enteric-most = e;
           nitrogen-most = n;
           pig-most = p;
-          grazed-most = g;
           records-least = omega arith;
         }
 
     -- with the days as they were
     heading-on : Headed (a .heading) (a .days) (a .records + 1) ⊎ Unheaded (a .heading) (a .days)
     heading-on =
-        ⊎-elim (λ (h : Headed (a .heading) (a .days) (a .records)). inl (headed-on h (a .days) (h .enteric-most) (h .nitrogen-most) (h .pig-most) (h .grazed-most)))
+        ⊎-elim (λ (h : Headed (a .heading) (a .days) (a .records)). inl (headed-on h (a .days) (h .enteric-most) (h .nitrogen-most) (h .pig-most)))
         (λ (u : Unheaded (a .heading) (a .days)). inr u) (f .heading)
 
     -- a class means a heading
@@ -187,11 +189,12 @@ module _ (a : Account) (f : AccountInRange a) (early : a .stage < 2) where
           ungrouped = f .ungrouped;
           refused = λ e. absurd (omega arith);
           unrefused = λ e. zeros;
+          grazed = f .grazed;
         }
 
-    in-range-detail : (d : Days) (t : Subtotal) (g : Figures) → Small g → Headed (a .heading) d (a .records + 1) ⊎ Unheaded (a .heading) d → Grouped t (a .records + 1)
-        → (a .heading .group ≡ 0 → Ungrouped t) → AccountInRange (withDetail a d t g)
-    in-range-detail d t g small h grouped ungrouped =
+    in-range-detail : (d : Days) (z : ℕ) (t : Subtotal) (g : Figures) → Small g → Headed (a .heading) d (a .records + 1) ⊎ Unheaded (a .heading) d → Grouped t (a .records + 1)
+        → (a .heading .group ≡ 0 → Ungrouped t) → GrazedIn (a .heading .group) z → AccountInRange (withDetail a d z t g)
+    in-range-detail d z t g small h grouped ungrouped grazed-in =
         record {
           counted = record { stage-most = omega arith; records-most = omega arith; in-zero = λ e. let z = f .counted .in-zero e in absurd (omega arith); in-one = λ e. omega arith; in-two = λ e. absurd (omega arith) };
           warmed = record { set-most = f .warmed .set-most; none = λ e. absurd (warm-on e); some = λ e. absurd (omega arith) };
@@ -201,18 +204,20 @@ module _ (a : Account) (f : AccountInRange a) (early : a .stage < 2) where
           ungrouped = ungrouped;
           refused = λ e. absurd (not-three e);
           unrefused = λ e. zeros;
+          grazed = grazed-in;
         }
 
     -- under a heading the subtotal takes the figures too
-    in-range-grouped : (d : Days) (g : Figures) → Small g → Headed (a .heading) d (a .records + 1) → AccountInRange (withDetail a d (grouped (a .subtotal) g) g)
-    in-range-grouped d g small h =
-        in-range-detail d _ g small (inl h) (grouped-added (f .grouped) small)
-        (λ e. let least = h .group-least in absurd (omega arith))
+    in-range-grouped : (d : Days) (z : ℕ) (g : Figures) → Small g → z ≤ 10000 → Headed (a .heading) d (a .records + 1)
+        → AccountInRange (withDetail a d z (grouped (a .subtotal) g) g)
+    in-range-grouped d z g small most h =
+        in-range-detail d z _ g small (inl h) (grouped-added (f .grouped) small) (λ e. let least = h .group-least in absurd (omega arith))
+        (record { most = most; none = λ e. let least = h .group-least in absurd (omega arith) })
 
     -- without one it stays
-    in-range-farm : (g : Figures) → Small g → AccountInRange (withDetail a (a .days) (a .subtotal) g)
+    in-range-farm : (g : Figures) → Small g → AccountInRange (withDetail a (a .days) (a .grazed) (a .subtotal) g)
     in-range-farm g small =
-        in-range-detail (a .days) (a .subtotal) g small heading-on (grouped-next (f .grouped)) (f .ungrouped)
+        in-range-detail (a .days) (a .grazed) (a .subtotal) g small heading-on (grouped-next (f .grouped)) (f .ungrouped) (f .grazed)
 
     -- ---- the details, kind by kind
 
@@ -222,16 +227,16 @@ module _ (a : Account) (f : AccountInRange a) (early : a .stage < 2) where
       detail-enteric c =
           let i = enteric-in v (a .heading .head) (head-most a f) (passed a 3 v c .ranges) in
           let h = headed-by (leb-true _ _ (and-l _ _ (and-l _ _ (passed a 3 v c .place)))) in
-          in-range-grouped _ _ (ch4-small _ (enteric-small i))
-          (headed-on h _ (ltb-false _ _ (c .days)) (h .nitrogen-most) (h .pig-most) (h .grazed-most))
+          in-range-grouped _ _ _ (ch4-small _ (enteric-small i)) (f .grazed .most)
+          (headed-on h _ (ltb-false _ _ (c .days)) (h .nitrogen-most) (h .pig-most))
 
       detail-cattle : ValuesPass a 4 v → Kept (accepted a 4 v)
       unfolding inPlace figuresOf accepted sortOf
       detail-cattle c =
           let i = cattle-in v (a .heading .head) (head-most a f) (passed a 4 v c .ranges) in
           let h = headed-by (leb-true _ _ (and-l _ _ (and-l _ _ (passed a 4 v c .place)))) in
-          in-range-grouped _ _ (cattle-small _ (cattle-n2o-small i) (cattle-excreted-small i))
-          (headed-on h _ (h .enteric-most) (ltb-false _ _ (c .days)) (h .pig-most) (h .grazed-most))
+          in-range-grouped _ _ _ (cattle-small _ (cattle-n2o-small i) (cattle-excreted-small i)) (f .grazed .most)
+          (headed-on h _ (h .enteric-most) (ltb-false _ _ (c .days)) (h .pig-most))
 
       detail-pig : ValuesPass a 5 v → Kept (accepted a 5 v)
       unfolding inPlace figuresOf accepted sortOf
@@ -239,16 +244,16 @@ module _ (a : Account) (f : AccountInRange a) (early : a .stage < 2) where
           let i = pig-in v (a .heading .head) (head-most a f) (passed a 5 v c .ranges) (ltb-false _ _ (or-l _ _ (c .together))) in
           let four : a .heading .class ≡ 4 = eqb-true _ _ (and-l _ _ (passed a 5 v c .place)) in
           let h = headed-by (omega arith) in
-          in-range-grouped _ _ (pig-small _ (pig-ch4-small i) (pig-n2o-small i) (pig-excreted-small i) (pig-land-small i))
-          (headed-on h _ (h .enteric-most) (h .nitrogen-most) (ltb-false _ _ (c .days)) (h .grazed-most))
+          in-range-grouped _ _ _ (pig-small _ (pig-ch4-small i) (pig-n2o-small i) (pig-excreted-small i) (pig-land-small i)) (f .grazed .most)
+          (headed-on h _ (h .enteric-most) (h .nitrogen-most) (ltb-false _ _ (c .days)))
 
       detail-grazing : ValuesPass a 10 v → Kept (accepted a 10 v)
       unfolding inPlace figuresOf accepted sortOf
       detail-grazing c =
           let i = grazing-in v (a .heading .head) (head-most a f) (passed a 10 v c .ranges) in
           let h = headed-by (leb-true _ _ (and-l _ _ (and-l _ _ (passed a 10 v c .place)))) in
-          in-range-grouped _ _ (sums.grazing-small _ (grazing-small i))
-          (headed-on h _ (h .enteric-most) (h .nitrogen-most) (h .pig-most) (ltb-false _ _ (c .together)))
+          in-range-grouped _ _ _ (sums.grazing-small _ (grazing-small i)) (ltb-false _ _ (c .together))
+          (headed-on h _ (h .enteric-most) (h .nitrogen-most) (h .pig-most))
 
       detail-energy : ValuesPass a 6 v → Kept (accepted a 6 v)
       unfolding figuresOf accepted sortOf

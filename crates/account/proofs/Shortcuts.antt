@@ -1,7 +1,7 @@
 -- The test of an account's ranges, clause by clause, is the same where it takes fewer steps: by the stage, by the group, by whether it is refused.
 -- Assumes nothing.
 use Prim.Native.Nat.{ℕ, zero, suc, _≤_}
-use mathlib.Core.Path.{_≡_, refl, sym}
+use mathlib.Core.Path.{_≡_, refl, sym, ap}
 use mathlib.Core.List.{[], _∷_}
 use mathlib.Core.Bool.{Bool, true, false, _&&_, _||_, not}
 use mathlib.Core.Logic.{⊎-elim}
@@ -13,7 +13,7 @@ use Rattle.account.specs.declared.Account.{Account}
 use Rattle.account.specs.declared.Heading.{Heading}
 use Rattle.account.specs.declared.Days.{Days}
 use Rattle.account.specs.declared.Subtotal.{Subtotal}
-use Rattle.account.specs.Range.{countedTest, warmedTest, headedTest, unheadedTest, boundedTest, groupedTest, ungroupedTest, numberedTest, unrefusedTest, accountInRange}
+use Rattle.account.specs.Range.{countedTest, warmedTest, headedTest, unheadedTest, boundedTest, grazedTest, groupedTest, ungroupedTest, numberedTest, unrefusedTest, accountInRange}
 use Rattle.account.proofs.Sums.{ungrouped-bounded}
 use Rattle.account.proofs.Clauses.{counted-parts, counted-test, warmed-parts, warmed-test, headed-parts, unheaded-parts, grouped-test, ungrouped-parts}
 
@@ -133,6 +133,10 @@ module _ (a : Account) where
   abbrev noRefusal : Bool
   noRefusal = eqb (a .stage) 3 || unrefusedTest (a .refusal)
 
-  pub in-parts : countedTest (a .stage) (a .records) && warmedTest (a .set) (a .records) && boundedTest (a .sums) (a .records) && (serves && subtotal) && (refusal && noRefusal) ≡ accountInRange a
+  pub in-parts : countedTest (a .stage) (a .records) && warmedTest (a .set) (a .records) && boundedTest (a .sums) (a .records) && (serves && subtotal) && (refusal && noRefusal)
+      && grazedTest (a .heading .group) (a .grazed)
+      ≡ accountInRange a
   unfolding accountInRange
-  in-parts = regrouped (countedTest (a .stage) (a .records) && warmedTest (a .set) (a .records)) (boundedTest (a .sums) (a .records)) serves subtotal refusal noRefusal
+  in-parts =
+      ap (λ (b : Bool). b && grazedTest (a .heading .group) (a .grazed))
+      (regrouped (countedTest (a .stage) (a .records) && warmedTest (a .set) (a .records)) (boundedTest (a .sums) (a .records)) serves subtotal refusal noRefusal)

@@ -48,13 +48,12 @@ pub record DaysMost (d : Days) : Type 0 where
   pub enteric : d .enteric ≤ 366
   pub nitrogen : d .nitrogen ≤ 366
   pub pig : d .pig ≤ 366
-  pub grazed : d .grazed ≤ 10000
 
 pub days-most : (a : Account) → AccountInRange a → DaysMost (a .days)
 days-most a f =
     ⊎-elim
-    (λ (h : Headed (a .heading) (a .days) (a .records)). record { enteric = h .enteric-most; nitrogen = h .nitrogen-most; pig = h .pig-most; grazed = h .grazed-most })
-    (λ (u : Unheaded (a .heading) (a .days)). record { enteric = omega arith; nitrogen = omega arith; pig = omega arith; grazed = omega arith })
+    (λ (h : Headed (a .heading) (a .days) (a .records)). record { enteric = h .enteric-most; nitrogen = h .nitrogen-most; pig = h .pig-most })
+    (λ (u : Unheaded (a .heading) (a .days)). record { enteric = omega arith; nitrogen = omega arith; pig = omega arith })
     (f .heading)
 
 pub sums-most : (a : Account) → AccountInRange a → Bounded (a .sums) 4096
@@ -121,10 +120,10 @@ pub tells-quiet : (a : Account) → Tells (step a []) (quiet a)
 unfolding bytesOf
 tells-quiet a = record { account = refl; bytes = refl; long = refl; short = omega arith }
 
-pub tells-detail : (a : Account) (kind group : ℕ) (days : Days) (s : Subtotal) (f : Figures)
-    → Tells (step (withDetail a days s f) (lineWith kind group f ∷ [])) (detailing a kind group days s f)
+pub tells-detail : (a : Account) (kind group : ℕ) (days : Days) (grazed : ℕ) (s : Subtotal) (f : Figures)
+    → Tells (step (withDetail a days grazed s f) (lineWith kind group f ∷ [])) (detailing a kind group days grazed s f)
 unfolding bytesOf
-tells-detail a kind group days s f =
+tells-detail a kind group days grazed s f =
     record { account = refl; bytes = sym (append-nil _); long = line-long _ _ _; short = omega arith }
 
 -- a new heading: the subtotal of the last one, where there was one
@@ -209,7 +208,7 @@ laterRefusals a k v =
     (notRising a k v, 8)
     ∷ (daysOver (a .days) k v, 9)
     ∷ (partsWrong k v, 10)
-    ∷ (grazedOver (a .days) k v, 10)
+    ∷ (grazedOver (a .grazed) k v, 10)
     ∷ (feedBelow k v, 11)
     ∷ (wrongCount a k v, 12)
     ∷ []

@@ -54,8 +54,8 @@ abbrev pub partsOf : List ℕ → ℕ
 partsOf v = getD v 8 0 + getD v 10 0
 
 -- the grazed fractions with this record's
-abbrev pub grazedWith : Days → List ℕ → ℕ
-grazedWith d v = d .grazed + getD v 3 0
+abbrev pub grazedWith : ℕ → List ℕ → ℕ
+grazedWith grazed v = grazed + getD v 3 0
 
 -- what the test with the number c compares, of values v of kind k
 unfoldable pub valuesCompared : ℕ → Account → ℕ → List ℕ → Compared
@@ -63,7 +63,7 @@ valuesCompared c a k v =
     pick (eqb c 7) (outside (rangeOf k (badField k v) .1) (rangeOf k (badField k v) .2) (valueAt v (badField k v)))
     (pick (eqb c 8) (numbers (getD v 0 0) (a .heading .group))
     (pick (eqb c 9) (numbers (daysWith (a .days) k (getD v 0 0)) 366)
-    (pick (eqb c 10) (pick (eqb k 4) (numbers (sharesOf v) 10000) (pick (eqb k 5) (numbers (partsOf v) 1000) (numbers (grazedWith (a .days) v) 10000)))
+    (pick (eqb c 10) (pick (eqb k 4) (numbers (sharesOf v) 10000) (pick (eqb k 5) (numbers (partsOf v) 1000) (numbers (grazedWith (a .grazed) v) 10000)))
     (pick (eqb c 12) (numbers (getD v 0 0) (a .records)) noNumbers))))
 
 -- what the test with the number c compares, of the bytes r of a record; for 1 its length is enough
@@ -108,6 +108,6 @@ pub record ComparesWrongly (c : ℕ) (a : Account) (r : List ℕ) (x : Compared)
   pub together : c ≡ 10
       → ((kindOf r ≡ 4) × (x ≡ numbers (sharesOf (valuesOf r)) 10000) × Unequal x)
       ⊎ (((kindOf r ≡ 5) × (x ≡ numbers (partsOf (valuesOf r)) 1000) × Above x)
-      ⊎ ((kindOf r ≡ 10) × (x ≡ numbers (grazedWith (a .days) (valuesOf r)) 10000) × Above x))
+      ⊎ ((kindOf r ≡ 10) × (x ≡ numbers (grazedWith (a .grazed) (valuesOf r)) 10000) × Above x))
   pub feed : c ≡ 11 → x ≡ noNumbers
   pub count : c ≡ 12 → (kindOf r ≡ 8) × (x ≡ numbers (getD (valuesOf r) 0 0) (a .records)) × Unequal x

@@ -37,9 +37,9 @@ valuesOf r = valuesAt (fields (kindOf r)) r 4
 
 -- ---- accounts made of accounts
 
--- nothing used of the year
+-- no days yet
 abbrev pub noDays : Days
-noDays = record { enteric = 0; nitrogen = 0; pig = 0; grazed = 0 }
+noDays = record { enteric = 0; nitrogen = 0; pig = 0 }
 
 -- before any record
 abbrev pub noRecord : Account
@@ -53,6 +53,7 @@ noRecord =
       subtotal = noSubtotal;
       sums = noFigures;
       refusal = record { code = 0; accepted = 0; field = 0 };
+      grazed = 0;
     }
 
 -- refused: code, records accepted so far and field are stored, all the rest is kept
@@ -67,6 +68,7 @@ refused a code field =
       subtotal = a .subtotal;
       sums = a .sums;
       refusal = record { code = code; accepted = a .records; field = field };
+      grazed = a .grazed;
     }
 
 -- a farm record opens the book and sets its warming set
@@ -81,6 +83,7 @@ opened a set =
       subtotal = a .subtotal;
       sums = a .sums;
       refusal = a .refusal;
+      grazed = a .grazed;
     }
 
 -- a new heading sets the day sums, the grazed fraction and the subtotal to zero
@@ -95,11 +98,12 @@ underHeading a group class head =
       subtotal = noSubtotal;
       sums = a .sums;
       refusal = a .refusal;
+      grazed = 0;
     }
 
--- a detail adds its days and its figures; the heading stays
-abbrev pub withDetail : Account → Days → Subtotal → Figures → Account
-withDetail a days subtotal f =
+-- a detail adds its days, its grazed fraction and its figures; the heading stays
+abbrev pub withDetail : Account → Days → ℕ → Subtotal → Figures → Account
+withDetail a days grazed subtotal f =
     record {
       stage = a .stage;
       records = a .records + 1;
@@ -109,6 +113,7 @@ withDetail a days subtotal f =
       subtotal = subtotal;
       sums = added (a .sums) f;
       refusal = a .refusal;
+      grazed = grazed;
     }
 
 -- the close: heading, day sums, grazed fraction, subtotal and sums stay
@@ -123,6 +128,7 @@ closed a =
       subtotal = a .subtotal;
       sums = a .sums;
       refusal = a .refusal;
+      grazed = a .grazed;
     }
 
 -- ---- the refusals
@@ -137,15 +143,18 @@ headingServes class k =
 unfoldable pub inPlace : Account → ℕ → Bool
 inPlace a k = pick (eqb k 1) (eqb (a .records) 0) (headingServes (a .heading .class) k && not (eqb (a .records) 0))
 
--- the days of kinds 3, 4 and 5 with those of the values v, and the fraction of kind 10; other kinds have none
+-- the days of kinds 3, 4 and 5 with those of the values v; other kinds have none
 abbrev pub daysAfter : Days → ℕ → List ℕ → Days
 daysAfter d k v =
     record {
       enteric = pick (eqb k 3) (d .enteric + getD v 0 0) (d .enteric);
       nitrogen = pick (eqb k 4) (d .nitrogen + getD v 0 0) (d .nitrogen);
       pig = pick (eqb k 5) (d .pig + getD v 0 0) (d .pig);
-      grazed = pick (eqb k 10) (d .grazed + getD v 3 0) (d .grazed);
     }
+
+-- the grazed fraction with that of a grazing record
+abbrev pub grazedAfter : ℕ → ℕ → List ℕ → ℕ
+grazedAfter grazed k v = pick (eqb k 10) (grazed + getD v 3 0) grazed
 
 -- the tests, by name, each true where it refuses
 
@@ -191,8 +200,8 @@ partsWrong k v =
     (pick (eqb k 5) (ltb 1000 (getD v 8 0 + getD v 10 0)) false)
 
 -- 10 too: grazed fractions over 10000 under the heading with this record
-abbrev pub grazedOver : Days → ℕ → List ℕ → Bool
-grazedOver d k v = eqb k 10 && ltb 10000 (d .grazed + getD v 3 0)
+abbrev pub grazedOver : ℕ → ℕ → List ℕ → Bool
+grazedOver grazed k v = eqb k 10 && ltb 10000 (grazed + getD v 3 0)
 
 -- 11: X below zero
 abbrev pub feedBelow : ℕ → List ℕ → Bool
@@ -211,7 +220,7 @@ valueRefusals a k v =
     ∷ (notRising a k v, 8)
     ∷ (daysOver (a .days) k v, 9)
     ∷ (partsWrong k v, 10)
-    ∷ (grazedOver (a .days) k v, 10)
+    ∷ (grazedOver (a .grazed) k v, 10)
     ∷ (feedBelow k v, 11)
     ∷ (wrongCount a k v, 12)
     ∷ []
@@ -234,7 +243,7 @@ pub record ValueTests (P : ℕ → Bool → Type 0) (a : Account) (k : ℕ) (v :
   pub inRange : P 7 (outOfRange k v)
   pub rising : P 8 (notRising a k v)
   pub days : P 9 (daysOver (a .days) k v)
-  pub together : P 10 (partsWrong k v || grazedOver (a .days) k v)
+  pub together : P 10 (partsWrong k v || grazedOver (a .grazed) k v)
   pub feed : P 11 (feedBelow k v)
   pub count : P 12 (wrongCount a k v)
 
@@ -273,7 +282,7 @@ pub record Step : Type 0 where
 abbrev pub withLine : Account → ℕ → List ℕ → Subtotal → Step
 withLine a k v subtotal =
     record {
-      account = withDetail a (daysAfter (a .days) k v) subtotal (figuresOf (a .heading) k v);
+      account = withDetail a (daysAfter (a .days) k v) (grazedAfter (a .grazed) k v) subtotal (figuresOf (a .heading) k v);
       lines = lineOf (a .heading) k v ∷ [];
     }
 

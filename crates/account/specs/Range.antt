@@ -29,7 +29,7 @@ pub record Warmed (set records : ℕ) : Type 0 where
   pub none : set ≡ 0 → records ≡ 0
   pub some : records ≡ 0 → set ≡ 0
 
--- a heading, its three fields in their ranges, its three day sums 0..366 and its grazed fraction 0..10000; never with fewer than 2 records
+-- a heading, its three fields in their ranges, its three day sums 0..366; never with fewer than 2 records
 pub record Headed (h : Heading) (d : Days) (records : ℕ) : Type 0 where
   pub group-least : 1 ≤ h .group
   pub group-most : h .group ≤ 65535
@@ -39,10 +39,9 @@ pub record Headed (h : Heading) (d : Days) (records : ℕ) : Type 0 where
   pub enteric-most : d .enteric ≤ 366
   pub nitrogen-most : d .nitrogen ≤ 366
   pub pig-most : d .pig ≤ 366
-  pub grazed-most : d .grazed ≤ 10000
   pub records-least : 2 ≤ records
 
--- no heading: all seven zero
+-- no heading: all six zero
 pub record Unheaded (h : Heading) (d : Days) : Type 0 where
   pub group : h .group ≡ 0
   pub class : h .class ≡ 0
@@ -50,7 +49,6 @@ pub record Unheaded (h : Heading) (d : Days) : Type 0 where
   pub enteric : d .enteric ≡ 0
   pub nitrogen : d .nitrogen ≡ 0
   pub pig : d .pig ≡ 0
-  pub grazed : d .grazed ≡ 0
 
 -- sums at most records times 10^11 for CH4, both nitrogens and grazing, 10^10 for N2O, 10^13 for CO2
 pub record Bounded (f : Figures) (records : ℕ) : Type 0 where
@@ -90,6 +88,11 @@ pub record Unrefused (r : Refusal) : Type 0 where
   pub accepted : r .accepted ≡ 0
   pub field : r .field ≡ 0
 
+-- the grazed fraction: 0..10000, zero without a heading
+pub record GrazedIn (group grazed : ℕ) : Type 0 where
+  pub most : grazed ≤ 10000
+  pub none : group ≡ 0 → grazed ≡ 0
+
 -- all of it
 pub record AccountInRange (a : Account) : Type 0 where
   pub counted : Counted (a .stage) (a .records)
@@ -100,6 +103,7 @@ pub record AccountInRange (a : Account) : Type 0 where
   pub ungrouped : a .heading .group ≡ 0 → Ungrouped (a .subtotal)
   pub refused : a .stage ≡ 3 → Numbered (a .refusal) (a .records)
   pub unrefused : (a .stage ≡ 3 → ⊥) → Unrefused (a .refusal)
+  pub grazed : GrazedIn (a .heading .group) (a .grazed)
 
 -- ---- as a test
 
@@ -124,7 +128,6 @@ headedTest h d records =
     && leb (d .enteric) 366
     && leb (d .nitrogen) 366
     && leb (d .pig) 366
-    && leb (d .grazed) 10000
     && leb 2 records
 
 abbrev pub unheadedTest : Heading → Days → Bool
@@ -135,7 +138,6 @@ unheadedTest h d =
     && eqb (d .enteric) 0
     && eqb (d .nitrogen) 0
     && eqb (d .pig) 0
-    && eqb (d .grazed) 0
 
 abbrev pub boundedTest : Figures → ℕ → Bool
 boundedTest f records =
@@ -168,6 +170,9 @@ numberedTest r records =
 abbrev pub unrefusedTest : Refusal → Bool
 unrefusedTest r = eqb (r .code) 0 && eqb (r .accepted) 0 && eqb (r .field) 0
 
+abbrev pub grazedTest : ℕ → ℕ → Bool
+grazedTest group grazed = leb grazed 10000 && (not (eqb group 0) || eqb grazed 0)
+
 unfoldable pub accountInRange : Account → Bool
 accountInRange a =
     countedTest (a .stage) (a .records)
@@ -177,3 +182,4 @@ accountInRange a =
     && (groupedTest (a .subtotal) (a .records) && (not (eqb (a .heading .group) 0) || ungroupedTest (a .subtotal)))
     && (not (eqb (a .stage) 3) || numberedTest (a .refusal) (a .records))
     && (eqb (a .stage) 3 || unrefusedTest (a .refusal))
+    && grazedTest (a .heading .group) (a .grazed)

@@ -59,9 +59,9 @@ quiet a = record { account = a; line = noLine }
 abbrev pub refusing : Account → ℕ → ℕ → Judged
 refusing a code field = quiet (refused a code field)
 
-abbrev pub detailing : Account → ℕ → ℕ → Days → Subtotal → Figures → Judged
-detailing a kind group days subtotal f =
-    record { account = withDetail a days subtotal f; line = record { given = lineSize; kind = kind; group = group; figures = f; co2e = noCo2 } }
+abbrev pub detailing : Account → ℕ → ℕ → Days → ℕ → Subtotal → Figures → Judged
+detailing a kind group days grazed subtotal f =
+    record { account = withDetail a days grazed subtotal f; line = record { given = lineSize; kind = kind; group = group; figures = f; co2e = noCo2 } }
 
 abbrev pub groupLine : Account → Line
 groupLine a =

@@ -20,13 +20,11 @@ pub struct Heading {
     pub head: u16,
 }
 
-// What the records under the heading have used of the year: days for each of kinds 3, 4 and 5, and the fraction of the yearly intake that was
-// grazed. Four numbers of two bytes would be moved as one word, and taken apart at each record.
+// Days under the heading, for each of kinds 3, 4 and 5.
 pub struct Days {
     pub enteric: u16,
     pub nitrogen: u16,
     pub pig: u16,
-    pub grazed: u32,
 }
 
 // Grams: a line's figures, and the sums over all lines.
@@ -54,7 +52,8 @@ pub struct Refusal {
     pub field: u8,
 }
 
-// A state but for its held bytes.
+// A state but for its held bytes. grazed is the fraction of the yearly intake under the heading; in four bytes and last, since beside the days the
+// compiler would move all four numbers as one word, and take it apart at each record.
 pub struct Account {
     pub stage: u8,
     pub records: u16,
@@ -64,6 +63,7 @@ pub struct Account {
     pub subtotal: Subtotal,
     pub sums: Figures,
     pub refusal: Refusal,
+    pub grazed: u32,
 }
 
 // What a whole record does: the account after it, and its lines.
@@ -90,7 +90,6 @@ impl Account {
                 enteric: 0,
                 nitrogen: 0,
                 pig: 0,
-                grazed: 0,
             },
             subtotal: Subtotal {
                 ch4: 0,
@@ -111,6 +110,7 @@ impl Account {
                 accepted: 0,
                 field: 0,
             },
+            grazed: 0,
         }
     }
 
@@ -135,7 +135,6 @@ impl Account {
                 enteric: self.days.enteric,
                 nitrogen: self.days.nitrogen,
                 pig: self.days.pig,
-                grazed: self.days.grazed,
             },
             subtotal: Subtotal {
                 ch4: self.subtotal.ch4,
@@ -156,6 +155,7 @@ impl Account {
                 accepted: self.refusal.accepted,
                 field: self.refusal.field,
             },
+            grazed: self.grazed,
         }
     }
 

@@ -8,7 +8,7 @@ use crate::Subtotal;
 ghost use mathlib.Core.Path.{_≡_};
 ghost use mathlib.Core.Bool.{_&&_, _||_, not};
 ghost use lib.Dec.{eqb};
-ghost use Rattle.account.specs.Range.{countedTest, warmedTest, headedTest, unheadedTest, boundedTest, groupedTest, ungroupedTest, numberedTest, unrefusedTest, accountInRange};
+ghost use Rattle.account.specs.Range.{countedTest, warmedTest, headedTest, unheadedTest, boundedTest, grazedTest, groupedTest, ungroupedTest, numberedTest, unrefusedTest, accountInRange};
 
 fn counted(stage: u8, records: u16) -> bool
     ensures { λ r. ⌜ r ≡ countedTest stage records ⌝ }
@@ -37,7 +37,6 @@ fn headed(h: Heading, d: Days, records: u16) -> bool
         & (d.enteric <= 366)
         & (d.nitrogen <= 366)
         & (d.pig <= 366)
-        & (d.grazed <= 10000)
         & (2 <= records)
 }
 
@@ -50,7 +49,6 @@ fn unheaded(h: Heading, d: Days) -> bool
         & (d.enteric == 0)
         & (d.nitrogen == 0)
         & (d.pig == 0)
-        & (d.grazed == 0)
 }
 
 fn bounded(f: Figures, records: u16) -> bool
@@ -118,6 +116,12 @@ fn under(h: Heading, d: Days, s: Subtotal, records: u16) -> bool
     headed(h, d, records) & grouped(s, records)
 }
 
+fn grazed_in(group: u16, grazed: u32) -> bool
+    ensures { λ r. ⌜ r ≡ grazedTest group grazed ⌝ }
+{
+    (grazed <= 10000) & (!(group == 0) | (grazed == 0))
+}
+
 // The refusal of stage 3, or none.
 fn ended(stage: u8, r: Refusal, records: u16) -> bool
     ensures { λ b. ⌜ b ≡ ((not (eqb stage 3) || numberedTest r records) && (eqb stage 3 || unrefusedTest r)) ⌝ }
@@ -140,4 +144,5 @@ pub fn test(a: Account) -> bool
         & bounded(f, a.records)
         & under(h, d, s, a.records)
         & ended(a.stage, r, a.records)
+        & grazed_in(h.group, a.grazed)
 }

@@ -125,7 +125,23 @@ all-bounded : T (every-place at-bounds)
 unfolding both every at-bounds pairOf lessOf lessTillage
 all-bounded = tt
 
+-- the same of the changes towards less tillage by themselves
+at-less-bounds : ℕ → ℕ → ℕ → Bool
+at-less-bounds zone texture change = let p = lessOf zone texture change in both (leb (natAbs (p .lum)) 1570) (leb (p .k) 403)
+
+all-less-bounded : T (every-place at-less-bounds)
+unfolding both every at-less-bounds lessOf lessTillage
+all-less-bounded = tt
+
 module _ {zone texture change : ℕ} (i : PlaceIn zone texture change) where
+  pub less-lum-most : natAbs (lessOf zone texture change .lum) ≤ 1570
+  unfolding at-less-bounds
+  less-lum-most = leb→le _ _ (left _ _ (at-place at-less-bounds all-less-bounded zone texture change i))
+
+  pub less-k-most : lessOf zone texture change .k ≤ 403
+  unfolding at-less-bounds
+  less-k-most = leb→le _ _ (right _ _ (at-place at-less-bounds all-less-bounded zone texture change i))
+
   signed : pairOf zone texture change .lum ≡ onSide change (natAbs (pairOf zone texture change .lum))
   unfolding at-sign
   signed = sameℤ-is _ _ (at-place at-sign all-signed zone texture change i)

@@ -6,8 +6,8 @@ ghost use Prim.Native.Nat.{_≤_};
 ghost use Rattle.grams.specs.Figure.{Figure};
 ghost use Rattle.grams.specs.Grazing.{pastureFactor, GrazingIn, Grazing};
 
-// Table 2.4.6 of source document 000, in hundredths: cows, heifers, calves.
-const PASTURE: [[u64; 3]; 7] = [
+// Table 2.4.6 of source document 000, in hundredths: cows, heifers, calves; in a byte each, since the code lays the table on the stack.
+const PASTURE: [[u8; 3]; 7] = [
     [190, 134, 116],
     [190, 134, 116],
     [190, 134, 116],
@@ -22,7 +22,7 @@ fn factor_at(region: u64, column: u64) -> u64
     ensures { λ r. ⌜ Figure (pastureFactor region column) 190 r ⌝ }
 {
     let row = PASTURE[(region - 1) as usize];
-    row[(column - 1) as usize]
+    row[(column - 1) as usize] as u64
 }
 
 pub fn grazing(region: u64, column: u64, weight: u64, fraction: u64, head: u64) -> Grazed

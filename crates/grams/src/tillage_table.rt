@@ -7,8 +7,8 @@ ghost use Rattle.grams.specs.Tillage.{entryOf};
 // lumCmax without its sign, in g per square metre, and k in ten-thousandths.
 pub struct Entry(pub u64, pub u64);
 
-// For each zone and texture the three changes towards less tillage, as printed.
-const LESS_TILLAGE: [[u64; 6]; 27] = [
+// For each zone and texture the three changes towards less tillage, as printed; in two bytes each, since the code lays the table on the stack.
+const LESS_TILLAGE: [[u16; 6]; 27] = [
     [143, 262, 441, 284, 584, 306],
     [217, 253, 478, 282, 695, 311],
     [155, 258, 398, 331, 553, 403],
@@ -45,7 +45,7 @@ fn towards_less(zone: u64, texture: u64, n: u64) -> Entry
 {
     let row = LESS_TILLAGE[((zone - 1) * 3 + (texture - 1)) as usize];
     let at = ((n - 1) * 2) as usize;
-    Entry(row[at], row[at + 1])
+    Entry(row[at] as u64, row[at + 1] as u64)
 }
 
 // A change back, 4 to 6, has the numbers of the change that it reverses, but for the two exceptions of the print.

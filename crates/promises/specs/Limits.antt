@@ -75,6 +75,7 @@ from records bytes told =
       subtotal = noRecord .subtotal;
       sums = noRecord .sums;
       refusal = noRecord .refusal;
+      grazed = noRecord .grazed;
     })
     [])
     bytes

@@ -157,7 +157,7 @@ module _ {a : Account} {r : List ℕ} {code field : ℕ} (f : Faulty a r code fi
       v = valuesOf r
 
       go : (x y z : Bool) → eqb (kindOf r) 4 ≡ x → eqb (kindOf r) 5 ≡ y → eqb (kindOf r) 10 ≡ z
-          → pick x (not (eqb (sharesOf v) 10000)) (pick y (ltb 1000 (partsOf v)) false) || (z && ltb 10000 (grazedWith (a .days) v)) ≡ true
+          → pick x (not (eqb (sharesOf v) 10000)) (pick y (ltb 1000 (partsOf v)) false) || (z && ltb 10000 (grazedWith (a .grazed) v)) ≡ true
           → Parted (kindOf r)
       go true y z p q s t = inl (eqb-true _ _ p)
       go false true z p q s t = inr (inl (eqb-true _ _ q))

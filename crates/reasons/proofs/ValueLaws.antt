@@ -53,15 +53,15 @@ module _ {k : ℕ} (v : List ℕ) where
   unfolding table
   fraction-small e b = ranges v (fields 10) 0 (rw e at b) 3 (omega arith) .below
 
-  module _ (d : Days) {n : Numbers} where
+  module _ (g : ℕ) {n : Numbers} where
     pub shares-told : {x y z : ℕ} → k ≡ 4 → x ≡ getD v 6 0 → y ≡ getD v 7 0 → z ≡ getD v 8 0 → n ≡ told (numbers (x + y + z) 10000)
-        → n ≡ partsTold d k v
+        → n ≡ partsTold g k v
     shares-told e p q s t = t ∙ rw (p, q, s, eq-eqb _ _ e) refl
 
-    pub parts-told : {x y : ℕ} → (k ≡ 4 → ⊥) → k ≡ 5 → x ≡ getD v 8 0 → y ≡ getD v 10 0 → n ≡ told (numbers (x + y) 1000) → n ≡ partsTold d k v
+    pub parts-told : {x y : ℕ} → (k ≡ 4 → ⊥) → k ≡ 5 → x ≡ getD v 8 0 → y ≡ getD v 10 0 → n ≡ told (numbers (x + y) 1000) → n ≡ partsTold g k v
     parts-told e f p q t = t ∙ rw (p, q, ne-eqb _ _ e, eq-eqb _ _ f) refl
 
-    pub fractions-told : {x : ℕ} → (k ≡ 4 → ⊥) → (k ≡ 5 → ⊥) → x ≡ getD v 3 0 → n ≡ told (numbers (d .grazed + x) 10000) → n ≡ partsTold d k v
+    pub fractions-told : {x : ℕ} → (k ≡ 4 → ⊥) → (k ≡ 5 → ⊥) → x ≡ getD v 3 0 → n ≡ told (numbers (g + x) 10000) → n ≡ partsTold g k v
     fractions-told e f p t = t ∙ rw (p, ne-eqb _ _ e, ne-eqb _ _ f) refl
 
 -- the last of the three kinds
@@ -85,7 +85,7 @@ module _ (a : Account) (k : ℕ) (v : List ℕ) {c : ℕ} {n : Numbers} where
   unfolding valuesCompared
   by-nine e p q t = t ∙ rw (e, q, p) refl
 
-  pub by-ten : c ≡ 10 → n ≡ partsTold (a .days) k v → n ≡ told (valuesCompared c a k v)
+  pub by-ten : c ≡ 10 → n ≡ partsTold (a .grazed) k v → n ≡ told (valuesCompared c a k v)
   unfolding valuesCompared
   by-ten e t = t ∙ rw e refl
 

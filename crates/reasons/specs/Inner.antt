@@ -32,9 +32,9 @@ pub record Sized (r : List ℕ) : Type 0 where
 abbrev pub Parted : ℕ → Type 0
 Parted k = (k ≡ 4) ⊎ ((k ≡ 5) ⊎ (k ≡ 10))
 
--- what is compared of them, with the days d behind the records before
-abbrev pub partsTold : Days → ℕ → List ℕ → Numbers
-partsTold d k v = told (pick (eqb k 4) (numbers (sharesOf v) 10000) (pick (eqb k 5) (numbers (partsOf v) 1000) (numbers (grazedWith d v) 10000)))
+-- what is compared of them, with the fraction grazed before
+abbrev pub partsTold : ℕ → ℕ → List ℕ → Numbers
+partsTold g k v = told (pick (eqb k 4) (numbers (sharesOf v) 10000) (pick (eqb k 5) (numbers (partsOf v) 1000) (numbers (grazedWith g v) 10000)))
 
 -- the whole record r is refused by the number code, with that field
 pub record Faulty (a : Account) (r : List ℕ) (code field : ℕ) : Type 0 where

@@ -84,9 +84,9 @@ fn days_with(days: Days, kind: u8, more: u64) -> u64
 }
 
 // A cattle record's shares together, a pig record's parts, or the grazed fractions with this record's.
-fn together(days: Days, r: &[u8], kind: u8) -> Numbers
+fn together(grazed: u32, r: &[u8], kind: u8) -> Numbers
     requires { ⌜ Sized (now r) × (kind ≡ kindOf (now r)) × (badField kind (valuesOf (now r)) ≡ 0) × Parted kind ⌝ }
-    ensures { λ n. ⌜ n ≡ partsTold days kind (valuesOf (now (r .entry))) ⌝ }
+    ensures { λ n. ⌜ n ≡ partsTold grazed kind (valuesOf (now (r .entry))) ⌝ }
 {
     if kind == 4 {
         return both(
@@ -97,7 +97,7 @@ fn together(days: Days, r: &[u8], kind: u8) -> Numbers
     if kind == 5 {
         return both(value_at(r, kind, 8) + value_at(r, kind, 10), 1000);
     }
-    both(days.grazed as u64 + value_at(r, kind, 3), 10000)
+    both(grazed as u64 + value_at(r, kind, 3), 10000)
 }
 
 // The numbers from 5 on: what is compared of the values.
@@ -113,7 +113,7 @@ fn of_values(a: Account, r: &[u8], code: u8, field: u8) -> Numbers
         7 => out_of_range(r, kind, field),
         8 => both(first, heading.group as u64),
         9 => both(days_with(days, kind, first), 366),
-        10 => together(days, r, kind),
+        10 => together(a.grazed, r, kind),
         12 => both(first, a.records as u64),
         _ => none(),
     }

@@ -55,7 +55,7 @@ pub fn weigh(a: Account, v: [u64; 9], room: usize) -> Judged
         CattleNitrogen::BelowZero => wrong(a, 11, 0),
         CattleNitrogen::Given(m) => {
             let f = cattle_figures(m);
-            grouped_detail(a, 4, h.group, days, f, room)
+            grouped_detail(a, 4, h.group, days, a.grazed, f, room)
         }
     }
 }

@@ -30,5 +30,5 @@ pub fn weigh(a: Account, v: [u64; 3], room: usize) -> Judged
     days.enteric = sum as u16;
     let ch4 = grams::cattle::enteric(v[1], v[2], h.head as u64, v[0]);
     let f = ch4_alone(ch4);
-    grouped_detail(a, 3, h.group, days, f, room)
+    grouped_detail(a, 3, h.group, days, a.grazed, f, room)
 }

@@ -32,7 +32,6 @@ fn headed(a: Account, h: Heading, room: usize) -> Judged
         enteric: 0,
         nitrogen: 0,
         pig: 0,
-        grazed: 0,
     };
     let zero = Subtotal {
         ch4: 0,
@@ -44,6 +43,7 @@ fn headed(a: Account, h: Heading, room: usize) -> Judged
     next.records = a.records + 1;
     next.heading = h;
     next.days = none;
+    next.grazed = 0;
     next.subtotal = zero;
     Judged {
         account: next,

@@ -42,18 +42,19 @@ pub(crate) fn full(a: Account, line: Line) -> Judged
     }
 }
 
-// One record more, with its days, its group's subtotal, its figures and its line.
+// One record more, with its days, its grazed fraction, its group's subtotal, its figures and its line.
 pub(crate) fn detailed(
     a: Account,
     kind: u8,
     group: u16,
     days: Days,
+    grazed: u32,
     subtotal: Subtotal,
     f: Figures,
     room: usize,
 ) -> Judged
     requires { ⌜ (a .records < 4096) × Bounded (a .sums) 4096 × Small f ⌝ }
-    ensures { λ r. ⌜ r ≡ inRoom room a (detailing a kind group days subtotal f) ⌝ }
+    ensures { λ r. ⌜ r ≡ inRoom room a (detailing a kind group days grazed subtotal f) ⌝ }
 {
     let line = Line {
         given: codec::LINE_SIZE,
@@ -70,6 +71,7 @@ pub(crate) fn detailed(
     let mut next = a.by_fields();
     next.records = a.records + 1;
     next.days = days;
+    next.grazed = grazed;
     next.subtotal = subtotal;
     next.sums = more;
     Judged {
@@ -84,15 +86,16 @@ pub(crate) fn grouped_detail(
     kind: u8,
     group: u16,
     days: Days,
+    grazed: u32,
     f: Figures,
     room: usize,
 ) -> Judged
     requires { ⌜ (a .records < 4096) × Bounded (a .sums) 4096 × Grouped (a .subtotal) 4096 × Small f ⌝ }
-    ensures { λ r. ⌜ r ≡ inRoom room a (detailing a kind group days (grouped (a .subtotal) f) f) ⌝ }
+    ensures { λ r. ⌜ r ≡ inRoom room a (detailing a kind group days grazed (grouped (a .subtotal) f) f) ⌝ }
 {
     let s = a.subtotal;
     let subtotal = sub_summed(s, f);
-    detailed(a, kind, group, days, subtotal, f, room)
+    detailed(a, kind, group, days, grazed, subtotal, f, room)
 }
 
 // The line of a group with this subtotal; no line where there was no heading.

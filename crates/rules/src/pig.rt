@@ -63,5 +63,5 @@ pub fn weigh(a: Account, v: [u64; 12], room: usize) -> Judged
     days.pig = sum as u16;
     let m = grams::pig::manure(pig_ration(v), h.head as u64);
     let f = pig_figures(m);
-    grouped_detail(a, 5, h.group, days, f, room)
+    grouped_detail(a, 5, h.group, days, a.grazed, f, room)
 }

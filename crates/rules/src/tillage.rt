@@ -24,5 +24,5 @@ pub fn weigh(a: Account, v: [u64; 5], room: usize) -> Judged
     let f = co2_alone(co2);
     let days = a.days;
     let subtotal = a.subtotal;
-    detailed(a, 9, 0, days, subtotal, f, room)
+    detailed(a, 9, 0, days, a.grazed, subtotal, f, room)
 }

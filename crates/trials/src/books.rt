@@ -56,7 +56,6 @@ fn days_of(v: [u64; 24]) -> Days {
         enteric: (v[6] % 65536) as u16,
         nitrogen: (v[7] % 65536) as u16,
         pig: (v[8] % 65536) as u16,
-        grazed: (v[9] % 65536) as u32,
     }
 }
 
@@ -107,6 +106,7 @@ fn account_of(v: [u64; 24]) -> Account {
         subtotal: subtotal,
         sums: sums,
         refusal: refusal,
+        grazed: (v[9] % 65536) as u32,
     }
 }
 
@@ -140,7 +140,7 @@ fn put_head(out: &mut [u8], at: usize, a: Account) -> usize {
         d.enteric as u64,
         d.nitrogen as u64,
         d.pig as u64,
-        d.grazed as u64,
+        a.grazed as u64,
     ];
     put_words(out, at, &values)
 }

@@ -4,7 +4,10 @@ use Rattle.account.proofs.range.test.Statement.{statement}
 use Rattle.account.proofs.range.test.Tie as tie
 
 returns : tie.Need-returns
-returns c = rw (c .ended .ensures, c .before .under .ensures, c .before .before .bounded .ensures, c .before .before .before .started .ensures) (in-parts (c .before .before .before .before .before .before .before .before .before .args .a))
+returns c =
+    let e = c .before in
+    rw (c .grazed-in .ensures, e .ended .ensures, e .before .under .ensures, e .before .before .bounded .ensures, e .before .before .before .started .ensures)
+    (in-parts (e .before .before .before .before .before .before .before .before .before .args .a))
 
 pub test-spec : {M : Type 1} → statement M
-test-spec = tie.close (tie.spec (λ c κs. tt) (λ c κs. tt) (λ c κs. tt) (λ c κs. tt) returns)
+test-spec = tie.close (tie.spec (λ c κs. tt) (λ c κs. tt) (λ c κs. tt) (λ c κs. tt) (λ c κs. tt) returns)

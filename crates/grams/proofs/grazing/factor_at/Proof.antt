@@ -3,10 +3,14 @@ use borrow.Author.Needs.{needs}
 use native.Mathlib.Omega.{arith}
 use mathlib.Core.Path.{refl}
 use Rattle.grams.specs.Grazing.{pastureTable, pastureFactor}
-use Rattle.grams.proofs.Bounds.{figure}
+use Rattle.grams.proofs.Bounds.{figure, fits}
 use Rattle.grams.proofs.Parts.{factor-most}
 use Rattle.grams.proofs.grazing.factor_at.Statement.{statement}
 use Rattle.grams.proofs.grazing.factor_at.Tie as tie
+
+cast-result : tie.Need-cast-result
+unfolding pastureTable pastureFactor
+cast-result c = let p = c .before .pre in fits (factor-most _ _ (p .0, p .1) (p .2, p .3)) tt
 
 returns : tie.Need-returns
 unfolding pastureTable pastureFactor
@@ -21,5 +25,5 @@ factor-at-spec =
     (λ c. search needs)
     (λ c. omega arith)
     (λ c. search needs)
-    (λ c. search needs)
+    cast-result
     returns)

@@ -25,7 +25,7 @@ together-spec =
     let v = c .before in
     let t = v .before .before .before in
     let s = t .before .before in
-    shares-told (valuesOf (s .args .r .now)) (s .args .days) (t .if1 .taken) (v .before .before .value-at .ensures) (v .before .value-at2 .ensures)
+    shares-told (valuesOf (s .args .r .now)) (s .args .grazed) (t .if1 .taken) (v .before .before .value-at .ensures) (v .before .value-at2 .ensures)
     (v .value-at3 .ensures) (c .both .ensures))
     (λ c κs. search needs)
     (λ c κs. search needs)
@@ -38,7 +38,7 @@ together-spec =
     let v = c .before in
     let t = v .before .before in
     let s = t .before .before .before in
-    parts-told (valuesOf (s .args .r .now)) (s .args .days) (t .before .if1 .left) (t .if2 .taken) (v .before .value-at4 .ensures)
+    parts-told (valuesOf (s .args .r .now)) (s .args .grazed) (t .before .if1 .left) (t .if2 .taken) (v .before .value-at4 .ensures)
     (v .value-at5 .ensures) (c .both2 .ensures))
     (λ c. search needs)
     (λ c κs. search needs)
@@ -52,4 +52,4 @@ together-spec =
     let v = c .before in
     let t = v .before .before in
     let s = t .before .before .before in
-    fractions-told (valuesOf (s .args .r .now)) (s .args .days) (t .before .if1 .left) (t .if2 .left) (v .value-at6 .ensures) (c .both3 .ensures)))
+    fractions-told (valuesOf (s .args .r .now)) (s .args .grazed) (t .before .if1 .left) (t .if2 .left) (v .value-at6 .ensures) (c .both3 .ensures)))

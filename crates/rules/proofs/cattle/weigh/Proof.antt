@@ -66,7 +66,7 @@ returns-5 c =
       c .before .cattle-figures .ensures,
       rw (c .before .before .before .before .before .before .before .cattle-ration .ensures) at manure,
     )
-    (tells-detail (c .before .before .before .before .before .before .before .before .before .before .before .before .before .before .before .before .before .args .a) _ _ _ _ _))
+    (tells-detail (c .before .before .before .before .before .before .before .before .before .before .before .before .before .before .before .before .before .args .a) _ _ _ _ _ _))
 
 pub weigh-spec : {M : Type 1} → statement M
 weigh-spec =

@@ -40,7 +40,7 @@ unfolding first accepted figuresOf sortOf
 returns-3 c =
     told-in _ _ _ _ _ (c .grouped-detail .ensures)
     (rw (accepts _ 3 _ (passed (c .before .before .before .before .before .before .before)) (rw (le-ltb _ _ (c .before .before .before .before .if2 .left))), c .before .ch4-alone .ensures, c .before .before .enteric .ensures .exact)
-    (tells-detail (c .before .before .before .before .before .before .before .before .before .before .before .before .args .a) _ _ _ _ _))
+    (tells-detail (c .before .before .before .before .before .before .before .before .before .before .before .before .args .a) _ _ _ _ _ _))
 
 pub weigh-spec : {M : Type 1} → statement M
 weigh-spec =

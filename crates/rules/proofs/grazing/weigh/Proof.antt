@@ -7,7 +7,7 @@ use Rattle.account.specs.Figures.{figuresOf}
 use Rattle.account.specs.Sorts.{sortOf}
 use Rattle.account.specs.Judge.{inPlace, first, accepted}
 use Rattle.account.proofs.Ranges.{grazing-in, grazing-fraction}
-use Rattle.account.proofs.Told.{head-most, days-most, sums-most, subtotal-most, small-grazing, tells-detail, told-in, Passes, passes, stops, refuses, accepts}
+use Rattle.account.proofs.Told.{head-most, sums-most, subtotal-most, small-grazing, tells-detail, told-in, Passes, passes, stops, refuses, accepts}
 use Rattle.rules.proofs.grazing.weigh.Statement.{statement}
 use Rattle.rules.proofs.grazing.weigh.Tie as tie
 
@@ -22,25 +22,25 @@ passed c = passes _ 10 _ _ _ _ (c .before .before .cattle-placed .ensures) (c .b
 
 add-sum : tie.Need-add-sum
 add-sum c =
-    let d = days-most _ (c .before .before .before .before .before .before .before .pre .0) in
-    omega (arith, grazing-fraction _ (passed (c .before .before) .ranges))
+    let g = c .before .before .before .before .before .before .pre .0 .grazed .most in
+    omega (arith, g, grazing-fraction _ (passed (c .before) .ranges))
 
 returns-2 : tie.Need-returns-2
 unfolding first
-returns-2 c = refuses _ 10 _ (passed (c .before .before .before .before)) _ 10 _ (rw (lt-ltb _ _ (c .before .if2 .taken))) refl refl (c .wrong .ensures)
+returns-2 c = refuses _ 10 _ (passed (c .before .before .before)) _ 10 _ (rw (lt-ltb _ _ (c .before .if2 .taken))) refl refl (c .wrong .ensures)
 
 grazing-requires : tie.Need-grazing-requires
-grazing-requires c κs = grazing-in _ _ (head-most _ (c .before .before .before .before .before .before .before .before .before .pre .0)) (passed (c .before .before .before .before) .ranges)
+grazing-requires c κs = grazing-in _ _ (head-most _ (c .before .before .before .before .before .before .before .before .pre .0)) (passed (c .before .before .before) .ranges)
 
 grouped-detail-requires : tie.Need-grouped-detail-requires
-grouped-detail-requires c κs = (passed (c .before .before .before .before .before .before) .room, sums-most _ (c .before .before .before .before .before .before .before .before .before .before .before .pre .0), subtotal-most _ (c .before .before .before .before .before .before .before .before .before .before .before .pre .0), small-grazing _ _ (c .grazing-alone .ensures) (c .before .grazing .ensures .small))
+grouped-detail-requires c κs = (passed (c .before .before .before .before .before .before) .room, sums-most _ (c .before .before .before .before .before .before .before .before .before .before .before .pre .0), subtotal-most _ (c .before .before .before .before .before .before .before .before .before .before .before .pre .0), small-grazing _ _ (c .before .grazing-alone .ensures) (c .before .before .grazing .ensures .small))
 
 returns-3 : tie.Need-returns-3
 unfolding first accepted figuresOf sortOf
 returns-3 c =
     told-in _ _ _ _ _ (c .grouped-detail .ensures)
-    (rw (accepts _ 10 _ (passed (c .before .before .before .before .before .before .before)) (rw (le-ltb _ _ (c .before .before .before .before .if2 .left))), c .before .grazing-alone .ensures, c .before .before .grazing .ensures .exact)
-    (tells-detail (c .before .before .before .before .before .before .before .before .before .before .before .before .args .a) _ _ _ _ _))
+    (rw (accepts _ 10 _ (passed (c .before .before .before .before .before .before .before)) (rw (le-ltb _ _ (c .before .before .before .before .before .if2 .left))), c .before .before .grazing-alone .ensures, c .before .before .before .grazing .ensures .exact)
+    (tells-detail (c .before .before .before .before .before .before .before .before .before .before .before .before .args .a) _ _ _ _ _ _))
 
 pub weigh-spec : {M : Type 1} → statement M
 weigh-spec =
@@ -61,8 +61,8 @@ weigh-spec =
     (λ c. search needs)
     (λ c. search needs)
     (λ c. search needs)
-    (λ c. search needs)
     grazing-requires
     (λ c κs. tt)
+    (λ c. search needs)
     grouped-detail-requires
     returns-3)

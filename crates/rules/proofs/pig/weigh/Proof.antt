@@ -50,7 +50,7 @@ returns-4 c =
       c .before .before .manure .ensures .exact,
       c .before .before .before .before .pig-ration .ensures,
     )
-    (tells-detail (c .before .before .before .before .before .before .before .before .before .before .before .before .before .before .args .a) _ _ _ _ _))
+    (tells-detail (c .before .before .before .before .before .before .before .before .before .before .before .before .before .before .args .a) _ _ _ _ _ _))
 
 pub weigh-spec : {M : Type 1} → statement M
 weigh-spec =
