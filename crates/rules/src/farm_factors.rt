@@ -19,12 +19,13 @@ pub fn weigh(a: Account, v: [u64; 4], room: usize) -> Judged
     if code != 0 {
         return stopped(a, code, bad);
     }
-    let mut next = a.by_fields();
-    next.stage = 1;
-    next.records = a.records + 1;
-    next.factors = Factors {
+    let factors = Factors {
         ch4: v[2] as u16,
         n2o: v[3] as u16,
     };
+    let mut next = a.by_fields();
+    next.stage = 1;
+    next.records = a.records + 1;
+    next.factors = factors;
     silent(next)
 }
