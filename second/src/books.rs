@@ -4,6 +4,7 @@ use crate::dice::Dice;
 use crate::feed::feed;
 use crate::figures::x_of;
 use crate::kind;
+use crate::plain::plain_values;
 use crate::record::{fields_of, fields_with, length_of, record_of, Field};
 use crate::state::{State, LARGE, MOST_RECORDS, NO_RECORD, OPEN};
 use crate::states::some_factors;
@@ -85,6 +86,11 @@ pub fn in_either_version(dice: &mut Dice, mut v: Vec<u64>) -> Vec<u64> {
         v.extend([drawn.ch4, drawn.n2o].map(u64::from));
     }
     v
+}
+
+/// A plain farm record, of version 2 half of the time where the dice know it.
+pub fn some_farm(dice: &mut Dice) -> Vec<u8> {
+    record_of(kind::FARM, &in_either_version(dice, plain_values(kind::FARM)))
 }
 
 /// 225 mg, on an area whose CO2 is an exact half, of either sign: 225 × 11 / 30 is 82.5.

@@ -1,6 +1,6 @@
 //! Damaged books by chance: right books whose records are spoilt, lost, doubled, exchanged or cut.
 
-use crate::books::{after, closed_run, in_either_version, right_close, right_record, wrong_record};
+use crate::books::{after, closed_run, right_close, right_record, some_farm, wrong_record};
 use crate::desk::{long_book, many_groups};
 use crate::dice::{Dice, Seed};
 use crate::kind;
@@ -43,14 +43,9 @@ fn cut(dice: &mut Dice, mut book: Vec<u8>) -> Vec<u8> {
     book
 }
 
-/// A plain farm record, of version 2 now and then where the dice know it.
-fn farm(dice: &mut Dice) -> Vec<u8> {
-    record_of(kind::FARM, &in_either_version(dice, plain_values(kind::FARM)))
-}
-
 /// Records of any bytes, right in their lengths alone.
 fn short_records(dice: &mut Dice) -> Vec<u8> {
-    let mut book = farm(dice);
+    let mut book = some_farm(dice);
     for _ in 0..dice.between(1, 60) {
         let length = dice.between(4, 26);
         book.extend([0, length as u8]);
@@ -87,8 +82,8 @@ fn headless(dice: &mut Dice) -> Vec<u8> {
     let rest = whole[2 + usize::from(whole[1])..].to_vec();
     match dice.below(4) {
         0 => rest,
-        1 => [rest, farm(dice)].concat(),
-        2 => [farm(dice), farm(dice), rest.clone(), farm(dice), rest].concat(),
+        1 => [rest, some_farm(dice)].concat(),
+        2 => [some_farm(dice), some_farm(dice), rest.clone(), some_farm(dice), rest].concat(),
         _ => [right_close(&start), whole].concat(),
     }
 }
@@ -108,7 +103,7 @@ fn beside_the_most(dice: &mut Dice, round: u64) -> Vec<u8> {
 
 /// As many dropped records as the longest damaged book has, some bytes fewer or more.
 fn beside_the_longest(dice: &mut Dice, round: u64) -> Vec<u8> {
-    let mut book = farm(dice);
+    let mut book = some_farm(dice);
     let record: [u8; 6] = dice.of(&[[0, 4, 2, 8, 0, 0], [0, 4, 1, 3, 0, 0], [0, 4, 1, 2, 1, 1]]);
     while book.len() < LONGEST {
         book.extend(record);
@@ -147,7 +142,7 @@ fn spoil(dice: &mut Dice, state: &State, right: &[u8]) -> Vec<u8> {
     match dice.below(12) {
         0 => Vec::new(),
         1 => [right, right].concat(),
-        2 => [farm(dice), right.to_vec()].concat(),
+        2 => [some_farm(dice), right.to_vec()].concat(),
         3 => group(dice, state),
         4 => with(right, 2, dice.of(&[0, 2, 255])),
         5 => with(right, 3, some_kind(dice, &[0, 1, 2, 3, 4, 5, 6, 7, 8, 9, 255])),

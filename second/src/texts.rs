@@ -133,7 +133,7 @@ fn odd_text(dice: &mut Dice, which: u64) -> Vec<u8> {
 
 /// More records than a book has room for.
 fn too_many_records(dice: &mut Dice) -> Vec<u8> {
-    let mut text = some_farm(dice).into_bytes();
+    let mut text = farm_line(dice).into_bytes();
     let count = dice.between(u64::from(MOST_RECORDS) - 3, u64::from(MOST_RECORDS) + 30);
     for i in 0..count {
         let line = match i % 4 {
@@ -151,7 +151,7 @@ fn too_many_records(dice: &mut Dice) -> Vec<u8> {
 }
 
 /// A right farm line, of either version.
-fn some_farm(dice: &mut Dice) -> String {
+fn farm_line(dice: &mut Dice) -> String {
     let values: Vec<String> =
         in_either_version(dice, plain_values(kind::FARM)).iter().map(u64::to_string).collect();
     format!("farm {}\n", values.join(" "))
@@ -169,8 +169,8 @@ fn many_farms(dice: &mut Dice) -> Vec<u8> {
         }
         text += &format!("{}\n", words.join(" "));
     }
-    text += &some_farm(dice);
-    text += &some_farm(dice);
+    text += &farm_line(dice);
+    text += &farm_line(dice);
     text += dice.of(&["", "heading 1 1 40\nenteric 31 30000 650\n"]);
     text += "close\n";
     text.into_bytes()

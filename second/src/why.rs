@@ -1,7 +1,7 @@
 //! Document 02, W6: why a book is refused, and books to ask it of.
 
 use crate::books::{
-    after, closed_run, damaged_run, in_either_version, right_close, right_values, values_outside,
+    after, closed_run, damaged_run, right_close, right_values, some_farm, values_outside,
 };
 use crate::damages::damaged;
 use crate::dice::Dice;
@@ -189,14 +189,9 @@ fn beyond_each_end() -> Vec<Vec<u8>> {
     books
 }
 
-/// A plain farm record, of version 2 now and then.
-fn farm(dice: &mut Dice) -> Vec<u8> {
-    record_of(kind::FARM, &in_either_version(dice, plain_values(kind::FARM)))
-}
-
 /// A book of 4,096 records without a close, and one record more.
 fn one_too_many(dice: &mut Dice) -> Vec<u8> {
-    let mut book = farm(dice);
+    let mut book = some_farm(dice);
     for _ in 1..=MOST_RECORDS {
         book.extend(record_of(kind::SOIL, &[1]));
     }
@@ -205,7 +200,8 @@ fn one_too_many(dice: &mut Dice) -> Vec<u8> {
 
 /// Grazing records whose fractions pass the whole with the last, which may be one of several.
 fn too_much_grazing(dice: &mut Dice) -> Vec<u8> {
-    let mut book = [farm(dice), record_of(kind::HEADING, &[12, dice.between(1, 3), 40])].concat();
+    let mut book =
+        [some_farm(dice), record_of(kind::HEADING, &[12, dice.between(1, 3), 40])].concat();
     let mut state = after(&State::default(), &book);
     while state.heading.grazed == 0 || dice.one_in(3) {
         let record = record_of(kind::GRAZING, &right_values(dice, &state, kind::GRAZING));
@@ -238,8 +234,8 @@ pub fn doubtful(seed: u64, index: u64) -> Vec<u8> {
         2 => [closed_run(dice, &start, count), vec![0, 0, 1]].concat(),
         3 => damaged(seed, index),
         5 if index % 40 == 5 => one_of(of_no_version(), index / 40),
-        7 if index % 100 == 7 => one_too_many(dice),
         7 if index % 40 == 27 => one_of(of_wrong_length(), index / 40),
+        7 if index % 100 == 7 => one_too_many(dice),
         13 if index % 40 == 13 => too_much_grazing(dice),
         4..=15 => damaged_run(dice, &start, (index % 20 - 3) as u8),
         _ => {
