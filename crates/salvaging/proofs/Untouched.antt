@@ -127,8 +127,9 @@ module _ (s : Reading) (xs : List ℕ) (o : Open s) (l : s .lost ≡ false) (b :
   -- the close
   at-close : Bytes xs → kindByte (leading xs) ≡ 8 → Same s xs
   at-close y k =
+      let q : kindOf (leading xs) ≡ 8 = eight-row (versionOf (leading xs)) (kindByte (leading xs)) k in
       let d : rest xs ≡ [] =
-      rw (closes-book (s .account) (leading xs) (b .gets) (eight-row (versionOf (leading xs)) (kindByte (leading xs)) k), book-ended (closed (s .account)) (rest xs) (omega arith)) at (b .behind .left) in
+      rw (closes-book (s .account) (leading xs) (b .gets) q, book-ended (closed (s .account)) (rest xs) (omega arith)) at (b .behind .left) in
       let t : leading xs ≡ xs = sym (append-nil (leading xs)) ∙ ap (λ (z : List ℕ). leading xs ++ z) (sym d) ∙ take-append-drop (need xs) xs in
       let e : ends s (leading xs) ≡ true = or-left (leb 4095 (s .account .records)) _ (λ z. rw (k, is-kept)) in
       let n : foundIn s xs ≡ nothing = rw (records-whole xs (b .is-whole)) (found-ends s (leading xs) (recordsOf (rest xs)) e) in
@@ -144,7 +145,8 @@ module _ (s : Reading) (xs : List ℕ) (o : Open s) (l : s .lost ≡ false) (b :
         ⊎-elim (λ (h : s .account .records < 4095). h)
         (λ (h : 4095 ≤ s .account .records).
         let j = judge (s .account) (leading xs) .account in
-        absurd (never-closed j (rest xs) (g .early (λ z. k (row-eight (versionOf (leading xs)) (kindByte (leading xs)) z)) (o .early)) (omega (arith, g .records, h)) (b .behind)))
+        let early = g .early (λ z. k (row-eight (versionOf (leading xs)) (kindByte (leading xs)) z)) (o .early) in
+        absurd (never-closed j (rest xs) early (omega (arith, g .records, h)) (b .behind)))
         (lt-or-ge (s .account .records) 4095)
 
     goes : ends s (leading xs) ≡ false
