@@ -53,7 +53,7 @@ extern "C" {
 enum {
     HERD_DESK_CLOSED = 0,               /* the book is right: it ends with its close */
     HERD_DESK_NO_SUCH_LENGTH = 1,       /* refused: a length that no record has */
-    HERD_DESK_OTHER_VERSION = 2,        /* refused: another version than 1 */
+    HERD_DESK_OTHER_VERSION = 2,        /* refused: neither version 1, nor 2 of a farm record */
     HERD_DESK_NO_SUCH_KIND = 3,         /* refused: no such kind of record, which is 1 to 10 */
     HERD_DESK_WRONG_LENGTH = 4,         /* refused: another length than the kind's */
     HERD_DESK_TOO_MANY_RECORDS = 5,     /* refused: more than 4,096 records */
@@ -97,7 +97,7 @@ static inline const char *herd_desk_words(uint32_t code) {
     switch (code) {
     case HERD_DESK_CLOSED: return "closed";
     case HERD_DESK_NO_SUCH_LENGTH: return "a length that no record has: it is 4 to 26";
-    case HERD_DESK_OTHER_VERSION: return "the version is not 1";
+    case HERD_DESK_OTHER_VERSION: return "the version is not 1, nor 2 of a farm record";
     case HERD_DESK_NO_SUCH_KIND: return "no such kind of record: kinds are 1 to 10";
     case HERD_DESK_WRONG_LENGTH: return "a wrong length or count of values";
     case HERD_DESK_TOO_MANY_RECORDS: return "the book has 4096 records, and no more go in";

@@ -4,8 +4,10 @@ use crate::dice::Dice;
 use crate::feed::feed;
 use crate::figures::x_of;
 use crate::kind;
-use crate::record::{fields_of, length_of, record_of};
+use crate::plain::plain_values;
+use crate::record::{fields_of, fields_with, length_of, record_of, Field};
 use crate::state::{State, LARGE, MOST_RECORDS, NO_RECORD, OPEN};
+use crate::states::some_factors;
 
 /// The state after these bytes, however many lines they give.
 pub fn after(state: &State, bytes: &[u8]) -> State {
@@ -49,8 +51,9 @@ fn kinds_allowed(dice: &Dice, state: &State) -> Vec<u8> {
 /// Values of this kind that are right in themselves and right after the state.
 pub fn right_values(dice: &mut Dice, state: &State, kind: u8) -> Vec<u64> {
     let mut v: Vec<u64> =
-        fields_of(kind).iter().map(|f| dice.edgy(u64::from(f.low), u64::from(f.high))).collect();
+        fields_of(kind, 1).iter().map(|f| dice.edgy(u64::from(f.low), u64::from(f.high))).collect();
     match kind {
+        kind::FARM => v = in_either_version(dice, v),
         kind::HEADING => v[0] = next_group(dice, state),
         kind::ENTERIC => {
             v[0] = some_days(dice, state, kind);
@@ -73,6 +76,21 @@ pub fn right_values(dice: &mut Dice, state: &State, kind: u8) -> Vec<u64> {
         _ => (),
     }
     v
+}
+
+/// A farm record's values, or half of the time version 2's with factors in place of the set, where the dice know them.
+pub fn in_either_version(dice: &mut Dice, mut v: Vec<u64>) -> Vec<u64> {
+    if dice.knows_factors() && dice.one_in(2) {
+        let drawn = some_factors(dice);
+        v.truncate(2);
+        v.extend([drawn.ch4, drawn.n2o].map(u64::from));
+    }
+    v
+}
+
+/// A plain farm record, of version 2 half of the time where the dice know it.
+pub fn some_farm(dice: &mut Dice) -> Vec<u8> {
+    record_of(kind::FARM, &in_either_version(dice, plain_values(kind::FARM)))
 }
 
 /// 225 mg, on an area whose CO2 is an exact half, of either sign: 225 × 11 / 30 is 82.5.
@@ -166,8 +184,8 @@ pub fn wrong_record(dice: &mut Dice, state: &State, number: u8) -> Option<Vec<u8
     let full = state.records >= MOST_RECORDS;
     match number {
         1 => Some(bad_length(dice, state)),
-        2 => Some(with_byte(dice, state, 2, &[0, 2, 3, 128, 255])),
-        3 => Some(with_byte(dice, state, 3, &[0, 11, 12, 16, 128, 255])),
+        2 => Some(of_no_version(dice, state)),
+        3 => Some(of_no_kind(dice, state)),
         4 => Some(length_of_another(dice, state)),
         5 => full.then(|| any_record(dice, state)),
         _ if full => None,
@@ -196,16 +214,33 @@ fn any_record(dice: &mut Dice, state: &State) -> Vec<u8> {
     record_of(kind, &right_values(dice, state, kind))
 }
 
-fn with_byte(dice: &mut Dice, state: &State, at: usize, bytes: &[u8]) -> Vec<u8> {
+/// A version that the record's kind has not; version 2 is a farm record's alone, whose kind byte may be lost.
+fn of_no_version(dice: &mut Dice, state: &State) -> Vec<u8> {
     let mut record = any_record(dice, state);
-    record[at] = dice.of(bytes);
+    if record[3] != kind::FARM {
+        record[2] = dice.of(&[0, 2, 3, 128, 255]);
+    } else if record[2] == 2 && dice.one_in(2) {
+        record[3] = dice.of(&[0, 2, 3, 8, 10, 11, 255]);
+    } else {
+        record[2] = dice.of(&[0, 4, 3, 128, 255]);
+    }
     record
 }
 
-/// The length of another kind, or no kind's, with as many bytes as it says.
+fn of_no_kind(dice: &mut Dice, state: &State) -> Vec<u8> {
+    let mut record = any_record(dice, state);
+    record[2..4].copy_from_slice(&[1, dice.of(&[0, 11, 12, 16, 128, 255])]);
+    record
+}
+
+/// The length of another kind or version, or none's, with as many bytes as it says.
 fn length_of_another(dice: &mut Dice, state: &State) -> Vec<u8> {
     let mut record = any_record(dice, state);
-    let right = length_of(record[3]);
+    if record[3] == kind::FARM && dice.knows_factors() && dice.one_in(2) {
+        record[2] = 3 - record[2];
+        return record;
+    }
+    let right = length_of(record[3], record[2]);
     let neighbour = if dice.one_in(2) { right + 1 } else { right - 1 };
     let drawn = dice.between(4, 26) as u16;
     let length =
@@ -228,8 +263,7 @@ fn out_of_place(dice: &mut Dice, state: &State) -> Option<Vec<u8>> {
 }
 
 /// Values just outside a field's range, or far outside, that its bytes can still say.
-pub fn values_outside(kind: u8, position: usize) -> Vec<u64> {
-    let f = &fields_of(kind)[position];
+pub fn values_outside(f: &Field) -> Vec<u64> {
     let most = (1 << (8 * f.bytes)) - 1;
     let mut outside: Vec<u64> = Vec::new();
     if f.low > 0 {
@@ -247,7 +281,7 @@ fn out_of_range(dice: &mut Dice, state: &State) -> Vec<u8> {
         let kind = dice.of(&kinds);
         let mut v = right_values(dice, state, kind);
         let position = dice.below(v.len() as u64) as usize;
-        let outside = values_outside(kind, position);
+        let outside = values_outside(&fields_with(kind, v.len())[position]);
         if !outside.is_empty() {
             v[position] = dice.of(&outside);
             return record_of(kind, &v);

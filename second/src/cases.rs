@@ -1,6 +1,8 @@
 //! Trial cases: one by chance for each seed and index, and the stored set, which is the same for ever.
 
-use crate::books::{after, closed_run, damaged_run, right_close, right_run, wrong_record};
+use crate::books::{
+    after, closed_run, damaged_run, in_either_version, right_close, right_run, wrong_record,
+};
 use crate::calls::{some_calls, MOST_ROOM, ROOMS};
 use crate::damages;
 use crate::dice::{Dice, Seed};
@@ -10,7 +12,7 @@ use crate::halves;
 use crate::kind;
 use crate::parts;
 use crate::plain::{
-    book_of, field_end_records, place_of, plain_values, sample, several_groups, under,
+    book_of, field_end_records, place_of, plain_rows, plain_values, sample, several_groups, under,
 };
 use crate::record::record_of;
 use crate::slips;
@@ -23,6 +25,7 @@ use crate::states::{
 };
 use crate::tillages;
 use crate::trial::{Call, Case};
+use crate::warmings;
 use crate::writes;
 
 /// The fresh case of this seed and index.
@@ -164,7 +167,8 @@ fn flipped(dice: &mut Dice) -> Case {
 
 /// 4,096 records, or one more, of the two shortest kinds; many calls with the most room.
 fn longest_book(dice: &mut Dice) -> Case {
-    let mut input = record_of(kind::FARM, &[dice.below(1 << 32), 2_010, dice.of(&[1, 2])]);
+    let farm = vec![dice.below(1 << 32), 2_010, dice.of(&[1, 2])];
+    let mut input = record_of(kind::FARM, &in_either_version(dice, farm));
     let details = dice.of(&[4_093, 4_094, 4_095]);
     for i in 0..details {
         if dice.one_in(3) {
@@ -202,6 +206,7 @@ pub fn stored() -> Vec<Case> {
     cases.extend(tillages::stored(&clause_bases()));
     cases.extend(halves::stored());
     cases.extend(grazings::stored(&clause_bases()));
+    cases.extend(warmings::stored(&clause_bases()));
     cases
 }
 
@@ -313,10 +318,11 @@ fn group_ends() -> Vec<Case> {
 }
 
 fn field_ends() -> Vec<Case> {
-    let cases_of = |kind| {
-        field_end_records(kind).into_iter().map(move |record| whole(place_of(kind), record, SURE))
+    let cases_of = |(kind, plain): (u8, Vec<u64>)| {
+        let records = field_end_records(kind, &plain).into_iter();
+        records.map(move |record| whole(place_of(kind), record, SURE))
     };
-    kind::ALL.flat_map(cases_of).collect()
+    plain_rows().into_iter().flat_map(cases_of).collect()
 }
 
 /// Each kind with no record before it, with no heading, and under each class.
@@ -325,8 +331,8 @@ fn each_place() -> Vec<Case> {
     let mut places = vec![State::default(), no_heading];
     places.extend((1..=4).map(under));
     let mut cases = Vec::new();
-    for kind in kind::ALL {
-        let record = record_of(kind, &plain_values(kind));
+    for (kind, plain) in plain_rows() {
+        let record = record_of(kind, &plain);
         cases.extend(places.iter().map(|&state| whole(state, record.clone(), SURE)));
     }
     cases

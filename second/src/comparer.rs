@@ -30,6 +30,8 @@ mod tillage;
 mod tillages;
 mod trial;
 mod typed;
+mod warming;
+mod warmings;
 mod why;
 mod words;
 mod writer;
@@ -140,6 +142,15 @@ fn counted(mut records: Vec<Vec<u8>>) -> Vec<Vec<u8>> {
     records
 }
 
+/// A farm record in the other version, with set 1's factors or set 1; any other record as it is.
+fn of_other_version(record: &[u8]) -> Vec<u8> {
+    match (record[2], record[3], record.len()) {
+        (1, kind::FARM, 11) => [&[0, 12, 2, 1], &record[4..10], &[0, 21, 1, 54]].concat(),
+        (2, kind::FARM, 14) => [&[0, 9, 1, 1], &record[4..10], &[1]].concat(),
+        _ => record.to_vec(),
+    }
+}
+
 /// A book and an edited copy of it.
 fn pair(seed: u64, index: u64) -> (Vec<u8>, Vec<u8>) {
     let mut dice = Dice::of_case(seed ^ 0x5157, index);
@@ -161,7 +172,7 @@ fn pair(seed: u64, index: u64) -> (Vec<u8>, Vec<u8>) {
         }
         let at = dice.below(records.len() as u64) as usize;
         let to = dice.below(records.len() as u64) as usize;
-        match dice.below(7) {
+        match dice.below(8) {
             0 => drop(records.remove(at)),
             1 => records.insert(at, records[to].clone()),
             2 => records.swap(at, to),
@@ -172,10 +183,11 @@ fn pair(seed: u64, index: u64) -> (Vec<u8>, Vec<u8>) {
                 records[at][last] ^= 1 << dice.below(3);
             }
             5 => {
-                // the other warming set, where a farm record is the first
+                // the other warming set, or another N2O factor, where a farm record is the first
                 let last = records[0].len() - 1;
                 records[0][last] ^= 3;
             }
+            6 => records[0] = of_other_version(&records[0]),
             _ => {
                 let byte = dice.between(4, records[at].len() as u64 - 1) as usize;
                 records[at][byte] = records[at][byte].wrapping_add(1);

@@ -1,11 +1,11 @@
 //! Damaged books by chance: right books whose records are spoilt, lost, doubled, exchanged or cut.
 
-use crate::books::{after, closed_run, right_close, right_record, wrong_record};
+use crate::books::{after, closed_run, right_close, right_record, some_farm, wrong_record};
 use crate::desk::{long_book, many_groups};
 use crate::dice::{Dice, Seed};
 use crate::kind;
 use crate::plain::plain_values;
-use crate::record::{length_of, record_of};
+use crate::record::record_of;
 use crate::salvage::{salvage, LONGEST};
 use crate::state::State;
 use crate::trial::Case;
@@ -45,7 +45,7 @@ fn cut(dice: &mut Dice, mut book: Vec<u8>) -> Vec<u8> {
 
 /// Records of any bytes, right in their lengths alone.
 fn short_records(dice: &mut Dice) -> Vec<u8> {
-    let mut book = record_of(1, &plain_values(1));
+    let mut book = some_farm(dice);
     for _ in 0..dice.between(1, 60) {
         let length = dice.between(4, 26);
         book.extend([0, length as u8]);
@@ -79,12 +79,11 @@ fn turned_over(dice: &mut Dice, mut book: Vec<u8>) -> Vec<u8> {
 fn headless(dice: &mut Dice) -> Vec<u8> {
     let start = State::default();
     let whole = closed_run(dice, &start, 12);
-    let farm = record_of(1, &plain_values(1));
-    let rest = whole[farm.len()..].to_vec();
+    let rest = whole[2 + usize::from(whole[1])..].to_vec();
     match dice.below(4) {
         0 => rest,
-        1 => [rest, farm].concat(),
-        2 => [farm.clone(), farm.clone(), rest.clone(), farm, rest].concat(),
+        1 => [rest, some_farm(dice)].concat(),
+        2 => [some_farm(dice), some_farm(dice), rest.clone(), some_farm(dice), rest].concat(),
         _ => [right_close(&start), whole].concat(),
     }
 }
@@ -93,7 +92,7 @@ fn headless(dice: &mut Dice) -> Vec<u8> {
 fn beside_the_most(dice: &mut Dice, round: u64) -> Vec<u8> {
     let details = 4_090 + round % 12;
     let book = if round % 2 == 0 { long_book(details) } else { many_groups(details) };
-    let farm = 2 + usize::from(length_of(1));
+    let farm = 2 + usize::from(book[1]);
     let wrong = [0, 4, 2, 2, 0, 0].repeat(dice.below(5) as usize);
     match dice.below(3) {
         0 => book,
@@ -104,7 +103,7 @@ fn beside_the_most(dice: &mut Dice, round: u64) -> Vec<u8> {
 
 /// As many dropped records as the longest damaged book has, some bytes fewer or more.
 fn beside_the_longest(dice: &mut Dice, round: u64) -> Vec<u8> {
-    let mut book = record_of(1, &plain_values(1));
+    let mut book = some_farm(dice);
     let record: [u8; 6] = dice.of(&[[0, 4, 2, 8, 0, 0], [0, 4, 1, 3, 0, 0], [0, 4, 1, 2, 1, 1]]);
     while book.len() < LONGEST {
         book.extend(record);
@@ -143,7 +142,7 @@ fn spoil(dice: &mut Dice, state: &State, right: &[u8]) -> Vec<u8> {
     match dice.below(12) {
         0 => Vec::new(),
         1 => [right, right].concat(),
-        2 => [record_of(1, &plain_values(1)), right.to_vec()].concat(),
+        2 => [some_farm(dice), right.to_vec()].concat(),
         3 => group(dice, state),
         4 => with(right, 2, dice.of(&[0, 2, 255])),
         5 => with(right, 3, some_kind(dice, &[0, 1, 2, 3, 4, 5, 6, 7, 8, 9, 255])),

@@ -6,10 +6,12 @@ use crate::dice::Dice;
 use crate::feed::herd_desk;
 use crate::halves::{Half, RECORDS};
 use crate::kind;
-use crate::plain::{field_end_records, plain_values, sample, several_groups};
+use crate::plain::{field_end_records, plain_rows, plain_values, sample, several_groups};
 use crate::record::record_of;
 use crate::state::State;
+use crate::states::FACTORS;
 use crate::trial::hex;
+use crate::warmings::with_farm;
 
 /// The lines of one book, with many rooms, among them just enough and one byte less.
 pub fn book_text(dice: &mut Dice, book: &[u8]) -> String {
@@ -57,7 +59,7 @@ pub fn some_book(dice: &mut Dice, index: u64) -> Vec<u8> {
 /// A book for each field of each kind at its ends and outside them, a line each with room for all.
 pub fn field_end_text() -> String {
     let mut text = String::new();
-    for kind in kind::ALL {
+    for (kind, plain) in plain_rows() {
         let place = match kind {
             kind::FARM => Vec::new(),
             kind::HEADING => record_of(kind::FARM, &plain_values(kind::FARM)),
@@ -70,11 +72,17 @@ pub fn field_end_text() -> String {
                 .concat()
             }
         };
-        for record in field_end_records(kind) {
+        for record in field_end_records(kind, &plain) {
             text += &desk_line(&[place.clone(), record].concat(), 1_000);
         }
     }
     text
+}
+
+/// A closed book for each pair of factors, a line each.
+pub fn factors_text() -> String {
+    let book = |pair| with_farm(pair, &several_groups());
+    FACTORS.into_iter().map(|pair| desk_line(&book(pair), 2_000)).collect()
 }
 
 /// A closed book for each figure that comes to an exact half, a line each.

@@ -2,37 +2,45 @@
 
 use crate::kind;
 
-/// What chance starts from: a number, and the newest kind of record that is drawn, so that stored cases stay what they are when a kind is added.
+/// What chance starts from: a number, the newest kind of record that is drawn, and whether farm records of version 2 are, so that stored cases
+/// stay what they are when a kind or a version is added.
 #[derive(Clone, Copy)]
 pub struct Seed {
     number: u64,
     newest: u8,
+    factors: bool,
 }
 
 impl Seed {
+    /// Without version 2.
     pub const fn up_to(newest: u8, number: u64) -> Seed {
-        Seed { number, newest }
+        Seed { number, newest, factors: false }
+    }
+
+    pub const fn with_factors(newest: u8, number: u64) -> Seed {
+        Seed { number, newest, factors: true }
     }
 }
 
 impl From<u64> for Seed {
     fn from(number: u64) -> Seed {
-        Seed { number, newest: *kind::ALL.end() }
+        Seed::with_factors(*kind::ALL.end(), number)
     }
 }
 
 pub struct Dice {
     state: u64,
     newest: u8,
+    factors: bool,
 }
 
 impl Dice {
     /// The dice of one case, so that a case can be made again without those before it.
     pub fn of_case(seed: impl Into<Seed>, index: u64) -> Dice {
-        let Seed { number, newest } = seed.into();
+        let Seed { number, newest, factors } = seed.into();
         let mixed =
             number.wrapping_mul(0x9E37_79B9_7F4A_7C15) ^ index.wrapping_mul(0xD1B5_4A32_D192_ED03);
-        let mut dice = Dice { state: mixed | 1, newest };
+        let mut dice = Dice { state: mixed | 1, newest, factors };
         for _ in 0..8 {
             dice.roll();
         }
@@ -47,6 +55,11 @@ impl Dice {
     /// Whether records of this kind are drawn.
     pub fn knows(&self, kind: u8) -> bool {
         kind <= self.newest
+    }
+
+    /// Whether farm records of version 2 are drawn, and the factors that they bring into a state.
+    pub fn knows_factors(&self) -> bool {
+        self.factors
     }
 
     pub fn roll(&mut self) -> u64 {

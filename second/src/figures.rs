@@ -141,9 +141,3 @@ pub fn soil(v: &[u128]) -> Figures {
 pub fn positive(grams: u64) -> i64 {
     i64::try_from(grams).expect("a figure fits 63 bits")
 }
-
-/// CO2e of the sums, by the warming set; grazing is CO2e already.
-pub fn co2e(set: u8, sums: Figures) -> i64 {
-    let (a, b) = if set == 1 { (21, 310) } else { (23, 296) };
-    sums.co2 + positive(a * sums.ch4 + b * sums.n2o + sums.grazing)
-}

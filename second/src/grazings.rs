@@ -9,6 +9,7 @@ use crate::record::record_of;
 use crate::state::{Heading, State, LINE, SURE};
 use crate::states::{grazing_beside, most_subtotal, most_sums};
 use crate::trial::Case;
+use crate::warming::{SET_1, SET_2};
 
 /// What is drawn here knows no kind after grazing.
 pub const SEED: Seed = Seed::up_to(kind::GRAZING, 10);
@@ -93,13 +94,14 @@ fn fractions() -> Vec<Case> {
 
 /// The largest figure there is on the largest subtotal and sums, by both warming sets.
 fn heaviest() -> Vec<Case> {
-    let with_set = |set| {
-        let mut state = State { set, subtotal: most_subtotal(2), sums: most_sums(2), ..under(1) };
+    let with_set = |factors| {
+        let (subtotal, sums) = (most_subtotal(2), most_sums(2));
+        let mut state = State { factors, subtotal, sums, ..under(1) };
         state.heading.head = 20_000;
         let close = record_of(kind::CLOSE, &[3]);
         whole(state, [grazing([1, 1, 2_000, 10_000]), close].concat(), LINE + SURE)
     };
-    [1, 2].map(with_set).to_vec()
+    [SET_1, SET_2].map(with_set).to_vec()
 }
 
 /// All kinds together, grazing alone in its group, between other rations, before and behind the farm's records; and one with more than the whole.

@@ -98,7 +98,7 @@ pub fn now_and_then(seed: Seed, index: u64) -> Option<Case> {
         let half = dice.of(&RECORDS);
         let (_, _, kind, values) = half;
         let place = place_of_times(kind, values);
-        let most = u64::from(fields_of(kind)[place].high) / values[place];
+        let most = u64::from(fields_of(kind, 1)[place].high) / values[place];
         let times = 2 * dice.below((most + 1) / 2) + 1;
         let (state, record) = with_times(half, times);
         whole(state, [record, record_of(kind::CLOSE, &[3])].concat(), LINE + SURE)

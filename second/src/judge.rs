@@ -1,12 +1,13 @@
 //! Document 01, "Refusal numbers, in the order they are tried": what one whole record does, from 2 to 12;
-//! document 02's W2: subtotals; W7: tillage; W10: grazing.
+//! document 02's W2: subtotals; W7: tillage; W10: grazing; W11: a farm record of version 2.
 
 use crate::figures::{self, Figures, Subtotal};
 use crate::grazing;
 use crate::kind;
-use crate::record::{big_endian, fields_of, length_of, values_of};
+use crate::record::{big_endian, fields_with, has_version, length_of, values_of};
 use crate::state::{Heading, State, CLOSED, MOST_RECORDS, OPEN};
 use crate::tillage;
+use crate::warming::Factors;
 
 /// A record's refusal: code, and field where the code is 7.
 pub type Fault = (u8, u8);
@@ -20,10 +21,10 @@ pub struct Accepted {
 /// Judges a record whose bytes are all there and whose length is 4..26; the state's held bytes don't matter.
 pub fn judge(state: &State, record: &[u8]) -> Result<Accepted, Fault> {
     let kind = kind_of(record)?;
-    judge_values(state, kind, &values_of(kind, record))
+    judge_values(state, kind, &values_of(record))
 }
 
-/// Judges the values of a kind 1..10, as many as it has fields: from 5 to 12.
+/// Judges the values of a kind 1..10, as many as it has fields in one of its versions: from 5 to 12.
 pub fn judge_values(state: &State, kind: u8, values: &[u128]) -> Result<Accepted, Fault> {
     in_its_place(state, kind)?;
     in_their_ranges(kind, values)?;
@@ -39,12 +40,12 @@ fn refuse_if(wrong: bool, code: u8) -> Result<(), Fault> {
     }
 }
 
-/// Refusals 2, 3 and 4.
+/// Refusals 2, which looks at version and kind byte together, 3, and 4, which goes by kind and version.
 fn kind_of(record: &[u8]) -> Result<u8, Fault> {
     let (version, kind) = (record[2], record[3]);
-    refuse_if(version != 1, 2)?;
+    refuse_if(!has_version(kind, version), 2)?;
     refuse_if(!kind::ALL.contains(&kind), 3)?;
-    refuse_if(record.len() != 2 + usize::from(length_of(kind)), 4)?;
+    refuse_if(record.len() != 2 + usize::from(length_of(kind, version)), 4)?;
     Ok(kind)
 }
 
@@ -63,7 +64,7 @@ fn in_its_place(state: &State, kind: u8) -> Result<(), Fault> {
 
 /// Refusal 7, with the position of the first field out of range.
 fn in_their_ranges(kind: u8, values: &[u128]) -> Result<(), Fault> {
-    for (position, (f, &value)) in (1..).zip(fields_of(kind).iter().zip(values)) {
+    for (position, (f, &value)) in (1..).zip(fields_with(kind, values.len()).iter().zip(values)) {
         if value < u128::from(f.low) || value > u128::from(f.high) {
             return Err((7, position));
         }
@@ -101,7 +102,7 @@ fn accept(state: &State, kind: u8, v: &[u128]) -> Accepted {
     let counted = State { records: state.records + 1, stage: OPEN, ..*state };
     let head = u128::from(state.heading.head);
     match kind {
-        kind::FARM => Accepted { state: State { set: v[2] as u8, ..counted }, lines: Vec::new() },
+        kind::FARM => farm(counted, Factors::of_farm(v)),
         kind::HEADING => new_group(counted, heading_of(v)),
         kind::ENTERIC => of_group(with_days(counted, kind, v), kind, figures::enteric(head, v)),
         kind::CATTLE => of_group(with_days(counted, kind, v), kind, figures::cattle(head, v)),
@@ -112,6 +113,10 @@ fn accept(state: &State, kind: u8, v: &[u128]) -> Accepted {
         kind::GRAZING => grazed(counted, v[3] as u16, grazing::figures(head, v)),
         _ => close(counted),
     }
+}
+
+fn farm(state: State, factors: Factors) -> Accepted {
+    Accepted { state: State { factors, ..state }, lines: Vec::new() }
 }
 
 /// A new heading begins with day sums and fractions of zero.
@@ -153,7 +158,7 @@ fn grazed(mut state: State, fraction: u16, made: Figures) -> Accepted {
 /// The last group's subtotal, which stays in the state, then the total.
 fn close(state: State) -> Accepted {
     let mut numbers = state.sums.in_order().to_vec();
-    numbers.push(figures::word(figures::co2e(state.set, state.sums)));
+    numbers.push(figures::word(state.factors.co2e(state.sums)));
     let lines = [subtotal_line(&state), line_of(kind::CLOSE, 0, &numbers)].concat();
     Accepted { state: State { stage: CLOSED, ..state }, lines }
 }

@@ -29,6 +29,8 @@ mod tillage;
 mod tillages;
 mod trial;
 mod typed;
+mod warming;
+mod warmings;
 mod why;
 mod words;
 mod writer;
@@ -148,7 +150,7 @@ fn desk_books(seed: &str, count: &str) -> Result<(), String> {
         let book = desk::some_book(&mut dice, index);
         desk::book_text(&mut dice, &book)
     }))?;
-    write_all([desk::field_end_text(), desk::half_text()].into_iter())?;
+    write_all([desk::field_end_text(), desk::half_text(), desk::factors_text()].into_iter())?;
     let mut dice = dice::Dice::of_case(seed, count);
     let long_books = [desk::long_book(4_094), desk::long_book(4_095), desk::many_groups(4_094)];
     write_all(long_books.into_iter().map(|book| desk::book_text(&mut dice, &book)))

@@ -4,7 +4,7 @@ use crate::books::{after, damaged_run, right_close, right_run, wrong_record};
 use crate::calls::calls_to_the_end;
 use crate::dice::{Dice, Seed};
 use crate::kind;
-use crate::plain::{book_of, plain_values, under};
+use crate::plain::{book_of, plain_values, under, FARM_2};
 use crate::record::record_of;
 use crate::state::{State, LINE, MOST_RECORDS, NO_RECORD, OPEN, SURE, TOTAL};
 use crate::states::right_state;
@@ -71,8 +71,9 @@ pub fn every_part_size() -> Vec<Case> {
     SIZES.flat_map(part_size).collect()
 }
 
-/// The first two right books change places from size to size, and with the last two have all kinds together; the unfinished one lacks as many bytes.
-fn part_size(size: usize) -> [Case; 6] {
+/// The first two right books change places from size to size, and with the last three have all kinds and versions together;
+/// the unfinished one lacks as many bytes.
+fn part_size(size: usize) -> [Case; 7] {
     let start = State::default();
     let mut books = [cattle_book(), pig_book()];
     let mut rooms = [ENOUGH, SHORT];
@@ -88,6 +89,7 @@ fn part_size(size: usize) -> [Case; 6] {
         in_parts(place, refused, size, rooms[1], 0),
         in_parts(start, tillage_book(), size, rooms[1], 0),
         in_parts(start, grazing_book(), size, rooms[0], 0),
+        in_parts(start, factors_book(), size, rooms[1], 0),
     ]
 }
 
@@ -132,6 +134,12 @@ fn grazing_book() -> Vec<u8> {
         (kind::GRAZING, 0, 0),
         (kind::CLOSE, 0, 0),
     ])
+}
+
+/// The pigs of a farm record of version 2.
+fn factors_book() -> Vec<u8> {
+    let pigs = pig_book();
+    [record_of(kind::FARM, &FARM_2), pigs[2 + usize::from(pigs[1])..].to_vec()].concat()
 }
 
 /// A right record and one that is refused, by each number in turn.

@@ -2,9 +2,10 @@
 
 use crate::books::values_outside;
 use crate::kind;
-use crate::record::{fields_of, record_of};
+use crate::record::{fields_with, record_of};
 use crate::state::{Heading, State, OPEN};
 use crate::trial::bytes_of;
+use crate::warming::SET_1;
 
 /// Document 01's sample book.
 pub const SAMPLE: &str = concat!(
@@ -34,6 +35,16 @@ pub fn plain_values(kind: u8) -> Vec<u64> {
         kind::GRAZING => vec![3, 1, 600, 5_000],
         _ => vec![2],
     }
+}
+
+/// Right values of a farm record of version 2.
+pub const FARM_2: [u64; 4] = [7, 2010, 25, 298];
+
+/// Each kind with its plain values, and a farm record of version 2 last.
+pub fn plain_rows() -> Vec<(u8, Vec<u64>)> {
+    let mut rows: Vec<(u8, Vec<u64>)> = kind::ALL.map(|kind| (kind, plain_values(kind))).collect();
+    rows.push((kind::FARM, FARM_2.to_vec()));
+    rows
 }
 
 /// Records of these kinds with plain values, a heading with its group and class, and a right close where 8 stands.
@@ -73,7 +84,7 @@ pub fn several_groups() -> Vec<u8> {
 /// Twelve heads of cattle or pigs, and nothing eaten yet.
 pub fn under(class: u8) -> State {
     let heading = Heading { group: 5, class, head: 12, days: [0; 3], grazed: 0 };
-    State { stage: OPEN, records: 2, set: 1, heading, ..State::default() }
+    State { stage: OPEN, records: 2, factors: SET_1, heading, ..State::default() }
 }
 
 pub fn place_of(kind: u8) -> State {
@@ -84,14 +95,14 @@ pub fn place_of(kind: u8) -> State {
     }
 }
 
-/// Records of a kind with each field at its ends, and outside them, all other fields right.
-pub fn field_end_records(kind: u8) -> Vec<Vec<u8>> {
+/// Records of a kind with each field at its ends, and outside them, all other fields as they are given.
+pub fn field_end_records(kind: u8, plain: &[u64]) -> Vec<Vec<u8>> {
     let mut records = Vec::new();
-    for (position, f) in fields_of(kind).iter().enumerate() {
+    for (position, f) in fields_with(kind, plain.len()).iter().enumerate() {
         let mut values = vec![u64::from(f.low), u64::from(f.high)];
-        values.extend(values_outside(kind, position));
+        values.extend(values_outside(f));
         for value in values {
-            let mut v = plain_values(kind);
+            let mut v = plain.to_vec();
             v[position] = value;
             records.push(record_of(kind, &v));
         }

@@ -92,7 +92,7 @@ fn first_record(bytes: &[u8]) -> &[u8] {
 /// The kind's name and its values in the book's units.
 fn typed_line(record: &[u8]) -> String {
     let mut line = kind_name(u64::from(record[3])).to_string();
-    for value in values_of(record[3], record) {
+    for value in values_of(record) {
         line += &format!(" {value}");
     }
     line + "\n"

@@ -132,7 +132,7 @@ fn unsaved(said: &str) -> Told {
 /// What is wrong, in words; the writer of typed lines says 2, 4 and 7 in another way.
 fn why(code: u8) -> &'static str {
     match code {
-        2 => "the version is not 1",
+        2 => "the version is not 1, nor 2 of a farm record",
         4 => "a wrong length or count of values",
         7 => "a value is out of its range",
         _ => sentence(code),

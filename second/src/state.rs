@@ -1,7 +1,8 @@
-//! Document 01, "Lines, calls and state", with document 02's W2 and W10: what a state holds, the ranges it must lie in, and the sizes of lines.
+//! Document 01, "Lines, calls and state", with document 02's W2, W10 and W11: what a state holds, the ranges it must lie in, and the sizes of lines.
 
 use crate::figures::{Figures, Subtotal};
 use crate::record::LENGTHS;
+use crate::warming::{self, Factors};
 
 pub const NO_RECORD: u8 = 0;
 pub const OPEN: u8 = 1;
@@ -50,7 +51,7 @@ pub struct Refusal {
 pub struct State {
     pub stage: u8,
     pub records: u16,
-    pub set: u8,
+    pub factors: Factors,
     pub heading: Heading,
     pub subtotal: Subtotal,
     pub sums: Figures,
@@ -74,7 +75,7 @@ impl State {
     pub fn in_range(&self) -> bool {
         self.records_in_range()
             && self.held_in_range()
-            && self.set_in_range()
+            && self.factors_in_range()
             && self.heading_in_range()
             && self.subtotal_in_range()
             && self.figures_in_range(&self.sums)
@@ -104,11 +105,12 @@ impl State {
         unused_zero && (may_hold || self.held_count == 0) && unfinished
     }
 
-    fn set_in_range(&self) -> bool {
+    /// Both zero exactly with no records.
+    fn factors_in_range(&self) -> bool {
         if self.records == 0 {
-            self.set == 0
+            self.factors == warming::NONE
         } else {
-            self.set == 1 || self.set == 2
+            self.factors.in_range()
         }
     }
 

@@ -4,6 +4,7 @@ use crate::dice::Dice;
 use crate::figures::{signed, Figures, Subtotal};
 use crate::kind;
 use crate::state::{Heading, Refusal, State, CLOSED, MOST_RECORDS, NO_RECORD, OPEN, REFUSED};
+use crate::warming::{factors, Factors, NONE, SET_1, SET_2};
 
 /// Grams that a record can add: CH4, N2O, CO2, excreted N, land N; and grazing's CO2e.
 const BOUNDS: [u64; 5] =
@@ -47,7 +48,10 @@ pub fn right_state(dice: &mut Dice, stage: u8) -> State {
     let records = dice.edgy(fewest, u64::from(MOST_RECORDS)) as u16;
     let mut state = State { stage, records, ..State::default() };
     if records > 0 {
-        state.set = dice.of(&[1, 2]);
+        state.factors = dice.of(&[SET_1, SET_2]);
+        if dice.knows_factors() && dice.one_in(2) {
+            state.factors = some_factors(dice);
+        }
         state.sums = some_sums(dice, u64::from(records));
         if dice.knows(kind::TILLAGE) && dice.one_in(2) {
             state.sums.co2 = -state.sums.co2;
@@ -62,6 +66,28 @@ pub fn right_state(dice: &mut Dice, stage: u8) -> State {
         state.refusal = some_refusal(dice, records);
     }
     state
+}
+
+/// Factors at both ends of their range, those of the sets, and the same exchanged.
+pub const FACTORS: [Factors; 11] = [
+    factors(1, 1),
+    factors(1, 1_000),
+    factors(1_000, 1),
+    factors(1_000, 1_000),
+    factors(2, 999),
+    SET_1,
+    SET_2,
+    factors(310, 21),
+    factors(296, 23),
+    factors(21, 21),
+    factors(25, 298),
+];
+
+pub fn some_factors(dice: &mut Dice) -> Factors {
+    if dice.one_in(2) {
+        return dice.of(&FACTORS);
+    }
+    factors(dice.edgy(1, 1_000) as u16, dice.edgy(1, 1_000) as u16)
 }
 
 fn some_sums(dice: &mut Dice, records: u64) -> Figures {
@@ -117,7 +143,7 @@ pub fn beside_bounds(base: &State) -> Vec<State> {
     states
 }
 
-/// One of those, of the bare ones, or of those with another CO2 or other grazing, by chance.
+/// One of those, of the bare ones, or of those with another CO2, other grazing or other factors, by chance.
 pub fn some_beside(dice: &mut Dice, base: &State) -> State {
     let states = if dice.one_in(10) {
         bare_states()
@@ -125,6 +151,8 @@ pub fn some_beside(dice: &mut Dice, base: &State) -> State {
         co2_beside(base)
     } else if dice.knows(kind::GRAZING) && dice.one_in(8) {
         grazing_beside(base)
+    } else if dice.knows_factors() && dice.one_in(8) {
+        factors_beside(base)
     } else {
         beside_bounds(base)
     };
@@ -141,8 +169,8 @@ fn stage_beside(base: &State) -> Vec<State> {
         let refusal = Refusal { record: records, ..base.refusal };
         states.push(State { records, refusal, ..*base });
     }
-    for set in [0, 1, 2, 3, 255] {
-        states.push(State { set, ..*base });
+    for factors in [NONE, SET_1, SET_2, factors(1_001, 310), factors(23, 1_001)] {
+        states.push(State { factors, ..*base });
     }
     states
 }
@@ -226,6 +254,23 @@ pub fn grazing_beside(base: &State) -> Vec<State> {
     states
 }
 
+/// Each factor at and beside the ends of its range with the other as it is, both together, and both exchanged; none twice.
+pub fn factors_beside(base: &State) -> Vec<State> {
+    let Factors { ch4, n2o } = base.factors;
+    let mut pairs = vec![factors(n2o, ch4), NONE, SET_1, SET_2];
+    for end in [0, 1, 2, 999, 1_000, 1_001, 65_535] {
+        pairs.extend([factors(end, n2o), factors(ch4, end), factors(end, end)]);
+    }
+    pairs.extend([factors(0, 1), factors(1, 0), factors(1_000, 1_001), factors(1_001, 1_000)]);
+    let mut states = Vec::new();
+    for state in pairs.into_iter().map(|factors| State { factors, ..*base }) {
+        if !states.contains(&state) {
+            states.push(state);
+        }
+    }
+    states
+}
+
 fn refusal_beside(base: &State) -> Vec<State> {
     let with = |refusal| State { refusal, ..*base };
     let r = base.refusal;
@@ -275,15 +320,20 @@ fn holding(base: &State, length: u16, held_count: u64) -> State {
     State { held, held_count, ..*base }
 }
 
-/// States where stage, count of records and warming set meet their bounds together, all else zero.
+/// States where stage, count of records and the sets' factors meet their bounds together, all else zero.
 pub fn bare_states() -> Vec<State> {
+    bare_states_with(&[NONE, SET_1, SET_2])
+}
+
+/// The same with each of these factors.
+pub fn bare_states_with(all: &[Factors]) -> Vec<State> {
     let mut states = Vec::new();
     for (stage, records) in [(0, 0), (0, 1), (1, 0), (1, 1), (2, 0), (2, 1), (2, 2), (3, 0), (3, 1)]
     {
-        for set in [0, 1, 2] {
+        for &factors in all {
             let code = if stage == REFUSED { 4 } else { 0 };
             let refusal = Refusal { code, record: if code > 0 { records } else { 0 }, field: 0 };
-            states.push(State { stage, records, set, refusal, ..State::default() });
+            states.push(State { stage, records, factors, refusal, ..State::default() });
         }
     }
     states

@@ -1,10 +1,10 @@
 //! Typed texts by chance: right books as people type them, and the mistakes that they make.
 
-use crate::books::{after, right_close, right_record, wrong_record};
+use crate::books::{after, in_either_version, right_close, right_record, wrong_record};
 use crate::dice::Dice;
 use crate::kind;
-use crate::plain::plain_values;
-use crate::record::{fields_of, values_of};
+use crate::plain::{plain_rows, plain_values};
+use crate::record::{fields_with, values_of};
 use crate::state::{State, MOST_RECORDS};
 use crate::words::{kind_name, spoken_of};
 
@@ -68,6 +68,29 @@ const NO_NUMBERS: [&[u8]; 21] = [
     b"exactly-24-bytes-of-word",
 ];
 
+/// Words at the ends of a set's and a factor's range and beside them, some of which would be right if they were cut to their last bits; and no
+/// numbers.
+const FACTOR_WORDS: [&str; 18] = [
+    "0",
+    "1",
+    "2",
+    "3",
+    "21",
+    "310",
+    "999",
+    "1000",
+    "1001",
+    "65535",
+    "65536",
+    "65557",
+    "0001",
+    "18446744073709551617",
+    "99999999999999999999",
+    "1.0",
+    "-1",
+    "x",
+];
+
 /// How a text is typed: how often a line is mistaken (once in so many, 0 never), and its line ends.
 struct Manner {
     mistakes: u64,
@@ -83,8 +106,9 @@ pub fn text(seed: u64, index: u64) -> Vec<u8> {
         0 => odd_text(dice, index / 100),
         1 => too_many_records(dice),
         2 => any_bytes(dice),
-        place @ 4..=13 => each_field(place as u8 - 3, no_number),
-        place @ 14..=23 => each_field(place as u8 - 13, out_of_range),
+        place @ 4..=14 => each_field(place as usize - 4, no_number),
+        place @ 15..=25 => each_field(place as usize - 15, out_of_range),
+        26..=28 => many_farms(dice),
         _ => typed_book(dice),
     }
 }
@@ -109,7 +133,7 @@ fn odd_text(dice: &mut Dice, which: u64) -> Vec<u8> {
 
 /// More records than a book has room for.
 fn too_many_records(dice: &mut Dice) -> Vec<u8> {
-    let mut text = b"farm 7 2000 1\n".to_vec();
+    let mut text = farm_line(dice).into_bytes();
     let count = dice.between(u64::from(MOST_RECORDS) - 3, u64::from(MOST_RECORDS) + 30);
     for i in 0..count {
         let line = match i % 4 {
@@ -126,20 +150,46 @@ fn too_many_records(dice: &mut Dice) -> Vec<u8> {
     text
 }
 
-/// In its place, a line of a kind for each of its fields with that field's word wrong, and one with such a word behind them.
-fn each_field(kind: u8, wrong: fn(u8, usize) -> String) -> Vec<u8> {
+/// A right farm line, of either version.
+fn farm_line(dice: &mut Dice) -> String {
+    let values: Vec<String> =
+        in_either_version(dice, plain_values(kind::FARM)).iter().map(u64::to_string).collect();
+    format!("farm {}\n", values.join(" "))
+}
+
+/// Farm lines whose sets and factors are at and beside their ends, or no numbers, or too few or too many, up to a right one and more behind it.
+fn many_farms(dice: &mut Dice) -> Vec<u8> {
+    let mut text = String::new();
+    for _ in 0..dice.between(2, 10) {
+        let number = dice.of(&["7", "7", "7", "7", "7", "4294967296"]);
+        let year = dice.of(&["2010", "2010", "2012", "2200", "2010", "1899"]);
+        let mut words = vec!["farm", number, year];
+        for _ in 0..dice.of(&[0, 1, 1, 2, 2, 2, 2, 2, 2, 3]) {
+            words.push(dice.of(&FACTOR_WORDS));
+        }
+        text += &format!("{}\n", words.join(" "));
+    }
+    text += &farm_line(dice);
+    text += &farm_line(dice);
+    text += dice.of(&["", "heading 1 1 40\nenteric 31 30000 650\n"]);
+    text += "close\n";
+    text.into_bytes()
+}
+
+/// In its place, a line of a row's kind for each of its fields with that field's word wrong, and one with such a word behind them.
+fn each_field(row: usize, wrong: fn(u8, usize, usize) -> String) -> Vec<u8> {
+    let (kind, values) = plain_rows().swap_remove(row);
     let class = if kind == kind::PIG { 4 } else { 1 };
     let mut text = match kind {
         kind::FARM => String::new(),
         kind::HEADING => "farm 7 2012 1\n".to_string(),
         _ => format!("farm 7 2012 1\nheading 1 {class} 40\n"),
     };
-    let count = fields_of(kind).len();
+    let count = values.len();
     for place in 0..=count {
-        let values = plain_values(kind);
         let mut words: Vec<String> = values.iter().map(u64::to_string).collect();
         words.push(String::new());
-        words[place] = if place < count { wrong(kind, place) } else { "5.".to_string() };
+        words[place] = if place < count { wrong(kind, count, place) } else { "5.".to_string() };
         text += &format!("{} {}\n", kind_name(kind.into()), words.join(" "));
     }
     text += "close\n";
@@ -147,14 +197,14 @@ fn each_field(kind: u8, wrong: fn(u8, usize) -> String) -> Vec<u8> {
 }
 
 /// A decimal more than the field has.
-fn no_number(kind: u8, place: usize) -> String {
-    format!("0.{}", "5".repeat(spoken_of(kind.into())[place].decimals + 1))
+fn no_number(kind: u8, count: usize, place: usize) -> String {
+    format!("0.{}", "5".repeat(spoken_of(kind.into(), count)[place].decimals + 1))
 }
 
 /// The value next above the field's range, in the unit that people say where it has one.
-fn out_of_range(kind: u8, place: usize) -> String {
-    let decimals = spoken_of(kind.into())[place].decimals;
-    let value = u64::from(fields_of(kind)[place].high) + 1;
+fn out_of_range(kind: u8, count: usize, place: usize) -> String {
+    let decimals = spoken_of(kind.into(), count)[place].decimals;
+    let value = u64::from(fields_with(kind, count)[place].high) + 1;
     let scale = 10_u64.pow(decimals as u32);
     match decimals {
         0 => value.to_string(),
@@ -276,10 +326,11 @@ fn some_no_record(dice: &mut Dice) -> Vec<u8> {
 /// The words of a record.
 fn words_of(dice: &mut Dice, plain: bool, record: &[u8]) -> Vec<Vec<u8>> {
     let kind = u64::from(record[3]);
-    let values = values_of(record[3], record);
+    let values = values_of(record);
+    let fields = spoken_of(kind, values.len());
     let mut words = vec![kind_word(dice, plain, kind)];
-    for (place, value) in values.into_iter().enumerate() {
-        words.push(value_word(dice, plain, kind, place, value as u64));
+    for (f, value) in fields.iter().zip(values) {
+        words.push(value_word(dice, plain, f.decimals, value as u64));
     }
     words
 }
@@ -297,8 +348,7 @@ fn kind_word(dice: &mut Dice, plain: bool, kind: u64) -> Vec<u8> {
 }
 
 /// A value in the book's unit or in the one that people say, with zeros before and behind it or without.
-fn value_word(dice: &mut Dice, plain: bool, kind: u64, place: usize, value: u64) -> Vec<u8> {
-    let decimals = spoken_of(kind)[place].decimals;
+fn value_word(dice: &mut Dice, plain: bool, decimals: usize, value: u64) -> Vec<u8> {
     let zeros =
         if !plain && dice.one_in(12) { dice.of(&["0", "000", "00000000000000000000"]) } else { "" };
     if decimals == 0 || dice.one_in(3) {
@@ -423,9 +473,9 @@ fn wrong_word(dice: &mut Dice, words: &mut Vec<Vec<u8>>) {
 
 /// One of the values gets decimals beside what its field has, or becomes large.
 fn wrong_number(dice: &mut Dice, kind: u8, words: &mut [Vec<u8>]) {
-    let count = fields_of(kind).len();
+    let count = words.len() - 1;
     let place = dice.between(1, count as u64) as usize;
-    let decimals = spoken_of(kind.into())[place - 1].decimals;
+    let decimals = spoken_of(kind.into(), count)[place - 1].decimals;
     let right = digits_of(&words[place]);
     let word = match dice.below(9) {
         0 => format!("1.{}", "0".repeat(decimals + 1)),

@@ -9,6 +9,7 @@ use crate::record::record_of;
 use crate::state::{Heading, State, LINE, SURE};
 use crate::states::{co2_beside, least_co2, most_sums};
 use crate::trial::Case;
+use crate::warming::{SET_1, SET_2};
 
 /// What is drawn here knows no kind after tillage.
 pub const SEED: Seed = Seed::up_to(kind::TILLAGE, 7);
@@ -84,8 +85,9 @@ fn at_both_bounds() -> Vec<Case> {
     for sums in [most_sums(2), least_co2(2)] {
         for record in &records {
             let input = [record.clone(), record_of(kind::CLOSE, &[3])].concat();
-            for set in [1, 2] {
-                cases.push(whole(State { set, sums, ..under(4) }, input.clone(), LINE + SURE));
+            for factors in [SET_1, SET_2] {
+                let state = State { factors, sums, ..under(4) };
+                cases.push(whole(state, input.clone(), LINE + SURE));
             }
         }
     }

@@ -5,6 +5,7 @@ use crate::figures::{signed, Figures, Subtotal};
 use crate::salvage::salvage;
 use crate::slip::{slip, Change, Ration};
 use crate::state::{Heading, Refusal, State};
+use crate::warming::Factors;
 use crate::writer::write;
 use std::fmt::Write as _;
 
@@ -70,7 +71,8 @@ fn state_text(s: &State) -> String {
     let [ch4, n2o, co2, excreted, land, grazing] = s.sums.in_order();
     let Subtotal { ch4: sub_ch4, n2o: sub_n2o, excreted: sub_excreted, land: sub_land } =
         s.subtotal;
-    let mut text = format!("{:x} {:x} {:x}", s.stage, s.records, s.set);
+    let Factors { ch4: ch4_factor, n2o: n2o_factor } = s.factors;
+    let mut text = format!("{:x} {:x} {ch4_factor:x} {n2o_factor:x}", s.stage, s.records);
     let _ = write!(
         text,
         " {:x} {:x} {:x} {d3:x} {d4:x} {d5:x} {:x}",
@@ -158,7 +160,7 @@ impl<'a> Tokens<'a> {
         Ok(State {
             stage: self.number()?,
             records: self.number()?,
-            set: self.number()?,
+            factors: Factors { ch4: self.number()?, n2o: self.number()? },
             heading: Heading {
                 group: self.number()?,
                 class: self.number()?,

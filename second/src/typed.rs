@@ -2,7 +2,7 @@
 
 use crate::kind;
 use crate::state::{Heading, Refusal, State, CLOSED, OPEN};
-use crate::words::{class_name, kind_name, sentence, shown, spoken_of, KINDS};
+use crate::words::{class_name, kind_name, names_of, sentence, shown, spoken_of, KINDS};
 use crate::writer::write;
 
 /// The bytes that a line may have before its comment.
@@ -66,10 +66,12 @@ fn read(line: &[u8]) -> Option<Reading<'_>> {
     Some(read_values(kind, words.collect()))
 }
 
+/// A farm line's count of words says which version it is.
 fn read_values(kind: u64, words: Vec<&[u8]>) -> Reading<'_> {
+    let fields = spoken_of(kind, words.len());
     let mut values = Vec::new();
     for (place, word) in words.iter().enumerate() {
-        let field = spoken_of(kind).get(place);
+        let field = fields.get(place);
         match number_of(word, field.map_or(0, |f| f.decimals)) {
             Some(value) => values.push(value),
             None => {
@@ -257,12 +259,9 @@ fn may_be_heading(kind: u64) -> bool {
 }
 
 fn refusal_text(typed: &Typed, refusal: Refusal) -> String {
-    let fields = spoken_of(typed.kind);
+    let fields = spoken_of(typed.kind, typed.values.len());
     match refusal.code {
-        4 => {
-            let names: Vec<&str> = fields.iter().map(|f| f.name).collect();
-            format!("refused 4: a wrong count of values; expected {}", names.join(", "))
-        }
+        4 => format!("refused 4: a wrong count of values; expected {}", names_of(typed.kind)),
         7 => {
             let place = usize::from(refusal.field) - 1;
             let (f, word) = (&fields[place], shown(typed.words[place]));

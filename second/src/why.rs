@@ -1,13 +1,16 @@
 //! Document 02, W6: why a book is refused, and books to ask it of.
 
-use crate::books::{after, closed_run, damaged_run, right_close, right_values, values_outside};
+use crate::books::{
+    after, closed_run, damaged_run, right_close, right_values, some_farm, values_outside,
+};
 use crate::damages::damaged;
 use crate::dice::Dice;
 use crate::judge::judge;
 use crate::kind;
-use crate::plain::plain_values;
-use crate::record::{fields_of, length_of, record_of, values_of, LENGTHS};
+use crate::plain::{plain_rows, plain_values};
+use crate::record::{fields_of, fields_with, length_of, record_of, values_of, LENGTHS};
 use crate::state::{State, CLOSED, MOST_RECORDS};
+use crate::warmings::{of_no_version, of_wrong_length};
 use crate::words::{kind_name, sentence, spoken_of};
 
 /// What is asked of the value, to be right.
@@ -41,21 +44,25 @@ fn outside(subject: &str, value: u128, low: u128, high: u128) -> Option<Compared
 
 /// What the rule with this code compares in the record.
 fn what_is_compared(state: &State, record: &[u8], code: u8, field: u8) -> Option<Compared> {
-    let (version, kind) = (u128::from(record[2]), record[3]);
+    let (version, kind) = (record[2], record[3]);
     let length = record.len() as u128 - 2;
     match code {
-        2 => return compared("the version", version, Asked::Exactly, 1),
+        2 if kind == kind::FARM => return outside("the version", u128::from(version), 1, 2),
+        2 => return compared("the version", u128::from(version), Asked::Exactly, 1),
         3 => return outside("the kind", u128::from(kind), 1, u128::from(*kind::ALL.end())),
-        4 => return compared("the length", length, Asked::Exactly, u128::from(length_of(kind))),
+        4 => {
+            let right = u128::from(length_of(kind, version));
+            return compared("the length", length, Asked::Exactly, right);
+        }
         _ => {}
     }
-    let v = values_of(kind, record);
+    let v = values_of(record);
     match (code, kind) {
         (7, _) => {
             let at = usize::from(field) - 1;
-            let f = &fields_of(kind)[at];
+            let f = &fields_of(kind, version)[at];
             outside(
-                spoken_of(u64::from(kind))[at].name,
+                spoken_of(u64::from(kind), v.len())[at].name,
                 v[at],
                 u128::from(f.low),
                 u128::from(f.high),
@@ -160,7 +167,7 @@ pub fn why(book: &[u8]) -> (String, bool) {
 /// A book for each end of each field's range that a value can cross.
 fn beyond_each_end() -> Vec<Vec<u8>> {
     let mut books = Vec::new();
-    for kind in kind::ALL {
+    for (kind, plain) in plain_rows() {
         let mut start = Vec::new();
         if kind != kind::FARM {
             start.extend(record_of(kind::FARM, &plain_values(kind::FARM)));
@@ -169,20 +176,22 @@ fn beyond_each_end() -> Vec<Vec<u8>> {
             let class = if kind == kind::PIG { 4 } else { 1 };
             start.extend(record_of(kind::HEADING, &[12, class, 40]));
         }
-        for position in 0..fields_of(kind).len() {
-            for value in values_outside(kind, position) {
-                let mut values = plain_values(kind);
+        for (position, f) in fields_with(kind, plain.len()).iter().enumerate() {
+            for value in values_outside(f) {
+                let mut values = plain.clone();
                 values[position] = value;
                 books.push([start.clone(), record_of(kind, &values)].concat());
             }
         }
     }
+    // Where the range begins at 1, 0 is far below it and just below it.
+    books.dedup();
     books
 }
 
 /// A book of 4,096 records without a close, and one record more.
-fn one_too_many() -> Vec<u8> {
-    let mut book = record_of(kind::FARM, &plain_values(kind::FARM));
+fn one_too_many(dice: &mut Dice) -> Vec<u8> {
+    let mut book = some_farm(dice);
     for _ in 1..=MOST_RECORDS {
         book.extend(record_of(kind::SOIL, &[1]));
     }
@@ -191,8 +200,8 @@ fn one_too_many() -> Vec<u8> {
 
 /// Grazing records whose fractions pass the whole with the last, which may be one of several.
 fn too_much_grazing(dice: &mut Dice) -> Vec<u8> {
-    let farm = record_of(kind::FARM, &plain_values(kind::FARM));
-    let mut book = [farm, record_of(kind::HEADING, &[12, dice.between(1, 3), 40])].concat();
+    let mut book =
+        [some_farm(dice), record_of(kind::HEADING, &[12, dice.between(1, 3), 40])].concat();
     let mut state = after(&State::default(), &book);
     while state.heading.grazed == 0 || dice.one_in(3) {
         let record = record_of(kind::GRAZING, &right_values(dice, &state, kind::GRAZING));
@@ -203,7 +212,13 @@ fn too_much_grazing(dice: &mut Dice) -> Vec<u8> {
     [book, record_of(kind::GRAZING, &[1, 1, 1, fraction])].concat()
 }
 
-/// A book to ask it of, by chance: refused by each number, beyond each end, cut, right, or with bytes behind it.
+/// The books in turn.
+fn one_of(mut books: Vec<Vec<u8>>, turn: u64) -> Vec<u8> {
+    let at = turn as usize % books.len();
+    books.swap_remove(at)
+}
+
+/// A book to ask it of, by chance: refused by each number, in other versions, beyond each end, cut, right, or with bytes behind it.
 pub fn doubtful(seed: u64, index: u64) -> Vec<u8> {
     let mut dice = Dice::of_case(seed, index);
     let dice = &mut dice;
@@ -218,13 +233,13 @@ pub fn doubtful(seed: u64, index: u64) -> Vec<u8> {
         1 => closed_run(dice, &start, count),
         2 => [closed_run(dice, &start, count), vec![0, 0, 1]].concat(),
         3 => damaged(seed, index),
-        7 if index % 100 == 7 => one_too_many(),
+        5 if index % 40 == 5 => one_of(of_no_version(), index / 40),
+        7 if index % 40 == 27 => one_of(of_wrong_length(), index / 40),
+        7 if index % 100 == 7 => one_too_many(dice),
         13 if index % 40 == 13 => too_much_grazing(dice),
         4..=15 => damaged_run(dice, &start, (index % 20 - 3) as u8),
         _ => {
-            let books = beyond_each_end();
-            let mut book =
-                books[((index / 20) * 4 + index % 20 - 16) as usize % books.len()].clone();
+            let mut book = one_of(beyond_each_end(), (index / 20) * 4 + index % 20 - 16);
             book.extend(right_close(&after(&start, &book)));
             book
         }

@@ -1,6 +1,7 @@
 //! The typed book's words: names of kinds, fields and classes, what is expected of a field, and the sentence of each refusal.
 
 use crate::kind;
+use crate::record::version_with;
 
 /// How people name a field: its name, the decimals of the unit that they say, and what is expected of it.
 pub struct Spoken {
@@ -22,11 +23,11 @@ const CLASSES: [&str; 4] = ["milking", "dry", "heifer", "pig"];
 
 const DAYS: Spoken = spoken("days", 0, "1 to 366");
 
-const FARM: [Spoken; 3] = [
-    spoken("farm number", 0, "0 to 4294967295"),
-    spoken("year", 0, "1900 to 2200"),
-    spoken("warming set", 0, "1 or 2"),
-];
+const FARM_NUMBER: Spoken = spoken("farm number", 0, "0 to 4294967295");
+const YEAR: Spoken = spoken("year", 0, "1900 to 2200");
+const FARM: [Spoken; 3] = [FARM_NUMBER, YEAR, spoken("warming set", 0, "1 or 2")];
+const FARM_2: [Spoken; 4] =
+    [FARM_NUMBER, YEAR, spoken("CH4 factor", 0, "1 to 1000"), spoken("N2O factor", 0, "1 to 1000")];
 const HEADING: [Spoken; 3] = [
     spoken("group", 0, "1 to 65535"),
     spoken("class", 0, "1 to 4 (milking, dry, heifer, pig)"),
@@ -85,9 +86,10 @@ const GRAZING: [Spoken; 4] = [
     spoken("fraction", 2, "0 to 100.00 per cent"),
 ];
 
-/// The fields of a kind, in order; a kind that the book has not has none.
-pub fn spoken_of(kind: u64) -> &'static [Spoken] {
+/// The fields of a kind where so many values are given, in order; a kind that the book has not has none.
+pub fn spoken_of(kind: u64, count: usize) -> &'static [Spoken] {
     match kind::of(kind) {
+        Some(kind::FARM) if version_with(kind::FARM, count) == 2 => &FARM_2,
         Some(kind::FARM) => &FARM,
         Some(kind::HEADING) => &HEADING,
         Some(kind::ENTERIC) => &ENTERIC,
@@ -99,6 +101,15 @@ pub fn spoken_of(kind: u64) -> &'static [Spoken] {
         Some(kind::TILLAGE) => &TILLAGE,
         Some(kind::GRAZING) => &GRAZING,
         _ => &[],
+    }
+}
+
+/// The names of a kind's fields, in each of its versions.
+pub fn names_of(kind: u64) -> String {
+    let names = |fields: &[Spoken]| fields.iter().map(|f| f.name).collect::<Vec<_>>().join(", ");
+    match kind::of(kind) {
+        Some(kind::FARM) => format!("{}, or {}", names(&FARM), names(&FARM_2)),
+        _ => names(spoken_of(kind, 0)),
     }
 }
 

@@ -2,7 +2,7 @@
 
 use crate::judge::judge_values;
 use crate::kind;
-use crate::record::{fields_of, record_of};
+use crate::record::{fields_with, record_of};
 use crate::state::{Refusal, State, CLOSED, REFUSED};
 
 /// A record's bytes and the reader's next state.
@@ -17,7 +17,7 @@ pub fn write(state: &State, kind: u64, values: &[u64], room: usize) -> Result<Wr
     can_be_written_to(state)?;
     let refusal = |code, field| Refusal { code, record: state.records, field };
     let Some(kind) = kind::of(kind) else { return Err(refusal(3, 0)) };
-    if values.len() != fields_of(kind).len() {
+    if values.len() != fields_with(kind, values.len()).len() {
         return Err(refusal(4, 0));
     }
     // Wide numbers, so that one too big for its bytes is out of its field's range.

@@ -4,12 +4,14 @@ use crate::books::{after, closed_run, right_close, right_record, values_outside,
 use crate::dice::{Dice, Seed};
 use crate::grazings;
 use crate::kind;
-use crate::plain::{place_of, plain_values, sample, under};
-use crate::record::{fields_of, length_of, values_of};
+use crate::plain::{place_of, plain_rows, plain_values, sample, under};
+use crate::record::{fields_with, number, record_of, values_of};
 use crate::state::{Heading, Refusal, State, CLOSED, MOST_RECORDS, NO_RECORD, OPEN, REFUSED};
 use crate::states::{right_state, some_beside, some_refusal};
 use crate::tillages;
 use crate::trial::Case;
+use crate::warming::{factors, NONE};
+use crate::warmings;
 use crate::writer::write;
 
 /// Numbers that are no kind, some of which end in a kind's byte.
@@ -21,19 +23,18 @@ const MOST_VALUES: usize = 20;
 /// How many fresh cases there are from one row of records to the next.
 const ROW: u64 = 200;
 
-/// The bytes of a record of this kind, the two of its length among them.
-fn size_of(kind: u8) -> usize {
-    2 + usize::from(length_of(kind))
+/// The bytes of a record of this kind with these values, the two of its length among them.
+fn size_of(kind: u8, values: &[u64]) -> usize {
+    record_of(kind, values).len()
 }
 
-fn case(state: State, kind: u8, values: &[u64], room: usize) -> Case {
+pub fn case(state: State, kind: u8, values: &[u64], room: usize) -> Case {
     Case::Write { state, kind: kind.into(), values: values.to_vec(), room }
 }
 
 /// A record's kind and values.
 fn parts_of(record: &[u8]) -> (u8, Vec<u64>) {
-    let kind = record[3];
-    (kind, values_of(kind, record).into_iter().map(|value| value as u64).collect())
+    (record[3], values_of(record).into_iter().map(|value| value as u64).collect())
 }
 
 /// The records of an accepted book.
@@ -41,7 +42,7 @@ pub fn records_of(book: &[u8]) -> Vec<&[u8]> {
     let mut records = Vec::new();
     let mut rest = book;
     while !rest.is_empty() {
-        let (record, more) = rest.split_at(size_of(rest[3]));
+        let (record, more) = rest.split_at(2 + number(&rest[..2]) as usize);
         records.push(record);
         rest = more;
     }
@@ -81,6 +82,7 @@ pub fn some_write(dice: &mut Dice) -> Case {
         base.records = dice.of(&[4_094, 4_095, 4_096]);
     }
     let (known, mut values) = some_parts(dice, &base);
+    let size = size_of(known, &values);
     let mut kind = u64::from(known);
     match dice.below(8) {
         0 => past_its_bytes(dice, known, &mut values),
@@ -90,7 +92,6 @@ pub fn some_write(dice: &mut Dice) -> Case {
         _ => (),
     }
     let state = some_state(dice, &base);
-    let size = size_of(known);
     let any = dice.below(64) as usize;
     let room = dice.of(&[0, size - 1, size, size, size + 1, 64, 64, 64, any]);
     Case::Write { state, kind, values, room }
@@ -113,7 +114,7 @@ fn some_parts(dice: &mut Dice, state: &State) -> (u8, Vec<u64>) {
 /// One value becomes too big for its bytes; often its last bytes are still right.
 fn past_its_bytes(dice: &mut Dice, kind: u8, values: &mut [u64]) {
     let position = dice.below(values.len() as u64) as usize;
-    let bits = 8 * fields_of(kind)[position].bytes;
+    let bits = 8 * fields_with(kind, values.len())[position].bytes;
     let more = dice.below(1 << (64 - bits));
     let high = dice.of(&[1, 256, 1 << (63 - bits), more.max(1)]) << bits;
     values[position] = dice.of(&[values[position] + high, values[position] | high, u64::MAX]);
@@ -154,7 +155,7 @@ pub fn stored() -> Vec<Case> {
     cases.extend(every_sort_of_state());
     cases.extend(in_order());
     cases.extend(row(&sample()));
-    for seed in [Seed::up_to(kind::CLOSE, 4), tillages::SEED, grazings::SEED] {
+    for seed in [Seed::up_to(kind::CLOSE, 4), tillages::SEED, grazings::SEED, warmings::SEED] {
         let mut dice = Dice::of_case(seed, 0);
         for count in [9, 12] {
             cases.extend(row(&closed_run(&mut dice, &State::default(), count)));
@@ -166,20 +167,19 @@ pub fn stored() -> Vec<Case> {
 /// Each kind with each room that matters.
 fn rooms() -> Vec<Case> {
     let mut cases = Vec::new();
-    for kind in kind::ALL {
-        let size = size_of(kind);
+    for (kind, plain) in plain_rows() {
+        let size = size_of(kind, &plain);
         for room in [0, size - 1, size, size + 1, 64] {
-            cases.push(case(place_of(kind), kind, &plain_values(kind), room));
+            cases.push(case(place_of(kind), kind, &plain, room));
         }
     }
     cases
 }
 
-/// Too few and too many values.
+/// Too few and too many values; a farm record with one more or less is of the other version.
 fn counts() -> Vec<Case> {
     let mut cases = Vec::new();
-    for kind in kind::ALL {
-        let right = plain_values(kind);
+    for (kind, right) in plain_rows() {
         for count in [right.len() - 1, right.len() + 1, MOST_VALUES] {
             let mut values = right.clone();
             values.resize(count, 1);
@@ -190,8 +190,8 @@ fn counts() -> Vec<Case> {
 }
 
 /// The plain values of a kind with one of them changed.
-fn with_value(kind: u8, position: usize, value: u64) -> Case {
-    let mut values = plain_values(kind);
+fn with_value(kind: u8, plain: &[u64], position: usize, value: u64) -> Case {
+    let mut values = plain.to_vec();
     values[position] = value;
     case(place_of(kind), kind, &values, 64)
 }
@@ -199,12 +199,11 @@ fn with_value(kind: u8, position: usize, value: u64) -> Case {
 /// Each field with a value whose last bytes alone would be right, and each kind's last field with the largest there is.
 fn values_too_big() -> Vec<Case> {
     let mut cases = Vec::new();
-    for kind in kind::ALL {
-        let plain = plain_values(kind);
-        for (position, f) in fields_of(kind).iter().enumerate() {
-            cases.push(with_value(kind, position, plain[position] + (1 << (8 * f.bytes))));
+    for (kind, plain) in plain_rows() {
+        for (position, f) in fields_with(kind, plain.len()).iter().enumerate() {
+            cases.push(with_value(kind, &plain, position, plain[position] + (1 << (8 * f.bytes))));
         }
-        cases.push(with_value(kind, plain.len() - 1, u64::MAX));
+        cases.push(with_value(kind, &plain, plain.len() - 1, u64::MAX));
     }
     cases
 }
@@ -212,12 +211,12 @@ fn values_too_big() -> Vec<Case> {
 /// Each kind's first field that has any, and its last, outside their ranges.
 fn values_out_of_range() -> Vec<Case> {
     let mut cases = Vec::new();
-    for kind in kind::ALL.filter(|&kind| kind != kind::CLOSE) {
-        let count = fields_of(kind).len();
-        let first = (0..count).find(|&position| !values_outside(kind, position).is_empty());
-        for position in first.into_iter().chain([count - 1]) {
-            let outside = values_outside(kind, position);
-            cases.extend(outside.into_iter().map(|value| with_value(kind, position, value)));
+    for (kind, plain) in plain_rows().into_iter().filter(|&(kind, _)| kind != kind::CLOSE) {
+        let fields = fields_with(kind, plain.len());
+        let first = fields.iter().position(|f| !values_outside(f).is_empty());
+        for position in first.into_iter().chain([fields.len() - 1]) {
+            let outside = values_outside(&fields[position]).into_iter();
+            cases.extend(outside.map(|value| with_value(kind, &plain, position, value)));
         }
     }
     cases
@@ -240,7 +239,7 @@ fn every_sort_of_state() -> Vec<Case> {
     for (code, field) in [(1, 0), (7, 1), (7, 12), (12, 0)] {
         states.push(refused(open, code, field));
     }
-    states.push(State { set: 0, ..open });
+    states.push(State { factors: NONE, ..open });
     states.push(State { held_count: 1 << 32, ..open });
     states.push(State { stage: 4, ..open });
     states.push(State { records: MOST_RECORDS, ..open });
@@ -263,7 +262,7 @@ pub fn in_order() -> Vec<Case> {
     let full = State { records: MOST_RECORDS, ..open };
     let grazed = State { heading: Heading { grazed: 10_000, ..open.heading }, ..open };
     let offered: [(State, u8, &[u64]); 19] = [
-        (State { set: 3, ..refused(open, 6, 0) }, 0, &[]),
+        (State { factors: factors(1_001, 310), ..refused(open, 6, 0) }, 0, &[]),
         (refused(open, 6, 0), 0, &[]),
         (State { stage: CLOSED, ..open }, 0, &[]),
         (after(&open, &[0]), 9, &[]),

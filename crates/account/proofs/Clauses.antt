@@ -16,7 +16,7 @@ use Rattle.account.specs.declared.Days.{Days}
 use Rattle.account.specs.declared.Figures.{Figures}
 use Rattle.account.specs.declared.Subtotal.{Subtotal}
 use Rattle.account.specs.declared.Refusal.{Refusal}
-use Rattle.account.specs.Range.{Counted, Warmed, Headed, Unheaded, Bounded, Grouped, Ungrouped, Numbered, Unrefused, GrazedIn, AccountInRange, countedTest, warmedTest, headedTest, unheadedTest, boundedTest, groupedTest, ungroupedTest, numberedTest, unrefusedTest, grazedTest, accountInRange}
+use Rattle.account.specs.Range.{Counted, FactorIn, Headed, Unheaded, Bounded, Grouped, Ungrouped, Numbered, Unrefused, GrazedIn, AccountInRange, countedTest, factorTest, headedTest, unheadedTest, boundedTest, groupedTest, ungroupedTest, numberedTest, unrefusedTest, grazedTest, accountInRange}
 
 -- ---- clause by clause, from the test
 
@@ -53,24 +53,24 @@ module _ (stage records : ℕ) where
         ),
       )
 
-module _ (set records : ℕ) where
-  abbrev warmedRest : List Bool
-  warmedRest = (not (eqb set 0) || eqb records 0) ∷ (not (eqb records 0) || eqb set 0) ∷ []
+module _ (factor records : ℕ) where
+  abbrev factorRest : List Bool
+  factorRest = (not (eqb factor 0) || eqb records 0) ∷ (not (eqb records 0) || eqb factor 0) ∷ []
 
-  pub warmed-parts : warmedTest set records ≡ true → Warmed set records
-  warmed-parts e =
-      let t = all-each (leb set 2) warmedRest e in
+  pub factor-parts : factorTest factor records ≡ true → FactorIn factor records
+  factor-parts e =
+      let t = all-each (leb factor 1000) factorRest e in
       record {
-        set-most = leb-true _ _ (t .0);
+        most = leb-true _ _ (t .0);
         none = λ h. eqb-true _ _ (implied _ _ (t .1 .0) (eq-eqb _ _ h));
         some = λ h. eqb-true _ _ (implied _ _ (t .1 .1 .0) (eq-eqb _ _ h));
       }
 
-  pub warmed-test : Warmed set records → warmedTest set records ≡ true
-  warmed-test w =
-      each-all (leb set 2) warmedRest (le-leb _ _ (w .set-most)) (
-        implies (eqb set 0) (eqb records 0) (λ h. eq-eqb _ _ (w .none (eqb-true _ _ h))),
-        (implies (eqb records 0) (eqb set 0) (λ h. eq-eqb _ _ (w .some (eqb-true _ _ h))), tt),
+  pub factor-test : FactorIn factor records → factorTest factor records ≡ true
+  factor-test w =
+      each-all (leb factor 1000) factorRest (le-leb _ _ (w .most)) (
+        implies (eqb factor 0) (eqb records 0) (λ h. eq-eqb _ _ (w .none (eqb-true _ _ h))),
+        (implies (eqb records 0) (eqb factor 0) (λ h. eq-eqb _ _ (w .some (eqb-true _ _ h))), tt),
       )
 
 module _ (h : Heading) (d : Days) where
@@ -268,7 +268,8 @@ module _ (group grazed : ℕ) where
 module _ (a : Account) where
   abbrev fairRest : List Bool
   fairRest =
-      warmedTest (a .set) (a .records)
+      factorTest (a .factors .ch4) (a .records)
+      ∷ factorTest (a .factors .n2o) (a .records)
       ∷ (headedTest (a .heading) (a .days) (a .records) || unheadedTest (a .heading) (a .days))
       ∷ boundedTest (a .sums) (a .records)
       ∷ (groupedTest (a .subtotal) (a .records) && (not (eqb (a .heading .group) 0) || ungroupedTest (a .subtotal)))
@@ -283,30 +284,34 @@ module _ (a : Account) where
       let t = all-each (countedTest (a .stage) (a .records)) fairRest e in
       record {
         counted = counted-parts _ _ (t .0);
-        warmed = warmed-parts _ _ (t .1 .0);
-        heading = heading-parts (a .heading) (a .days) (a .records) (t .1 .1 .0);
-        sums = bounded-parts (a .sums) (a .records) (t .1 .1 .1 .0);
-        grouped = grouped-parts (a .subtotal) (a .records) (and-l _ _ (t .1 .1 .1 .1 .0));
-        ungrouped = λ h. ungrouped-parts (a .subtotal) (implied _ _ (and-r (groupedTest (a .subtotal) (a .records)) _ (t .1 .1 .1 .1 .0)) (eq-eqb _ _ h));
-        refused = λ h. numbered-parts (a .refusal) (a .records) (implied _ _ (t .1 .1 .1 .1 .1 .0) (eq-eqb _ _ h));
-        unrefused = λ h. unrefused-parts (a .refusal) (or-right _ _ (t .1 .1 .1 .1 .1 .1 .0) (ne-eqb _ _ h));
-        grazed = grazed-parts _ _ (t .1 .1 .1 .1 .1 .1 .1 .0);
+        ch4-factor = factor-parts _ _ (t .1 .0);
+        n2o-factor = factor-parts _ _ (t .1 .1 .0);
+        heading = heading-parts (a .heading) (a .days) (a .records) (t .1 .1 .1 .0);
+        sums = bounded-parts (a .sums) (a .records) (t .1 .1 .1 .1 .0);
+        grouped = grouped-parts (a .subtotal) (a .records) (and-l _ _ (t .1 .1 .1 .1 .1 .0));
+        ungrouped = λ h. ungrouped-parts (a .subtotal) (implied _ _ (and-r (groupedTest (a .subtotal) (a .records)) _ (t .1 .1 .1 .1 .1 .0)) (eq-eqb _ _ h));
+        refused = λ h. numbered-parts (a .refusal) (a .records) (implied _ _ (t .1 .1 .1 .1 .1 .1 .0) (eq-eqb _ _ h));
+        unrefused = λ h. unrefused-parts (a .refusal) (or-right _ _ (t .1 .1 .1 .1 .1 .1 .1 .0) (ne-eqb _ _ h));
+        grazed = grazed-parts _ _ (t .1 .1 .1 .1 .1 .1 .1 .1 .0);
       }
 
   pub in-range-test : AccountInRange a → accountInRange a ≡ true
   unfolding accountInRange
   in-range-test f =
       each-all (countedTest (a .stage) (a .records)) fairRest (counted-test _ _ (f .counted)) (
-        warmed-test _ _ (f .warmed),
+        factor-test _ _ (f .ch4-factor),
         (
-          heading-test (a .heading) (a .days) (a .records) (f .heading),
+          factor-test _ _ (f .n2o-factor),
           (
-            bounded-test (a .sums) (a .records) (f .sums),
+            heading-test (a .heading) (a .days) (a .records) (f .heading),
             (
-              subtotal-test (a .subtotal) (a .heading .group) (a .records) (f .grouped) (f .ungrouped),
+              bounded-test (a .sums) (a .records) (f .sums),
               (
-                implies (eqb (a .stage) 3) (numberedTest (a .refusal) (a .records)) (λ h. numbered-test (a .refusal) (a .records) (f .refused (eqb-true _ _ h))),
-                (or-left (eqb (a .stage) 3) (unrefusedTest (a .refusal)) (λ h. unrefused-test (a .refusal) (f .unrefused (eqb-false _ _ h))), (grazed-test _ _ (f .grazed), tt)),
+                subtotal-test (a .subtotal) (a .heading .group) (a .records) (f .grouped) (f .ungrouped),
+                (
+                  implies (eqb (a .stage) 3) (numberedTest (a .refusal) (a .records)) (λ h. numbered-test (a .refusal) (a .records) (f .refused (eqb-true _ _ h))),
+                  (or-left (eqb (a .stage) 3) (unrefusedTest (a .refusal)) (λ h. unrefused-test (a .refusal) (f .unrefused (eqb-false _ _ h))), (grazed-test _ _ (f .grazed), tt)),
+                ),
               ),
             ),
           ),

@@ -11,13 +11,13 @@ use borrow.Author.Tests.{leb-true, leb-false, ltb-true, ltb-false, eqb-true, eqb
 use lib.ListN.{getD}
 use lib.Dec.{ltb, leb, eqb}
 use Rattle.base.specs.Choice.{pick}
-use Rattle.base.proofs.Tests.{no-bool, not-true, and-l, and-r}
+use Rattle.base.proofs.Tests.{no-bool, not-true, and-l, and-r, or-l, or-r}
 use Rattle.codec.specs.declared.Field.{Field}
 use Rattle.codec.specs.Table.{field, fields, lengthOf, lengthMost, lastKind, isKind}
 use Rattle.codec.specs.Codec.{valAt, firstBad}
 use Rattle.account.specs.declared.Account.{Account}
 use Rattle.account.specs.declared.Days.{Days}
-use Rattle.account.specs.Judge.{versionOf, kindOf, valuesOf, daysOver, partsWrong, grazedOver, RefusedBy}
+use Rattle.account.specs.Judge.{versionOf, kindByte, kindOf, valuesOf, daysOver, partsWrong, grazedOver, RefusedBy}
 use Rattle.account.specs.Compared.{Compared, numbers, noNumbers, outside, rangeOf, valueAt, badField, daysWith, sharesOf, partsOf, grazedWith, valuesCompared, compared}
 use Rattle.account.specs.Compared.{BeyondEnd, ComparesWrongly}
 
@@ -62,6 +62,17 @@ field-off k v n =
     let z : badField k v - 1 ≡ b .j = omega (arith, b .is) in
     rw z (rw zero-add at (b .off))
 
+-- neither 1 nor 2
+version-off : (v : ℕ) → (v ≡ 1 → ⊥) → (v ≡ 2 → ⊥) → Off 1 2 v
+version-off zero n m = inl (omega arith)
+version-off (suc zero) n m = absurd (n refl)
+version-off (suc (suc zero)) n m = absurd (m refl)
+version-off (suc (suc (suc v))) n m = inr (omega arith, omega arith)
+
+and-true-l : (b : Bool) → b && true ≡ false → b ≡ false
+and-true-l true e = e
+and-true-l false e = refl
+
 kind-off : (k : ℕ) → not (isKind k) ≡ true → Off 1 lastKind k
 kind-off k e = go (leb 1 k) (leb k lastKind) refl refl e
   where
@@ -69,6 +80,19 @@ kind-off k e = go (leb 1 k) (leb k lastKind) refl refl e
     go true true p q e = no-bool e
     go true false p q e = inr (leb-true _ _ p, leb-false _ _ q)
     go false b p q e = inl (leb-false _ _ p)
+
+-- a version that 2 refuses, of a farm record or of another
+version-wrong : (v k : ℕ) → (eqb v 1 || (eqb v 2 && eqb k 1)) ≡ false
+    → ((k ≡ 1) × (pick (eqb k 1) (outside 1 2 v) (numbers v 1) .some ≡ true) × (pick (eqb k 1) (outside 1 2 v) (numbers v 1) .value ≡ v)
+    × BeyondEnd 1 2 (pick (eqb k 1) (outside 1 2 v) (numbers v 1)))
+    ⊎ ((k ≡ 1 → ⊥) × (pick (eqb k 1) (outside 1 2 v) (numbers v 1) ≡ numbers v 1) × (pick (eqb k 1) (outside 1 2 v) (numbers v 1) .value ≡ pick (eqb k 1) (outside 1 2 v) (numbers v 1) .limit → ⊥))
+version-wrong v k h = go (eqb k 1) refl (eqb-false _ _ (or-l (eqb v 1) _ h)) (or-r (eqb v 1) (eqb v 2 && eqb k 1) h)
+  where
+    go : (b : Bool) → eqb k 1 ≡ b → (v ≡ 1 → ⊥) → eqb v 2 && b ≡ false
+        → ((k ≡ 1) × (pick b (outside 1 2 v) (numbers v 1) .some ≡ true) × (pick b (outside 1 2 v) (numbers v 1) .value ≡ v) × BeyondEnd 1 2 (pick b (outside 1 2 v) (numbers v 1)))
+        ⊎ ((k ≡ 1 → ⊥) × (pick b (outside 1 2 v) (numbers v 1) ≡ numbers v 1) × (pick b (outside 1 2 v) (numbers v 1) .value ≡ pick b (outside 1 2 v) (numbers v 1) .limit → ⊥))
+    go true e n m = inl (eqb-true _ _ e, refl, refl, beyond 1 2 v (version-off v n (eqb-false _ _ (and-true-l (eqb v 2) m))))
+    go false e n m = inr (eqb-false _ _ e, refl, n)
 
 -- ---- 9 and 10
 
@@ -117,8 +141,8 @@ compares-wrongly c a r t =
     let t8 = t .values .rising .1 in
     let t12 = t .values .count .1 in
     record {
-      version = λ e. rw e (refl, eqb-false _ _ (not-true _ (t .version .1 (sym e))));
-      kind = λ e. rw e (refl, refl, beyond 1 lastKind k (kind-off k (t .kind .1 (sym e))));
+      version = λ e. rw e (version-wrong (versionOf r) (kindByte r) (not-true _ (t .version .1 (sym e))));
+      kind = λ e. rw e (refl, refl, beyond 1 lastKind (kindByte r) (kind-off (kindByte r) (t .kind .1 (sym e))));
       long = λ e. rw e (refl, eqb-false _ _ (not-true _ (t .long .1 (sym e))));
       room = λ e. rw e refl;
       place = λ e. rw e refl;

@@ -11,12 +11,13 @@ use lib.ListN.{length, getD}
 use lib.Dec.{leb, eqb}
 use Rattle.base.specs.Choice.{pick}
 use Rattle.base.proofs.Tests.{and-l, and-r, or-l, not-false, not-true, of-choice}
-use Rattle.codec.proofs.EachKind.{each-kind}
+use Rattle.codec.proofs.EachKind.{each-row, row-of-kind}
 use Rattle.codec.specs.declared.Field.{Field}
-use Rattle.codec.specs.Table.{table, fields, isKind, lineSize, totalSize, linesMost}
+use Rattle.codec.specs.Table.{table, fields, isRow, lineSize, totalSize, linesMost}
 use Rattle.codec.specs.Codec.{firstBad}
 use Rattle.codec.proofs.Within.{bad-position}
 use Rattle.grams.specs.Farm.{energyOf, soilOf}
+use Rattle.grams.specs.declared.farm.Factors.{Factors}
 use Rattle.grams.specs.Tillage.{tillageOf}
 use Rattle.grams.proofs.Small.{enteric-small, cattle-excreted-small, cattle-n2o-small, pig-ch4-small, pig-n2o-small, pig-excreted-small}
 use Rattle.grams.proofs.Small.{pig-land-small, energy-small, soil-small, tillage-small, grazing-small}
@@ -24,11 +25,11 @@ use Rattle.account.specs.declared.Account.{Account}
 use Rattle.account.specs.declared.Days.{Days}
 use Rattle.account.specs.declared.Figures.{Figures}
 use Rattle.account.specs.declared.Subtotal.{Subtotal}
-use Rattle.account.specs.Sorts.{sortOf}
+use Rattle.account.specs.Sorts.{isFarm, sortOf}
 use Rattle.account.specs.Figures.{figuresOf, grouped, groupFigures}
 use Rattle.account.specs.Line.{joined, lineWith, lineOf, subtotals, totalOf}
-use Rattle.account.specs.Range.{Headed, Unheaded, Grouped, Ungrouped, Unrefused, GrazedIn, AccountInRange}
-use Rattle.account.specs.Judge.{kindOf, valuesOf, noRecord, refused, opened, underHeading, withDetail, closed, headingServes, inPlace, refusals}
+use Rattle.account.specs.Range.{FactorIn, Headed, Unheaded, Grouped, Ungrouped, Unrefused, GrazedIn, AccountInRange}
+use Rattle.account.specs.Judge.{versionOf, kindByte, kindOf, valuesOf, noRecord, refused, opened, underHeading, withDetail, closed, headingServes, inPlace, refusals}
 use Rattle.account.specs.Judge.{first, ValuesPass, Step, accepted, judge}
 use Rattle.account.specs.Told.{Small}
 use Rattle.account.proofs.Sorts.{by-sort}
@@ -36,7 +37,7 @@ use Rattle.account.proofs.Sums as sums
 use Rattle.account.proofs.Sums.{ch4-small, co2-small, cattle-small, pig-small, bounded-none, bounded-next, bounded-added, grouped-none}
 use Rattle.account.proofs.Sums.{ungrouped-none, grouped-next, grouped-added}
 use Rattle.account.proofs.Refusals.{passed, not-refused, refused-by, number-most}
-use Rattle.account.proofs.Ranges.{farm-in, heading-in, enteric-in, cattle-in, pig-in, energy-in, soil-in, tillage-in, grazing-in}
+use Rattle.account.proofs.Ranges.{factors-in, heading-in, enteric-in, cattle-in, pig-in, energy-in, soil-in, tillage-in, grazing-in}
 use Rattle.account.proofs.Told.{head-most, line-long, total-long, both-long}
 
 -- ---- an account in range
@@ -48,7 +49,8 @@ pub in-range-none : AccountInRange noRecord
 in-range-none =
     record {
       counted = record { stage-most = omega arith; records-most = omega arith; in-zero = λ e. refl; in-one = λ e. absurd (omega arith); in-two = λ e. absurd (omega arith) };
-      warmed = record { set-most = omega arith; none = λ e. refl; some = λ e. refl };
+      ch4-factor = record { most = omega arith; none = λ e. refl; some = λ e. refl };
+      n2o-factor = record { most = omega arith; none = λ e. refl; some = λ e. refl };
       heading = inr (record { group = refl; class = refl; head = refl; enteric = refl; nitrogen = refl; pig = refl });
       sums = bounded-none 0;
       grouped = grouped-none 0;
@@ -62,7 +64,8 @@ in-range-refused : (a : Account) (code field : ℕ) → AccountInRange a → 1 �
 in-range-refused a code field f low high most some none =
     record {
       counted = record { stage-most = omega arith; records-most = f .counted .records-most; in-zero = λ e. absurd (omega arith); in-one = λ e. absurd (omega arith); in-two = λ e. absurd (omega arith) };
-      warmed = f .warmed;
+      ch4-factor = f .ch4-factor;
+      n2o-factor = f .n2o-factor;
       heading = f .heading;
       sums = f .sums;
       grouped = f .grouped;
@@ -92,7 +95,7 @@ short-at (r ∷ t) (suc k) s = short-at t k (s .1)
 row-short : (k : ℕ) → length (fields k) ≤ 12
 unfolding table Short
 row-short k =
-    short-at table k (omega arith, (omega arith, (omega arith, (omega arith, (omega arith, (omega arith, (omega arith, (omega arith, (omega arith, (omega arith, (omega arith, tt)))))))))))
+    short-at table k (omega arith, (omega arith, (omega arith, (omega arith, (omega arith, (omega arith, (omega arith, (omega arith, (omega arith, (omega arith, (omega arith, (omega arith, tt))))))))))))
 
 -- 7 is the number only where a field is out of range
 seven-field : (a : Account) (r : List ℕ) → first (refusals a r) ≡ 7 → firstBad (fields (kindOf r)) (valuesOf r) 0 ≡ 0 → ⊥
@@ -110,11 +113,16 @@ module _ (a : Account) (f : AccountInRange a) (early : a .stage < 2) where
   zeros : Unrefused (a .refusal)
   zeros = f .unrefused not-three
 
-  in-range-opened : (set : ℕ) → 1 ≤ set → set ≤ 2 → a .records ≡ 0 → AccountInRange (opened a set)
-  in-range-opened set low high none =
+  -- a farm record's factor, with one record
+  first-factor : (factor : ℕ) → 1 ≤ factor → factor ≤ 1000 → FactorIn factor (a .records + 1)
+  first-factor factor low high = record { most = high; none = λ e. absurd (omega arith); some = λ e. absurd (omega arith) }
+
+  in-range-opened : (w : Factors) → 1 ≤ w .ch4 → w .ch4 ≤ 1000 → 1 ≤ w .n2o → w .n2o ≤ 1000 → a .records ≡ 0 → AccountInRange (opened a w)
+  in-range-opened w c1 c2 n1 n2 none =
       record {
         counted = record { stage-most = omega arith; records-most = omega arith; in-zero = λ e. absurd (omega arith); in-one = λ e. omega arith; in-two = λ e. absurd (omega arith) };
-        warmed = record { set-most = high; none = λ e. absurd (omega arith); some = λ e. absurd (omega arith) };
+        ch4-factor = first-factor (w .ch4) c1 c2;
+        n2o-factor = first-factor (w .n2o) n1 n2;
         heading = ⊎-elim (λ (h : Headed (a .heading) (a .days) (a .records)). absurd (omega arith)) (λ (u : Unheaded (a .heading) (a .days)). inr u) (f .heading);
         sums = bounded-next (f .sums);
         grouped = grouped-next (f .grouped);
@@ -126,14 +134,15 @@ module _ (a : Account) (f : AccountInRange a) (early : a .stage < 2) where
 
   -- from the second record on
   module _ (begun : 1 ≤ a .records) (room : a .records < 4096) where
-    warm-on : (a .set ≡ 0 → ⊥)
-    warm-on e = let z = f .warmed .none e in omega arith
+    factor-on : (factor : ℕ) → FactorIn factor (a .records) → FactorIn factor (a .records + 1)
+    factor-on factor w = record { most = w .most; none = λ e. let z = w .none e in absurd (omega arith); some = λ e. absurd (omega arith) }
 
     in-range-heading : (group class head : ℕ) → 1 ≤ group → group ≤ 65535 → 1 ≤ class → class ≤ 4 → head ≤ 20000 → AccountInRange (underHeading a group class head)
     in-range-heading group class head g1 g2 c1 c2 h =
         record {
           counted = record { stage-most = omega arith; records-most = omega arith; in-zero = λ e. let z = f .counted .in-zero e in absurd (omega arith); in-one = λ e. omega arith; in-two = λ e. absurd (omega arith) };
-          warmed = record { set-most = f .warmed .set-most; none = λ e. absurd (warm-on e); some = λ e. absurd (omega arith) };
+          ch4-factor = factor-on _ (f .ch4-factor);
+          n2o-factor = factor-on _ (f .n2o-factor);
           heading = inl (record {
             group-least = g1;
             group-most = g2;
@@ -182,7 +191,8 @@ module _ (a : Account) (f : AccountInRange a) (early : a .stage < 2) where
     in-range-closed =
         record {
           counted = record { stage-most = omega arith; records-most = omega arith; in-zero = λ e. absurd (omega arith); in-one = λ e. absurd (omega arith); in-two = λ e. omega arith };
-          warmed = record { set-most = f .warmed .set-most; none = λ e. absurd (warm-on e); some = λ e. absurd (omega arith) };
+          ch4-factor = factor-on _ (f .ch4-factor);
+          n2o-factor = factor-on _ (f .n2o-factor);
           heading = heading-on;
           sums = bounded-next (f .sums);
           grouped = grouped-next (f .grouped);
@@ -197,7 +207,8 @@ module _ (a : Account) (f : AccountInRange a) (early : a .stage < 2) where
     in-range-detail d z t g small h grouped ungrouped grazed-in =
         record {
           counted = record { stage-most = omega arith; records-most = omega arith; in-zero = λ e. let z = f .counted .in-zero e in absurd (omega arith); in-one = λ e. omega arith; in-two = λ e. absurd (omega arith) };
-          warmed = record { set-most = f .warmed .set-most; none = λ e. absurd (warm-on e); some = λ e. absurd (omega arith) };
+          ch4-factor = factor-on _ (f .ch4-factor);
+          n2o-factor = factor-on _ (f .n2o-factor);
           heading = h;
           sums = bounded-added (f .sums) small;
           grouped = grouped;
@@ -284,9 +295,19 @@ module _ (a : Account) (f : AccountInRange a) (early : a .stage < 2) where
 
   kept-farm : (v : List ℕ) → ValuesPass a 1 v → Kept (accepted a 1 v)
   unfolding inPlace accepted sortOf
-  kept-farm v c = let i = farm-in v (passed a 1 v c .ranges) in in-range-opened _ (i .set-least) (i .set-most) (eqb-true _ _ (passed a 1 v c .place))
+  kept-farm v c =
+      let empty = eqb-true _ _ (passed a 1 v c .place) in
+      of-choice (λ (w : Factors). AccountInRange (opened a w)) (eqb (getD v 2 0) 1)
+      (λ e. in-range-opened _ (omega arith) (omega arith) (omega arith) (omega arith) empty)
+      (λ e. in-range-opened _ (omega arith) (omega arith) (omega arith) (omega arith) empty)
 
-  after-first : (k : ℕ) (v : List ℕ) → ValuesPass a k v → eqb k 1 ≡ false → 1 ≤ a .records
+  kept-factors : (v : List ℕ) → ValuesPass a 11 v → Kept (accepted a 11 v)
+  unfolding inPlace accepted sortOf
+  kept-factors v c =
+      let i = factors-in v (passed a 11 v c .ranges) in
+      in-range-opened _ (i .ch4-least) (i .ch4-most) (i .n2o-least) (i .n2o-most) (eqb-true _ _ (passed a 11 v c .place))
+
+  after-first : (k : ℕ) (v : List ℕ) → ValuesPass a k v → isFarm k ≡ false → 1 ≤ a .records
   unfolding inPlace
   after-first k v c e =
       let p : headingServes (a .heading .class) k && not (eqb (a .records) 0) ≡ true = rw e at (passed a k v c .place) in
@@ -294,15 +315,15 @@ module _ (a : Account) (f : AccountInRange a) (early : a .stage < 2) where
       omega arith
 
   -- from the second record on
-  later : (k : ℕ) (v : List ℕ) → eqb k 1 ≡ false → ((begun : 1 ≤ a .records) (room : a .records < 4096) (v : List ℕ) → ValuesPass a k v → Kept (accepted a k v))
+  later : (k : ℕ) (v : List ℕ) → isFarm k ≡ false → ((begun : 1 ≤ a .records) (room : a .records < 4096) (v : List ℕ) → ValuesPass a k v → Kept (accepted a k v))
       → ValuesPass a k v → Kept (accepted a k v)
   later k v e kept c = kept (after-first k v c e) (passed a k v c .room) v c
 
-  pub in-range-accepted : (k : ℕ) (v : List ℕ) → ValuesPass a k v → isKind k ≡ true → Kept (accepted a k v)
+  pub in-range-accepted : (k : ℕ) (v : List ℕ) → ValuesPass a k v → isRow k ≡ true → Kept (accepted a k v)
   in-range-accepted k v c both =
-      each-kind (λ (n : ℕ). ValuesPass a n v → Kept (accepted a n v)) (kept-farm v) (later 2 v refl kept-heading) (later 3 v refl detail-enteric)
+      each-row (λ (n : ℕ). ValuesPass a n v → Kept (accepted a n v)) (kept-farm v) (later 2 v refl kept-heading) (later 3 v refl detail-enteric)
       (later 4 v refl detail-cattle) (later 5 v refl detail-pig) (later 6 v refl detail-energy) (later 7 v refl detail-soil)
-      (later 8 v refl kept-close) (later 9 v refl detail-tillage) (later 10 v refl detail-grazing) k both c
+      (later 8 v refl kept-close) (later 9 v refl detail-tillage) (later 10 v refl detail-grazing) (kept-factors v) k both c
 
 -- ---- a whole record
 
@@ -316,7 +337,7 @@ in-range-judge a r f early =
     let bad = firstBad (fields (kindOf r)) (valuesOf r) 0 in
     let short : bad ≤ 12 = omega (arith, bad-position (fields (kindOf r)) (valuesOf r) 0, row-short (kindOf r)) in
     of-choice Kept (eqb code 0)
-    (λ e. let t = not-refused a r (eqb-true _ _ e) in in-range-accepted a f early (kindOf r) (valuesOf r) (t .values) (not-false _ (t .kind)))
+    (λ e. let t = not-refused a r (eqb-true _ _ e) in in-range-accepted a f early (kindOf r) (valuesOf r) (t .values) (row-of-kind (versionOf r) (kindByte r) (not-false _ (t .kind))))
     (λ e.
     let some : code ≡ 0 → ⊥ = eqb-false _ _ e in
     in-range-refused a code (pick (eqb code 7) bad 0) f (omega arith) (number-most a r) (field-of code bad short)

@@ -33,6 +33,17 @@ pub farm-in : (v : List ℕ) → firstBad (fields 1) v 0 ≡ 0 → FarmIn v
 unfolding table
 farm-in v e = let g = good 1 v e in record { set-least = omega arith; set-most = omega arith }
 
+-- with version 2
+pub record FactorsIn (v : List ℕ) : Type 0 where
+  pub ch4-least : 1 ≤ getD v 2 0
+  pub ch4-most : getD v 2 0 ≤ 1000
+  pub n2o-least : 1 ≤ getD v 3 0
+  pub n2o-most : getD v 3 0 ≤ 1000
+
+pub factors-in : (v : List ℕ) → firstBad (fields 11) v 0 ≡ 0 → FactorsIn v
+unfolding table
+factors-in v e = let g = good 11 v e in record { ch4-least = omega arith; ch4-most = omega arith; n2o-least = omega arith; n2o-most = omega arith }
+
 pub record HeadingIn (v : List ℕ) : Type 0 where
   pub group-least : 1 ≤ getD v 0 0
   pub group-most : getD v 0 0 ≤ 65535

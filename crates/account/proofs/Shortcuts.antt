@@ -2,7 +2,7 @@
 -- Assumes nothing.
 use Prim.Native.Nat.{ℕ, zero, suc, _≤_}
 use mathlib.Core.Path.{_≡_, refl, sym, ap}
-use mathlib.Core.List.{[], _∷_}
+use mathlib.Core.List.{List, [], _∷_}
 use mathlib.Core.Bool.{Bool, true, false, _&&_, _||_, not}
 use mathlib.Core.Logic.{⊎-elim}
 use native.Mathlib.Omega.{arith}
@@ -13,9 +13,9 @@ use Rattle.account.specs.declared.Account.{Account}
 use Rattle.account.specs.declared.Heading.{Heading}
 use Rattle.account.specs.declared.Days.{Days}
 use Rattle.account.specs.declared.Subtotal.{Subtotal}
-use Rattle.account.specs.Range.{countedTest, warmedTest, headedTest, unheadedTest, boundedTest, grazedTest, groupedTest, ungroupedTest, numberedTest, unrefusedTest, accountInRange}
+use Rattle.account.specs.Range.{countedTest, factorTest, headedTest, unheadedTest, boundedTest, grazedTest, groupedTest, ungroupedTest, numberedTest, unrefusedTest, accountInRange}
 use Rattle.account.proofs.Sums.{ungrouped-bounded}
-use Rattle.account.proofs.Clauses.{counted-parts, counted-test, warmed-parts, warmed-test, headed-parts, unheaded-parts, grouped-test, ungrouped-parts}
+use Rattle.account.proofs.Clauses.{counted-parts, counted-test, factor-parts, factor-test, headed-parts, unheaded-parts, grouped-test, ungrouped-parts}
 
 -- two tests that say each other are the same
 same-test : (x y : Bool) → (x ≡ true → y ≡ true) → (y ≡ true → x ≡ true) → x ≡ y
@@ -39,36 +39,48 @@ regrouped true false true g n u = refl
 regrouped true false false g n u = refl
 regrouped false b h g n u = refl
 
--- in stage 1
-pub open-started : (records set : ℕ) → leb 1 records && leb records 4096 && leb 1 set && leb set 2 ≡ countedTest 1 records && warmedTest set records
-open-started records set = same-test _ _ there back
-  where
-    there : leb 1 records && leb records 4096 && leb 1 set && leb set 2 ≡ true → countedTest 1 records && warmedTest set records ≡ true
-    there e =
-        let t = all-each (leb 1 records) (leb records 4096 ∷ leb 1 set ∷ leb set 2 ∷ []) e in
-        let some : 1 ≤ records = leb-true _ _ (t .0) in
-        let one : 1 ≤ set = leb-true _ _ (t .1 .1 .0) in
-        both (countedTest 1 records) (warmedTest set records)
-        (counted-test 1 records
-        (record {
-          stage-most = omega arith;
-          records-most = leb-true _ _ (t .1 .0);
-          in-zero = λ h. absurd (omega arith);
-          in-one = λ h. some;
-          in-two = λ h. absurd (omega arith);
-        }))
-        (warmed-test set records (record { set-most = leb-true _ _ (t .1 .1 .1 .0); none = λ h. absurd (omega arith); some = λ h. absurd (omega arith) }))
+-- in stage 1: records and factors are there, and not too many
+module _ (records ch4 n2o : ℕ) where
+  abbrev openRest : List Bool
+  openRest = leb records 4096 ∷ leb 1 ch4 ∷ leb ch4 1000 ∷ leb 1 n2o ∷ leb n2o 1000 ∷ []
 
-    not-none : (n m : ℕ) → 1 ≤ n → (m ≡ 0 → n ≡ 0) → leb 1 m ≡ true
-    not-none n zero l h = let z = h refl in absurd (omega arith)
-    not-none n (suc m) l h = le-leb 1 (suc m) (omega arith)
+  abbrev asWhole : Bool
+  asWhole = countedTest 1 records && factorTest ch4 records && factorTest n2o records
 
-    back : countedTest 1 records && warmedTest set records ≡ true → leb 1 records && leb records 4096 && leb 1 set && leb set 2 ≡ true
-    back e =
-        let c = counted-parts 1 records (and-l (countedTest 1 records) (warmedTest set records) e) in
-        let w = warmed-parts set records (and-r (countedTest 1 records) (warmedTest set records) e) in
-        each-all (leb 1 records) (leb records 4096 ∷ leb 1 set ∷ leb set 2 ∷ []) (le-leb _ _ (c .in-one refl))
-        (le-leb _ _ (c .records-most), (not-none records set (c .in-one refl) (w .none), (le-leb _ _ (w .set-most), tt)))
+  not-none : (n m : ℕ) → 1 ≤ n → (m ≡ 0 → n ≡ 0) → leb 1 m ≡ true
+  not-none n zero l h = let z = h refl in absurd (omega arith)
+  not-none n (suc m) l h = le-leb 1 (suc m) (omega arith)
+
+  some-factor : (factor : ℕ) → 1 ≤ records → 1 ≤ factor → factor ≤ 1000 → factorTest factor records ≡ true
+  some-factor factor r low high = factor-test factor records (record { most = high; none = λ h. absurd (omega arith); some = λ h. absurd (omega arith) })
+
+  there : leb 1 records && leb records 4096 && leb 1 ch4 && leb ch4 1000 && leb 1 n2o && leb n2o 1000 ≡ true → asWhole ≡ true
+  there e =
+      let t = all-each (leb 1 records) openRest e in
+      let some : 1 ≤ records = leb-true _ _ (t .0) in
+      let c = counted-test 1 records (record {
+        stage-most = omega arith;
+        records-most = leb-true _ _ (t .1 .0);
+        in-zero = λ h. absurd (omega arith);
+        in-one = λ h. some;
+        in-two = λ h. absurd (omega arith);
+      }) in
+      both (countedTest 1 records && factorTest ch4 records) (factorTest n2o records)
+      (both (countedTest 1 records) (factorTest ch4 records) c (some-factor ch4 some (leb-true _ _ (t .1 .1 .0)) (leb-true _ _ (t .1 .1 .1 .0))))
+      (some-factor n2o some (leb-true _ _ (t .1 .1 .1 .1 .0)) (leb-true _ _ (t .1 .1 .1 .1 .1 .0)))
+
+  back : asWhole ≡ true → leb 1 records && leb records 4096 && leb 1 ch4 && leb ch4 1000 && leb 1 n2o && leb n2o 1000 ≡ true
+  back e =
+      let front = and-l (countedTest 1 records && factorTest ch4 records) (factorTest n2o records) e in
+      let c = counted-parts 1 records (and-l (countedTest 1 records) (factorTest ch4 records) front) in
+      let w = factor-parts ch4 records (and-r (countedTest 1 records) (factorTest ch4 records) front) in
+      let v = factor-parts n2o records (and-r (countedTest 1 records && factorTest ch4 records) (factorTest n2o records) e) in
+      let one = c .in-one refl in
+      each-all (leb 1 records) openRest (le-leb _ _ one)
+      (le-leb _ _ (c .records-most), (not-none records ch4 one (w .none), (le-leb _ _ (w .most), (not-none records n2o one (v .none), (le-leb _ _ (v .most), tt)))))
+
+  pub open-started : leb 1 records && leb records 4096 && leb 1 ch4 && leb ch4 1000 && leb 1 n2o && leb n2o 1000 ≡ asWhole
+  open-started = same-test _ _ there back
 
 or-true : (x : Bool) → x || true ≡ true
 or-true true = refl
@@ -133,10 +145,13 @@ module _ (a : Account) where
   abbrev noRefusal : Bool
   noRefusal = eqb (a .stage) 3 || unrefusedTest (a .refusal)
 
-  pub in-parts : countedTest (a .stage) (a .records) && warmedTest (a .set) (a .records) && boundedTest (a .sums) (a .records) && (serves && subtotal) && (refusal && noRefusal)
+  abbrev begun : Bool
+  begun = countedTest (a .stage) (a .records) && factorTest (a .factors .ch4) (a .records) && factorTest (a .factors .n2o) (a .records)
+
+  pub in-parts : begun && boundedTest (a .sums) (a .records) && (serves && subtotal) && (refusal && noRefusal)
       && grazedTest (a .heading .group) (a .grazed)
       ≡ accountInRange a
   unfolding accountInRange
   in-parts =
       ap (λ (b : Bool). b && grazedTest (a .heading .group) (a .grazed))
-      (regrouped (countedTest (a .stage) (a .records) && warmedTest (a .set) (a .records)) (boundedTest (a .sums) (a .records)) serves subtotal refusal noRefusal)
+      (regrouped begun (boundedTest (a .sums) (a .records)) serves subtotal refusal noRefusal)

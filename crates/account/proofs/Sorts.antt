@@ -1,4 +1,4 @@
--- Laws of sorts and of kinds: what holds of each of the five sorts, and of each of the eight kinds, holds of all.
+-- Laws of sorts and of kinds: what holds of each of the five sorts, and of each row of the table, holds of all.
 -- Assumes nothing.
 use Prim.Native.Nat.{ℕ, _+_, _≤_}
 use mathlib.Core.Path.{_≡_, refl}
@@ -10,7 +10,7 @@ use lib.Dec.{leb, eqb}
 use Rattle.base.specs.Choice.{pick}
 use Rattle.base.proofs.Tests.{and-l, and-r, true-or-false}
 use Rattle.codec.specs.Table.{isKind, lastKind}
-use Rattle.account.specs.Sorts.{Sort, opens, heads, ofGroup, ofFarm, closes, sortOf, bySort}
+use Rattle.account.specs.Sorts.{isFarm, Sort, opens, heads, ofGroup, ofFarm, closes, sortOf, bySort}
 
 -- ---- sorts
 
@@ -26,7 +26,7 @@ by-sort P closes p q r t u = u refl
 -- only kind 2 heads
 pub heads-two : (k : ℕ) → sortOf k ≡ heads → k ≡ 2
 unfolding sortOf
-heads-two k e = go (eqb k 1) (eqb k 2) (eqb k 3 || (eqb k 4 || (eqb k 5 || eqb k 10))) (eqb k 8) refl e
+heads-two k e = go (isFarm k) (eqb k 2) (eqb k 3 || (eqb k 4 || (eqb k 5 || eqb k 10))) (eqb k 8) refl e
   where
     go : (a b c d : Bool) → eqb k 2 ≡ b → pick a opens (pick b heads (pick c ofGroup (pick d closes ofFarm))) ≡ heads → k ≡ 2
     go true b c d q e = let z : _≡_ {A = ℕ} 0 1 = cc in absurd (omega arith)
@@ -38,7 +38,7 @@ heads-two k e = go (eqb k 1) (eqb k 2) (eqb k 3 || (eqb k 4 || (eqb k 5 || eqb k
 -- a detail of the farm is of none of the group's kinds
 pub not-of-group : (k : ℕ) → sortOf k ≡ ofFarm → (eqb k 3 ≡ false) × ((eqb k 4 ≡ false) × ((eqb k 5 ≡ false) × (eqb k 10 ≡ false)))
 unfolding sortOf
-not-of-group k e = go (eqb k 1) (eqb k 2) (eqb k 3) (eqb k 4) (eqb k 5) (eqb k 10) (eqb k 8) e
+not-of-group k e = go (isFarm k) (eqb k 2) (eqb k 3) (eqb k 4) (eqb k 5) (eqb k 10) (eqb k 8) e
   where
     go : (a b c d f h g : Bool) → pick a opens (pick b heads (pick (c || (d || (f || h))) ofGroup (pick g closes ofFarm))) ≡ ofFarm
         → (c ≡ false) × ((d ≡ false) × ((f ≡ false) × (h ≡ false)))

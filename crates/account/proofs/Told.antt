@@ -11,7 +11,7 @@ use lib.ListN.{length, length-append}
 use lib.Dec.{leb, eqb}
 use Rattle.base.specs.Choice.{pick}
 use Rattle.base.proofs.Tests.{not-false}
-use Rattle.codec.specs.Table.{fields, lengthOf, isKind, lineSize, totalSize, linesMost}
+use Rattle.codec.specs.Table.{fields, lengthOf, lineSize, totalSize, linesMost}
 use Rattle.codec.specs.Codec.{valAt, valuesAt, firstBad}
 use Rattle.codec.proofs.Round.{line-length, total-length}
 use Rattle.grams.specs.Cattle.{belowZero, manureOf, CattleSmall, Nitrogen}
@@ -33,7 +33,7 @@ use Rattle.account.specs.declared.Judged.{Judged}
 use Rattle.account.specs.Figures.{groupFigures, ch4Alone, co2Alone, grazingAlone, cattleFigures, pigFigures}
 use Rattle.account.specs.Line.{joined, bytesOf, lineWith, totalWith, co2eIn, subtotals, totalOf}
 use Rattle.account.specs.Range.{Headed, Unheaded, Bounded, Grouped, AccountInRange}
-use Rattle.account.specs.Judge.{versionOf, kindOf, judge, first, inPlace, notRising, daysOver, partsWrong, grazedOver, feedBelow, wrongCount, valueRefusals}
+use Rattle.account.specs.Judge.{kindOf, wrongVersion, wrongKind, judge, first, inPlace, notRising, daysOver, partsWrong, grazedOver, feedBelow, wrongCount, valueRefusals}
 use Rattle.account.specs.Judge.{refused, underHeading, withDetail, closed, Step, accepted, weigh}
 use Rattle.account.specs.Told.{Tells, TellsIn, inRoom, Kind, Small, noLine, quiet, refusing, detailing, heading, closing}
 use Rattle.account.proofs.Sums.{ch4-small, co2-small, grazing-small, cattle-small, pig-small, bounded-more, grouped-more}
@@ -254,26 +254,26 @@ module _ (a : Account) (k : ℕ) (v : List ℕ) (p : Passes a k v) where
 
 -- ---- a whole record
 
--- r is of version 1 and kind k, one of the eight
-module _ (a : Account) (k : ℕ) (r : List ℕ) (n : ℕ) (w : Kind k r) (kinds : isKind k ≡ true) (size : lengthOf k + 2 ≡ n) where
+-- 2 and 3 let r through, and it is of the row k
+module _ (a : Account) (k : ℕ) (r : List ℕ) (n : ℕ) (w : Kind k r) (size : lengthOf k + 2 ≡ n) where
   -- its length is not the kind's
   pub wrong-length : (room : ℕ) (j : Judged) → (length r ≡ n → ⊥) → j ≡ refusing a 4 0 → TellsIn room a (judge a r) j
   unfolding judge first
   wrong-length room j h e =
       let other : valAt r 0 2 ≡ lengthOf k → ⊥ = λ q. h (omega (arith, w .whole .long, size)) in
-      quiet-in room a _ (judge a r) j e (rw (w .version, w .kind, kinds, ne-eqb _ _ other, e) (tells-quiet (refused a 4 0)))
+      quiet-in room a _ (judge a r) j e (rw (w .version, w .listed, w .kind, ne-eqb _ _ other, e) (tells-quiet (refused a 4 0)))
 
   -- its length is the kind's: its values decide
   pub right-length : length r ≡ n → judge a r ≡ weigh a k (valuesAt (fields k) r 4)
   unfolding judge weigh first
   right-length h =
       let same : valAt r 0 2 ≡ lengthOf k = omega (arith, w .whole .long, size) in
-      rw (w .version, w .kind, kinds, eq-eqb _ _ same)
+      rw (w .version, w .listed, w .kind, eq-eqb _ _ same)
 
-pub wrong-version : (room : ℕ) (a : Account) (r : List ℕ) (j : Judged) → (versionOf r ≡ 1 → ⊥) → j ≡ refusing a 2 0 → TellsIn room a (judge a r) j
+pub wrong-version : (room : ℕ) (a : Account) (r : List ℕ) (j : Judged) → wrongVersion r ≡ true → j ≡ refusing a 2 0 → TellsIn room a (judge a r) j
 unfolding judge first
-wrong-version room a r j h e = quiet-in room a _ (judge a r) j e (rw (ne-eqb _ 1 h, e) (tells-quiet (refused a 2 0)))
+wrong-version room a r j h e = quiet-in room a _ (judge a r) j e (rw (h, e) (tells-quiet (refused a 2 0)))
 
-pub wrong-kind : (room : ℕ) (a : Account) (r : List ℕ) (j : Judged) → versionOf r ≡ 1 → isKind (kindOf r) ≡ false → j ≡ refusing a 3 0 → TellsIn room a (judge a r) j
+pub wrong-kind : (room : ℕ) (a : Account) (r : List ℕ) (j : Judged) → wrongVersion r ≡ false → wrongKind r ≡ true → j ≡ refusing a 3 0 → TellsIn room a (judge a r) j
 unfolding judge first
 wrong-kind room a r j v h e = quiet-in room a _ (judge a r) j e (rw (v, h, e) (tells-quiet (refused a 3 0)))

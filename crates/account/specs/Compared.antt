@@ -14,7 +14,7 @@ use Rattle.codec.specs.Table.{field, fields, lengthOf, lengthMost, lastKind}
 use Rattle.codec.specs.Codec.{valAt, firstBad}
 use Rattle.account.specs.declared.Account.{Account}
 use Rattle.account.specs.declared.Days.{Days}
-use Rattle.account.specs.Judge.{versionOf, kindOf, valuesOf}
+use Rattle.account.specs.Judge.{versionOf, kindByte, kindOf, valuesOf}
 
 -- two numbers that are compared, where there are any: the value and the limit
 pub record Compared : Type 0 where
@@ -70,8 +70,8 @@ valuesCompared c a k v =
 unfoldable pub compared : ℕ → Account → List ℕ → Compared
 compared c a r =
     pick (eqb c 1) (outside 4 lengthMost (valAt r 0 2))
-    (pick (eqb c 2) (numbers (versionOf r) 1)
-    (pick (eqb c 3) (outside 1 lastKind (kindOf r))
+    (pick (eqb c 2) (pick (eqb (kindByte r) 1) (outside 1 2 (versionOf r)) (numbers (versionOf r) 1))
+    (pick (eqb c 3) (outside 1 lastKind (kindByte r))
     (pick (eqb c 4) (numbers (valAt r 0 2) (lengthOf (kindOf r)))
     (valuesCompared c a (kindOf r) (valuesOf r)))))
 
@@ -93,8 +93,10 @@ BeyondEnd lowest highest x = ((x .limit ≡ lowest) × (x .value < lowest)) ⊎ 
 
 -- x is what the test with the number c compares of the record r after the account a, and it compares wrongly
 pub record ComparesWrongly (c : ℕ) (a : Account) (r : List ℕ) (x : Compared) : Type 0 where
-  pub version : c ≡ 2 → (x ≡ numbers (versionOf r) 1) × Unequal x
-  pub kind : c ≡ 3 → (x .some ≡ true) × (x .value ≡ kindOf r) × BeyondEnd 1 lastKind x
+  pub version : c ≡ 2
+      → ((kindByte r ≡ 1) × (x .some ≡ true) × (x .value ≡ versionOf r) × BeyondEnd 1 2 x)
+      ⊎ ((kindByte r ≡ 1 → ⊥) × (x ≡ numbers (versionOf r) 1) × Unequal x)
+  pub kind : c ≡ 3 → (x .some ≡ true) × (x .value ≡ kindByte r) × BeyondEnd 1 lastKind x
   pub long : c ≡ 4 → (x ≡ numbers (valAt r 0 2) (lengthOf (kindOf r))) × Unequal x
   pub room : c ≡ 5 → x ≡ noNumbers
   pub place : c ≡ 6 → x ≡ noNumbers

@@ -7,14 +7,16 @@ use mathlib.Core.Bool.{Bool, true, false, _&&_, _||_, not}
 use lib.ListN.{length, getD}
 use lib.Dec.{ltb, leb, eqb}
 use Rattle.base.specs.Choice.{pick}
-use Rattle.codec.specs.Table.{fields, lengthOf, lengthMost, isKind}
+use Rattle.codec.specs.Table.{fields, rowOf, lengthOf, lengthMost, isKind}
 use Rattle.codec.specs.Codec.{valAt, valuesAt, firstBad}
 use Rattle.grams.specs.Cattle.{belowZero}
+use Rattle.grams.specs.Farm.{setFactors}
+use Rattle.grams.specs.declared.farm.Factors.{Factors}
 use Rattle.account.specs.declared.Account.{Account}
 use Rattle.account.specs.declared.Days.{Days}
 use Rattle.account.specs.declared.Figures.{Figures}
 use Rattle.account.specs.declared.Subtotal.{Subtotal}
-use Rattle.account.specs.Sorts.{sortOf, bySort}
+use Rattle.account.specs.Sorts.{isFarm, sortOf, bySort}
 use Rattle.account.specs.Figures.{noFigures, noSubtotal, added, grouped, cattleRation, figuresOf}
 use Rattle.account.specs.Line.{lineOf, subtotals, totalOf}
 
@@ -29,8 +31,12 @@ pub record WholeRecord (r : List ℕ) : Type 0 where
 abbrev pub versionOf : List ℕ → ℕ
 versionOf r = getD r 2 0
 
+abbrev pub kindByte : List ℕ → ℕ
+kindByte r = getD r 3 0
+
+-- the record's row of the table: its kind, but for a farm record of version 2, which has a row of its own. All that follows goes by the row
 abbrev pub kindOf : List ℕ → ℕ
-kindOf r = getD r 3 0
+kindOf r = rowOf (versionOf r) (kindByte r)
 
 abbrev pub valuesOf : List ℕ → List ℕ
 valuesOf r = valuesAt (fields (kindOf r)) r 4
@@ -47,7 +53,7 @@ noRecord =
     record {
       stage = 0;
       records = 0;
-      set = 0;
+      factors = record { ch4 = 0; n2o = 0 };
       heading = record { group = 0; class = 0; head = 0 };
       days = noDays;
       subtotal = noSubtotal;
@@ -62,7 +68,7 @@ refused a code field =
     record {
       stage = 3;
       records = a .records;
-      set = a .set;
+      factors = a .factors;
       heading = a .heading;
       days = a .days;
       subtotal = a .subtotal;
@@ -71,13 +77,13 @@ refused a code field =
       grazed = a .grazed;
     }
 
--- a farm record opens the book and sets its warming set
-abbrev pub opened : Account → ℕ → Account
-opened a set =
+-- a farm record opens the book and sets its warming factors
+abbrev pub opened : Account → Factors → Account
+opened a factors =
     record {
       stage = 1;
       records = a .records + 1;
-      set = set;
+      factors = factors;
       heading = a .heading;
       days = a .days;
       subtotal = a .subtotal;
@@ -92,7 +98,7 @@ underHeading a group class head =
     record {
       stage = a .stage;
       records = a .records + 1;
-      set = a .set;
+      factors = a .factors;
       heading = record { group = group; class = class; head = head };
       days = noDays;
       subtotal = noSubtotal;
@@ -107,7 +113,7 @@ withDetail a days grazed subtotal f =
     record {
       stage = a .stage;
       records = a .records + 1;
-      set = a .set;
+      factors = a .factors;
       heading = a .heading;
       days = days;
       subtotal = subtotal;
@@ -122,7 +128,7 @@ closed a =
     record {
       stage = 2;
       records = a .records + 1;
-      set = a .set;
+      factors = a .factors;
       heading = a .heading;
       days = a .days;
       subtotal = a .subtotal;
@@ -130,6 +136,10 @@ closed a =
       refusal = a .refusal;
       grazed = a .grazed;
     }
+
+-- the warming factors of a farm record: those of its set, or with version 2 its own
+abbrev pub farmFactors : ℕ → List ℕ → Factors
+farmFactors k v = pick (eqb k 11) (record { ch4 = getD v 2 0; n2o = getD v 3 0 }) (setFactors (getD v 2 0))
 
 -- ---- the refusals
 
@@ -141,7 +151,7 @@ headingServes class k =
 
 -- the first record is kind 1 and no other is
 unfoldable pub inPlace : Account → ℕ → Bool
-inPlace a k = pick (eqb k 1) (eqb (a .records) 0) (headingServes (a .heading .class) k && not (eqb (a .records) 0))
+inPlace a k = pick (isFarm k) (eqb (a .records) 0) (headingServes (a .heading .class) k && not (eqb (a .records) 0))
 
 -- the days of kinds 3, 4 and 5 with those of the values v; other kinds have none
 abbrev pub daysAfter : Days → ℕ → List ℕ → Days
@@ -158,15 +168,15 @@ grazedAfter grazed k v = pick (eqb k 10) (grazed + getD v 3 0) grazed
 
 -- the tests, by name, each true where it refuses
 
--- 2: version not 1
+-- 2: neither version 1, nor version 2 of kind 1
 abbrev pub wrongVersion : List ℕ → Bool
-wrongVersion r = not (eqb (versionOf r) 1)
+wrongVersion r = not (eqb (versionOf r) 1 || (eqb (versionOf r) 2 && eqb (kindByte r) 1))
 
 -- 3: kind not 1..10
 abbrev pub wrongKind : List ℕ → Bool
-wrongKind r = not (isKind (kindOf r))
+wrongKind r = not (isKind (kindByte r))
 
--- 4: length not the kind's
+-- 4: length not that of the kind and version
 abbrev pub wrongLength : List ℕ → Bool
 wrongLength r = not (eqb (valAt r 0 2) (lengthOf (kindOf r)))
 
@@ -289,7 +299,7 @@ withLine a k v subtotal =
 -- a record that is not refused, by its sort; a detail of the group alone counts in the subtotal
 unfoldable pub accepted : Account → ℕ → List ℕ → Step
 accepted a k v =
-    bySort (sortOf k) (record { account = opened a (getD v 2 0); lines = [] })
+    bySort (sortOf k) (record { account = opened a (farmFactors k v); lines = [] })
     (record { account = underHeading a (getD v 0 0) (getD v 1 0) (getD v 2 0); lines = subtotals a })
     (withLine a k v (grouped (a .subtotal) (figuresOf (a .heading) k v)))
     (withLine a k v (a .subtotal))

@@ -7,7 +7,7 @@ use Rattle.base.specs.Choice.{pick}
 use Rattle.codec.specs.Table.{lineSize, totalSize}
 use Rattle.codec.specs.Codec.{lineBytes, totalBytes}
 use Rattle.grams.specs.Units.{co2Word}
-use Rattle.grams.specs.Farm.{co2eOf, warmingOf}
+use Rattle.grams.specs.Farm.{co2eOf}
 use Rattle.grams.specs.declared.units.Co2.{Co2}
 use Rattle.account.specs.declared.Account.{Account}
 use Rattle.account.specs.declared.Figures.{Figures}
@@ -28,9 +28,9 @@ groupOf h k = bySort (sortOf k) 0 0 (h .group) 0 0
 abbrev pub lineOf : Heading → ℕ → List ℕ → List ℕ
 lineOf h k v = lineWith k (groupOf h k) (figuresOf h k v)
 
--- CO2e of the sums, by the farm's warming set
+-- CO2e of the sums, by the farm's warming factors
 abbrev pub co2eIn : Account → Co2
-co2eIn a = co2eOf (warmingOf (a .set)) (a .sums .co2) (a .sums .ch4) (a .sums .n2o) (a .sums .grazing)
+co2eIn a = co2eOf (a .factors) (a .sums .co2) (a .sums .ch4) (a .sums .n2o) (a .sums .grazing)
 
 -- the close's line: the six sums and CO2e
 abbrev pub totalWith : Figures → Co2 → List ℕ

@@ -23,11 +23,11 @@ pub record Counted (stage records : ℕ) : Type 0 where
   pub in-one : stage ≡ 1 → 1 ≤ records
   pub in-two : stage ≡ 2 → 2 ≤ records
 
--- warming set 1 or 2, 0 exactly with no records
-pub record Warmed (set records : ℕ) : Type 0 where
-  pub set-most : set ≤ 2
-  pub none : set ≡ 0 → records ≡ 0
-  pub some : records ≡ 0 → set ≡ 0
+-- a warming factor: 1..1000, 0 exactly with no records
+pub record FactorIn (factor records : ℕ) : Type 0 where
+  pub most : factor ≤ 1000
+  pub none : factor ≡ 0 → records ≡ 0
+  pub some : records ≡ 0 → factor ≡ 0
 
 -- a heading, its three fields in their ranges, its three day sums 0..366; never with fewer than 2 records
 pub record Headed (h : Heading) (d : Days) (records : ℕ) : Type 0 where
@@ -96,7 +96,8 @@ pub record GrazedIn (group grazed : ℕ) : Type 0 where
 -- all of it
 pub record AccountInRange (a : Account) : Type 0 where
   pub counted : Counted (a .stage) (a .records)
-  pub warmed : Warmed (a .set) (a .records)
+  pub ch4-factor : FactorIn (a .factors .ch4) (a .records)
+  pub n2o-factor : FactorIn (a .factors .n2o) (a .records)
   pub heading : Headed (a .heading) (a .days) (a .records) ⊎ Unheaded (a .heading) (a .days)
   pub sums : Bounded (a .sums) (a .records)
   pub grouped : Grouped (a .subtotal) (a .records)
@@ -115,8 +116,8 @@ countedTest stage records =
     && (not (eqb stage 1) || leb 1 records)
     && (not (eqb stage 2) || leb 2 records)
 
-abbrev pub warmedTest : ℕ → ℕ → Bool
-warmedTest set records = leb set 2 && (not (eqb set 0) || eqb records 0) && (not (eqb records 0) || eqb set 0)
+abbrev pub factorTest : ℕ → ℕ → Bool
+factorTest factor records = leb factor 1000 && (not (eqb factor 0) || eqb records 0) && (not (eqb records 0) || eqb factor 0)
 
 abbrev pub headedTest : Heading → Days → ℕ → Bool
 headedTest h d records =
@@ -176,7 +177,8 @@ grazedTest group grazed = leb grazed 10000 && (not (eqb group 0) || eqb grazed 0
 unfoldable pub accountInRange : Account → Bool
 accountInRange a =
     countedTest (a .stage) (a .records)
-    && warmedTest (a .set) (a .records)
+    && factorTest (a .factors .ch4) (a .records)
+    && factorTest (a .factors .n2o) (a .records)
     && (headedTest (a .heading) (a .days) (a .records) || unheadedTest (a .heading) (a .days))
     && boundedTest (a .sums) (a .records)
     && (groupedTest (a .subtotal) (a .records) && (not (eqb (a .heading .group) 0) || ungroupedTest (a .subtotal)))

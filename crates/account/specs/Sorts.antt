@@ -2,9 +2,13 @@
 -- closes the book. What it does, which group its line bears and what counts in a subtotal goes by that alone.
 -- Assumes nothing.
 use Prim.Native.Nat.{ℕ}
-use mathlib.Core.Bool.{_||_}
+use mathlib.Core.Bool.{Bool, _||_}
 use lib.Dec.{eqb}
 use Rattle.base.specs.Choice.{pick}
+
+-- k is a row of the table: a kind, or behind the kinds the farm record of version 2
+abbrev pub isFarm : ℕ → Bool
+isFarm k = eqb k 1 || eqb k 11
 
 pub data Sort : Type 0 where
   opens : Sort
@@ -13,11 +17,11 @@ pub data Sort : Type 0 where
   ofFarm : Sort
   closes : Sort
 
--- the farm record opens, a heading heads; enteric, cattle, pig and grazing records are the group's, energy, organic soil and tillage the
+-- the farm record, of either version, opens, a heading heads; enteric, cattle, pig and grazing records are the group's, energy, organic soil and tillage the
 -- farm's; the close closes
 unfoldable pub sortOf : ℕ → Sort
 sortOf k =
-    pick (eqb k 1) opens
+    pick (isFarm k) opens
     (pick (eqb k 2) heads
     (pick (eqb k 3 || (eqb k 4 || (eqb k 5 || eqb k 10))) ofGroup
     (pick (eqb k 8) closes ofFarm)))

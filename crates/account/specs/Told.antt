@@ -3,6 +3,7 @@
 use Prim.Native.Nat.{ℕ, _^_, _≤_}
 use mathlib.Core.Path.{_≡_}
 use mathlib.Core.List.{List}
+use mathlib.Core.Bool.{false}
 use lib.ListN.{length}
 use lib.Dec.{leb, eqb}
 use Rattle.base.specs.Choice.{pick}
@@ -16,7 +17,7 @@ use Rattle.account.specs.declared.Judged.{Judged}
 use Rattle.account.specs.declared.line.Line.{Line}
 use Rattle.account.specs.Figures.{noFigures, groupFigures}
 use Rattle.account.specs.Line.{joined, bytesOf, co2eIn}
-use Rattle.account.specs.Judge.{Step, WholeRecord, versionOf, kindOf, refused, underHeading, withDetail, closed}
+use Rattle.account.specs.Judge.{Step, WholeRecord, kindOf, wrongVersion, wrongKind, refused, underHeading, withDetail, closed}
 
 -- r tells what j says: the account, and j's lines one after the other
 pub record Tells (j : Step) (r : Judged) : Type 0 where
@@ -35,10 +36,11 @@ pub record TellsIn (room : ℕ) (a : Account) (j : Step) (r : Judged) : Type 0 w
   pub tells : Tells j whole
   pub is : r ≡ inRoom room a whole
 
--- r is a whole record of version 1 and kind k
+-- r is a whole record that 2 and 3 let through, of the row k
 pub record Kind (k : ℕ) (r : List ℕ) : Type 0 where
   pub whole : WholeRecord r
-  pub version : versionOf r ≡ 1
+  pub version : wrongVersion r ≡ false
+  pub listed : wrongKind r ≡ false
   pub kind : kindOf r ≡ k
 
 -- what one line adds at most

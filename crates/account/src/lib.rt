@@ -2,6 +2,7 @@
 pub mod line;
 mod range;
 
+use grams::farm::Factors;
 use grams::units::Co2;
 use grams::units::Grazed;
 use grams::units::N2o;
@@ -57,7 +58,7 @@ pub struct Refusal {
 pub struct Account {
     pub stage: u8,
     pub records: u16,
-    pub set: u8,
+    pub factors: Factors,
     pub heading: Heading,
     pub days: Days,
     pub subtotal: Subtotal,
@@ -80,7 +81,7 @@ impl Account {
         Account {
             stage: 0,
             records: 0,
-            set: 0,
+            factors: Factors { ch4: 0, n2o: 0 },
             heading: Heading {
                 group: 0,
                 class: 0,
@@ -125,7 +126,10 @@ impl Account {
         Account {
             stage: self.stage,
             records: self.records,
-            set: self.set,
+            factors: Factors {
+                ch4: self.factors.ch4,
+                n2o: self.factors.n2o,
+            },
             heading: Heading {
                 group: self.heading.group,
                 class: self.heading.class,

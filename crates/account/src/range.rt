@@ -8,7 +8,7 @@ use crate::Subtotal;
 ghost use mathlib.Core.Path.{_≡_};
 ghost use mathlib.Core.Bool.{_&&_, _||_, not};
 ghost use lib.Dec.{eqb};
-ghost use Rattle.account.specs.Range.{countedTest, warmedTest, headedTest, unheadedTest, boundedTest, grazedTest, groupedTest, ungroupedTest, numberedTest, unrefusedTest, accountInRange};
+ghost use Rattle.account.specs.Range.{countedTest, factorTest, headedTest, unheadedTest, boundedTest, grazedTest, groupedTest, ungroupedTest, numberedTest, unrefusedTest, accountInRange};
 
 fn counted(stage: u8, records: u16) -> bool
     ensures { λ r. ⌜ r ≡ countedTest stage records ⌝ }
@@ -20,10 +20,10 @@ fn counted(stage: u8, records: u16) -> bool
         & (!(stage == 2) | (2 <= records))
 }
 
-fn warmed(set: u8, records: u16) -> bool
-    ensures { λ r. ⌜ r ≡ warmedTest set records ⌝ }
+fn factor_in(factor: u16, records: u16) -> bool
+    ensures { λ r. ⌜ r ≡ factorTest factor records ⌝ }
 {
-    (set <= 2) & (!(set == 0) | (records == 0)) & (!(records == 0) | (set == 0))
+    (factor <= 1000) & (!(factor == 0) | (records == 0)) & (!(records == 0) | (factor == 0))
 }
 
 fn headed(h: Heading, d: Days, records: u16) -> bool
@@ -96,14 +96,19 @@ fn unrefused(r: Refusal) -> bool
     (r.code == 0) & (r.accepted == 0) & (r.field == 0)
 }
 
-// Stage, records and warming set; those of an open book first, since all calls but a book's first and last have one.
-fn started(stage: u8, records: u16, set: u8) -> bool
-    ensures { λ r. ⌜ r ≡ (countedTest stage records && warmedTest set records) ⌝ }
+// Stage, records and warming factors; those of an open book first, since all calls but a book's first and last have one.
+fn started(stage: u8, records: u16, ch4: u16, n2o: u16) -> bool
+    ensures { λ r. ⌜ r ≡ (countedTest stage records && factorTest ch4 records && factorTest n2o records) ⌝ }
 {
     if stage == 1 {
-        return (1 <= records) & (records <= 4096) & (1 <= set) & (set <= 2);
+        return (1 <= records)
+            & (records <= 4096)
+            & (1 <= ch4)
+            & (ch4 <= 1000)
+            & (1 <= n2o)
+            & (n2o <= 1000);
     }
-    counted(stage, records) & warmed(set, records)
+    counted(stage, records) & factor_in(ch4, records) & factor_in(n2o, records)
 }
 
 // Heading, day sums and subtotal: without a group all zero, with one in their ranges.
@@ -135,12 +140,13 @@ fn ended(stage: u8, r: Refusal, records: u16) -> bool
 pub fn test(a: Account) -> bool
     ensures { λ r. ⌜ r ≡ accountInRange a ⌝ }
 {
+    let w = a.factors;
     let h = a.heading;
     let d = a.days;
     let s = a.subtotal;
     let f = a.sums;
     let r = a.refusal;
-    started(a.stage, a.records, a.set)
+    started(a.stage, a.records, w.ch4, w.n2o)
         & bounded(f, a.records)
         & under(h, d, s, a.records)
         & ended(a.stage, r, a.records)

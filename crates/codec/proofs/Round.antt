@@ -6,8 +6,10 @@ use Prim.Native.Nat.{ℕ, suc, _+_, _<_, _≤_}
 use native.Mathlib.Omega.{arith}
 use lib.ListN.{length, getD, take, drop, length-append, length-drop, take-append-drop}
 use lib.Seq.{sets, take-all, length-take-le, take-add, drop-drop, drop-cons}
+use lib.Dec.{eqb}
+use Rattle.base.proofs.Tests.{of-choice}
 use Rattle.codec.specs.declared.Field.{Field}
-use Rattle.codec.specs.Table.{fields, size, lengthOf, lineFields, totalFields, lineSize, totalSize}
+use Rattle.codec.specs.Table.{fields, rowVersion, rowKind, size, lengthOf, lineFields, totalFields, lineSize, totalSize}
 use Rattle.codec.specs.Codec.{bytesHold, valAt, be, valuesAt, bytesOf, firstBad, recordBytes, lineValues, lineBytes, totalValues, totalBytes, Bytes, Fit}
 use Rattle.codec.proofs.BigEndian.{bytes-append, be-bytes, be-length, valAt-be, be-valAt}
 use Rattle.codec.proofs.Stores.{sets-at}
@@ -66,7 +68,7 @@ encode-decode (f ∷ fs) s bs at h =
 
 -- length, version and kind: what stands before the fields
 start : ℕ → List ℕ
-start kind = be 2 (lengthOf kind) ++ (be 1 1 ++ be 1 kind)
+start kind = be 2 (lengthOf kind) ++ (be 1 (rowVersion kind) ++ be 1 (rowKind kind))
 
 start-length : (kind : ℕ) → length (start kind) ≡ 4
 unfolding start be
@@ -86,37 +88,45 @@ module _ (kind : ℕ) (vs : List ℕ) where
       rw (start-then kind vs)
       (rw (start-length kind, append-nil (bytesOf (fields kind) vs 0)) at (values-back (fields kind) vs (start kind) [] (fit-kind vs kind p) n))
 
--- a whole record of a kind: its bytes, as many as its length says, version 1
+-- a whole record of a row: its bytes, as many as its length says, its version and its kind
 pub record Whole (kind : ℕ) (r : List ℕ) : Type 0 where
   pub bytes : Bytes r
   pub complete : length r ≡ 2 + lengthOf kind
   pub length-is : valAt r 0 2 ≡ lengthOf kind
-  pub version-is : valAt r 2 1 ≡ 1
-  pub kind-is : valAt r 3 1 ≡ kind
+  pub version-is : valAt r 2 1 ≡ rowVersion kind
+  pub kind-is : valAt r 3 1 ≡ rowKind kind
 
 -- a whole record read and written again
 pub record-again : (kind : ℕ) (r : List ℕ) → Whole kind r → recordBytes kind (valuesAt (fields kind) r 4) ≡ r
 unfolding recordBytes
 record-again kind r w =
     let e2 : be 2 (lengthOf kind) ≡ take 2 r = rw (← w .length-is) (be-valAt r (w .bytes) 0 2 (omega arith)) in
-    let e1 : be 1 1 ≡ take 1 (drop 2 r) = ap (be 1) (sym (w .version-is)) ∙ be-valAt r (w .bytes) 2 1 (omega arith) in
-    let e0 : be 1 kind ≡ take 1 (drop 3 r) = ap (be 1) (sym (w .kind-is)) ∙ be-valAt r (w .bytes) 3 1 (omega arith) in
+    let e1 : be 1 (rowVersion kind) ≡ take 1 (drop 2 r) = ap (be 1) (sym (w .version-is)) ∙ be-valAt r (w .bytes) 2 1 (omega arith) in
+    let e0 : be 1 (rowKind kind) ≡ take 1 (drop 3 r) = ap (be 1) (sym (w .kind-is)) ∙ be-valAt r (w .bytes) 3 1 (omega arith) in
     let fs : bytesOf (fields kind) (valuesAt (fields kind) r 4) 0 ≡ drop 4 r =
     encode-decode (fields kind) r (w .bytes) 4 (omega arith) ∙ take-all (size (fields kind)) (drop 4 r) (rw length-drop (omega arith)) in
     cc (take-append-drop 2 r, take-append-drop 1 (drop 2 r), drop-drop 1 2 r, take-append-drop 1 (drop 3 r), drop-drop 1 3 r)
 
 -- and what is written is a whole record
+version-small : (row : ℕ) → rowVersion row < 256
+version-small row = of-choice (λ (n : ℕ). n < 256) (eqb row 11) (λ e. omega arith) (λ e. omega arith)
+
+kind-small : (row : ℕ) → row < 256 → rowKind row < 256
+kind-small row h = of-choice (λ (n : ℕ). n < 256) (eqb row 11) (λ e. omega arith) (λ e. h)
+
 pub record-whole : (kind : ℕ) (vs : List ℕ) → kind < 256 → Whole kind (recordBytes kind vs)
 unfolding recordBytes be bytesHold
 record-whole kind vs h =
     let fs : List ℕ = bytesOf (fields kind) vs 0 in
+    let v = rowVersion kind in
+    let k = rowKind kind in
     record {
-      bytes = bytes-append (be 2 (lengthOf kind)) (be 1 1 ++ (be 1 kind ++ fs)) (be-bytes 2 (lengthOf kind))
-          (bytes-append (be 1 1) (be 1 kind ++ fs) (be-bytes 1 1) (bytes-append (be 1 kind) fs (be-bytes 1 kind) (bytes-bytes (fields kind) vs 0)));
+      bytes = bytes-append (be 2 (lengthOf kind)) (be 1 v ++ (be 1 k ++ fs)) (be-bytes 2 (lengthOf kind))
+          (bytes-append (be 1 v) (be 1 k ++ fs) (be-bytes 1 v) (bytes-append (be 1 k) fs (be-bytes 1 k) (bytes-bytes (fields kind) vs 0)));
       complete = record-length kind vs;
-      length-is = valAt-be 2 (lengthOf kind) [] (be 1 1 ++ (be 1 kind ++ fs)) (omega (arith, length-most kind));
-      version-is = valAt-be 1 1 (be 2 (lengthOf kind)) (be 1 kind ++ fs) (omega arith);
-      kind-is = valAt-be 1 kind (be 2 (lengthOf kind) ++ be 1 1) fs (omega arith);
+      length-is = valAt-be 2 (lengthOf kind) [] (be 1 v ++ (be 1 k ++ fs)) (omega (arith, length-most kind));
+      version-is = valAt-be 1 v (be 2 (lengthOf kind)) (be 1 k ++ fs) (omega (arith, version-small kind));
+      kind-is = valAt-be 1 k (be 2 (lengthOf kind) ++ be 1 v) fs (omega (arith, kind-small kind h));
     }
 
 -- a line: how many bytes it has; its values, in the ranges of its row, written and read again

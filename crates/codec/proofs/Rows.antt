@@ -46,8 +46,8 @@ pub counts : (10 ≡ length lineFields) × (11 ≡ length totalFields)
 unfolding lineFields totalFields
 counts = (refl, refl)
 
--- the lengths of document 01, kinds 1 to 8, and of change requests W7 and W10, kinds 9 and 10
-pub lengths : map lengthOf (1 ∷ 2 ∷ 3 ∷ 4 ∷ 5 ∷ 6 ∷ 7 ∷ 8 ∷ 9 ∷ 10 ∷ []) ≡ 9 ∷ 7 ∷ 10 ∷ 20 ∷ 26 ∷ 11 ∷ 6 ∷ 4 ∷ 11 ∷ 8 ∷ []
+-- the lengths of document 01, kinds 1 to 8, of change requests W7 and W10, kinds 9 and 10, and of W11
+pub lengths : map lengthOf (1 ∷ 2 ∷ 3 ∷ 4 ∷ 5 ∷ 6 ∷ 7 ∷ 8 ∷ 9 ∷ 10 ∷ 11 ∷ []) ≡ 9 ∷ 7 ∷ 10 ∷ 20 ∷ 26 ∷ 11 ∷ 6 ∷ 4 ∷ 11 ∷ 8 ∷ 12 ∷ []
 unfolding table size
 lengths = refl
 

@@ -9,7 +9,7 @@ use native.Mathlib.Numerals.{add-one}
 use lib.ListN.{length, getD, set, take, drop, replicate, drop-of-length-le}
 use lib.Seq.{sets, sets-eq, drop-cons}
 use Rattle.codec.specs.declared.Field.{Field}
-use Rattle.codec.specs.Table.{field, fields, lengthOf}
+use Rattle.codec.specs.Table.{field, fields, rowVersion, rowKind, lengthOf}
 use Rattle.codec.specs.Codec.{be, bytesOf, recordBytes}
 use Rattle.codec.proofs.BigEndian.{be-length}
 
@@ -59,22 +59,22 @@ bytes-stored f fs vs l at = ap (λ k. sets l k (bytesOf (f ∷ fs) vs 0)) (sym (
 
 -- a whole record: length, version and kind, then its fields
 module _ (kind : ℕ) (vs l : List ℕ) (at : ℕ) where
-  pub record-stored : sets l at (recordBytes kind vs) ≡ sets (sets (sets (sets l at (be 2 (lengthOf kind))) (at + 2) (be 1 1)) (at + 3) (be 1 kind)) (at + 4) (bytesOf (fields kind) vs 0)
+  pub record-stored : sets l at (recordBytes kind vs) ≡ sets (sets (sets (sets l at (be 2 (lengthOf kind))) (at + 2) (be 1 (rowVersion kind))) (at + 3) (be 1 (rowKind kind))) (at + 4) (bytesOf (fields kind) vs 0)
   unfolding recordBytes
   record-stored =
       let rest : List ℕ = bytesOf (fields kind) vs 0 in
       let l2 : List ℕ = sets l at (be 2 (lengthOf kind)) in
-      let l3 : List ℕ = sets l2 (at + 2) (be 1 1) in
+      let l3 : List ℕ = sets l2 (at + 2) (be 1 (rowVersion kind)) in
       let e3 : at + 2 + 1 ≡ at + 3 = omega arith in
       let e4 : at + 3 + 1 ≡ at + 4 = omega arith in
-      sym (put-then 2 (lengthOf kind) at l (be 1 1 ++ (be 1 kind ++ rest)))
-      ∙ sym (put-then 1 1 (at + 2) l2 (be 1 kind ++ rest))
-      ∙ ap (λ k. sets l3 k (be 1 kind ++ rest)) e3
-      ∙ sym (put-then 1 kind (at + 3) l3 rest)
-      ∙ ap (λ k. sets (sets l3 (at + 3) (be 1 kind)) k rest) e4
+      sym (put-then 2 (lengthOf kind) at l (be 1 (rowVersion kind) ++ (be 1 (rowKind kind) ++ rest)))
+      ∙ sym (put-then 1 (rowVersion kind) (at + 2) l2 (be 1 (rowKind kind) ++ rest))
+      ∙ ap (λ k. sets l3 k (be 1 (rowKind kind) ++ rest)) e3
+      ∙ sym (put-then 1 (rowKind kind) (at + 3) l3 rest)
+      ∙ ap (λ k. sets (sets l3 (at + 3) (be 1 (rowKind kind))) k rest) e4
 
-  pub fields-stored : sets l at (recordBytes kind vs) ≡ stores (fields kind) vs 0 (sets (sets (sets l at (be 2 (lengthOf kind))) (at + 2) (be 1 1)) (at + 3) (be 1 kind)) at 4
-  fields-stored = record-stored ∙ stores-all (fields kind) vs 0 (sets (sets (sets l at (be 2 (lengthOf kind))) (at + 2) (be 1 1)) (at + 3) (be 1 kind)) at 4
+  pub fields-stored : sets l at (recordBytes kind vs) ≡ stores (fields kind) vs 0 (sets (sets (sets l at (be 2 (lengthOf kind))) (at + 2) (be 1 (rowVersion kind))) (at + 3) (be 1 (rowKind kind))) at 4
+  fields-stored = record-stored ∙ stores-all (fields kind) vs 0 (sets (sets (sets l at (be 2 (lengthOf kind))) (at + 2) (be 1 (rowVersion kind))) (at + 3) (be 1 (rowKind kind))) at 4
 
 -- ---- a loop over values of two bytes each
 

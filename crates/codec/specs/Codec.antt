@@ -7,7 +7,7 @@ use lib.ListN.{getD}
 use lib.Dec.{leb}
 use Rattle.base.specs.Choice.{pick}
 use Rattle.codec.specs.declared.Field.{Field}
-use Rattle.codec.specs.Table.{fields, lengthOf, lineFields, totalFields, lineSize, totalSize, isTotal}
+use Rattle.codec.specs.Table.{fields, rowVersion, rowKind, lengthOf, lineFields, totalFields, lineSize, totalSize, isTotal}
 
 -- how many values w bytes can hold
 unfoldable pub bytesHold : ℕ → ℕ
@@ -49,9 +49,9 @@ abbrev pub Fit : List Field → List ℕ → ℕ → Type 0
 Fit [] vs i = Unit
 Fit (f ∷ fs) vs i = (getD vs i 0 < bytesHold (f .0)) × Fit fs vs (suc i)
 
--- a record: its length, version 1, its kind, its fields
+-- a record of a row: its length, its version, its kind, its fields
 unfoldable pub recordBytes : ℕ → List ℕ → List ℕ
-recordBytes kind vs = be 2 (lengthOf kind) ++ (be 1 1 ++ (be 1 kind ++ bytesOf (fields kind) vs 0))
+recordBytes row vs = be 2 (lengthOf row) ++ (be 1 (rowVersion row) ++ (be 1 (rowKind row) ++ bytesOf (fields row) vs 0))
 
 -- a line of a detail or a subtotal: length 52, version 1, kind, group, then the six figures
 abbrev pub lineValues : ℕ → ℕ → ℕ → ℕ → ℕ → ℕ → ℕ → ℕ → List ℕ

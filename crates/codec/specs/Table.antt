@@ -6,6 +6,7 @@ use mathlib.Core.Bool.{Bool, _&&_}
 use mathlib.Core.List.{List, [], _∷_}
 use lib.Dec.{eqb, leb}
 use lib.ListN.{length, getD}
+use Rattle.base.specs.Choice.{pick}
 use Rattle.codec.specs.declared.Field.{Field}
 
 -- a field: how many bytes it has, its lowest and its highest value
@@ -16,7 +17,7 @@ field bytes lowest highest = (bytes, lowest, highest)
 abbrev pub days : Field
 days = field 2 1 366
 
--- by kind, counted from 0; there is no kind 0
+-- by kind, counted from 0; there is no kind 0. A farm record of version 2 has a row of its own behind the kinds
 unfoldable pub table : List (List Field)
 table =
     []
@@ -40,24 +41,44 @@ table =
     ∷ (field 1 1 9 ∷ field 1 1 3 ∷ field 1 1 6 ∷ field 2 1 100 ∷ field 4 0 10000000 ∷ [])
     -- 10 grazing (change request W10): region, column, live weight, fraction of the yearly intake
     ∷ (field 1 1 7 ∷ field 1 1 3 ∷ field 2 0 2000 ∷ field 2 0 10000 ∷ [])
+    -- 11 the farm record of version 2 (change request W11): farm number, year, CH4 factor, N2O factor
+    ∷ (field 4 0 4294967295 ∷ field 2 1900 2200 ∷ field 2 1 1000 ∷ field 2 1 1000 ∷ [])
     ∷ []
 
--- the fields of a kind, in order
-abbrev pub fields : ℕ → List Field
-fields kind = getD table kind []
+-- the row of a record, by its version and its kind
+abbrev pub rowOf : ℕ → ℕ → ℕ
+rowOf version kind = pick (eqb version 2 && eqb kind 1) 11 kind
 
--- the highest kind
+-- version and kind of the records of a row
+abbrev pub rowVersion : ℕ → ℕ
+rowVersion row = pick (eqb row 11) 2 1
+
+abbrev pub rowKind : ℕ → ℕ
+rowKind row = pick (eqb row 11) 1 row
+
+-- the fields of a row, in order
+abbrev pub fields : ℕ → List Field
+fields row = getD table row []
+
+-- the highest kind, and the last row
 abbrev pub lastKind : ℕ
 lastKind = 10
+
+abbrev pub lastRow : ℕ
+lastRow = 11
 
 -- a kind that a record may have
 abbrev pub isKind : ℕ → Bool
 isKind k = leb 1 k && leb k lastKind
 
--- v are values of kind k, as many as its fields
+-- a row of the table
+abbrev pub isRow : ℕ → Bool
+isRow row = leb 1 row && leb row lastRow
+
+-- v are values of the row k, as many as its fields
 pub record Of (k : ℕ) (v : List ℕ) : Type 0 where
   pub least : 1 ≤ k
-  pub most : k ≤ lastKind
+  pub most : k ≤ lastRow
   pub count : length v ≡ length (fields k)
 
 -- how many bytes the fields take
@@ -67,7 +88,7 @@ size (f ∷ fs) = f .0 + size fs
 
 -- a record's length, which counts what follows it: version, kind and fields
 abbrev pub lengthOf : ℕ → ℕ
-lengthOf kind = 2 + size (fields kind)
+lengthOf row = 2 + size (fields row)
 
 -- the highest length, and the bytes of the longest record, the two of its length among them
 abbrev pub lengthMost : ℕ

@@ -1,10 +1,20 @@
-// What the table says of each kind, by its number.
+// What the table says of each row: a kind, or behind them the farm record of version 2.
 ghost use mathlib.Core.Path.{_≡_};
 ghost use Prim.Native.Nat.{_+_, _≤_};
 ghost use lib.ListN.{length};
-ghost use Rattle.codec.specs.Table.{fields, lastKind, lengthOf};
+ghost use Rattle.codec.specs.Table.{fields, rowOf, lastRow, lengthOf};
 
-// How many values a record of the kind has; 0 where there is no such kind.
+// The row of a record.
+pub fn row_of(version: u8, kind: u8) -> u8
+    ensures { λ r. ⌜ r ≡ rowOf version kind ⌝ }
+{
+    if (version == 2) & (kind == 1) {
+        return 11;
+    }
+    kind
+}
+
+// How many values a record of the row has; 0 where there is no such row.
 pub fn values_of(kind: u64) -> usize
     ensures { λ r. ⌜ r ≡ length (fields kind) ⌝ }
 {
@@ -19,13 +29,14 @@ pub fn values_of(kind: u64) -> usize
         8 => 1,
         9 => 5,
         10 => 4,
+        11 => 4,
         _ => 0,
     }
 }
 
-// How many bytes a record of the kind has, the two of its length among them.
+// How many bytes a record of the row has, the two of its length among them.
 pub fn bytes_of(kind: u64) -> usize
-    requires { ⌜ (1 ≤ kind) × (kind ≤ lastKind) ⌝ }
+    requires { ⌜ (1 ≤ kind) × (kind ≤ lastRow) ⌝ }
     ensures { λ r. ⌜ r ≡ 2 + lengthOf kind ⌝ }
 {
     match kind {
@@ -38,6 +49,7 @@ pub fn bytes_of(kind: u64) -> usize
         7 => 8,
         8 => 6,
         9 => 13,
-        _ => 10,
+        10 => 10,
+        _ => 14,
     }
 }

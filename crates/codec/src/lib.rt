@@ -8,6 +8,7 @@ pub mod close;
 pub mod energy;
 pub mod enteric;
 pub mod farm;
+pub mod farm_factors; // farm_factors.rt: the farm record of version 2
 pub mod grazing;
 pub mod heading;
 pub mod pig;
@@ -16,8 +17,10 @@ pub mod tillage;
 pub mod kinds; // kinds.rt: how many values and bytes each kind has
 pub mod lines; // lines.rt: a line from its figures, and its numbers from its bytes
 
-// The highest kind.
+// The highest kind, and the last row of the table, which is the farm record of version 2.
 pub const LAST_KIND: u64 = 10;
+
+pub const LAST_ROW: u64 = 11;
 
 // The highest length of a record, and the bytes of the longest.
 pub const LENGTH_MOST: u64 = 26;

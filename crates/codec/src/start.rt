@@ -7,12 +7,20 @@ ghost use lib.ListN.{length};
 ghost use lib.Seq.{sets};
 ghost use Rattle.codec.specs.Codec.{be};
 
-// The length, version 1 and the kind.
+// The length, the version and the kind.
+pub(crate) fn put_versioned(out: &mut [u8], at: usize, len: u64, version: u64, kind: u64)
+    requires { ⌜ at + 4 ≤ length (now out) ⌝ }
+    ensures { λ _. ⌜ now (out .exit) ≡ sets (sets (sets (now (out .entry)) at (be 2 len)) (at + 2) (be 1 version)) (at + 3) (be 1 kind) ⌝ }
+{
+    put2(out, at, len);
+    put1(out, at + 2, version);
+    put1(out, at + 3, kind);
+}
+
+// The same with version 1.
 pub(crate) fn put_start(out: &mut [u8], at: usize, len: u64, kind: u64)
     requires { ⌜ at + 4 ≤ length (now out) ⌝ }
     ensures { λ _. ⌜ now (out .exit) ≡ sets (sets (sets (now (out .entry)) at (be 2 len)) (at + 2) (be 1 1)) (at + 3) (be 1 kind) ⌝ }
 {
-    put2(out, at, len);
-    put1(out, at + 2, 1);
-    put1(out, at + 3, kind);
+    put_versioned(out, at, len, 1, kind);
 }

@@ -2,6 +2,8 @@
 use mathlib.Core.Path.{_≡_, ap, _∙_}
 use Prim.Native.Nat.{ℕ, _+_, _*_, _^_, _≤_}
 use native.Mathlib.Omega.{arith}
+use native.Mathlib.Nat.{le-trans}
+use lib.Dec.{lit≤}
 use lib.IntN.{ℤ, pos, natAbs, _+ℤ_}
 use Rattle.base.proofs.Signed.{signed-word}
 use Rattle.grams.specs.Cattle as cattle
@@ -10,15 +12,14 @@ use Rattle.grams.specs.Pig as pig
 use Rattle.grams.specs.Pig.{PigIn, recordNitrogen}
 use Rattle.grams.specs.Units.{gramsCo2, co2Grams, plusCo2, Co2Within}
 use Rattle.grams.specs.Grazing.{GrazingIn, grazingOf}
-use Rattle.grams.specs.Farm.{EnergyIn, SoilIn, SumsIn, energyOf, soilOf, factorsOf, co2eOf}
+use Rattle.grams.specs.Farm.{EnergyIn, SoilIn, FactorsMost, SumsIn, energyOf, soilOf, co2eOf}
 use Rattle.grams.specs.TillageTable.{Pair, PlaceIn, pairOf}
 use Rattle.grams.specs.CarbonRate.{mgOf}
 use Rattle.grams.specs.Tillage.{TillageIn, co2Of, tillageOf}
 use Rattle.grams.specs.declared.units.Co2.{Co2}
 use Rattle.grams.specs.declared.units.Grazed.{Grazed}
 use Rattle.grams.specs.declared.units.N2o.{N2o}
-use Rattle.grams.specs.declared.farm.Warming.{Warming}
-use Rattle.grams.specs.declared.farm.Warming.the-variants.{First, Second}
+use Rattle.grams.specs.declared.farm.Factors.{Factors}
 use Rattle.grams.specs.declared.cattle.CattleRation.{CattleRation}
 use Rattle.grams.specs.declared.pig.PigRation.{PigRation}
 use Rattle.grams.proofs.Bounds.{_⊗_, _⊕_, num, less, rounds}
@@ -85,17 +86,21 @@ tillage-small {zone} {texture} {change} {years} {area} i =
     let few : natAbs (co2Of mg area) ≤ 10 ^ 13 = rw (co2-amount mg area) (rounds _ _ (most ⊗ i .area-in ⊗ num _) tt tt) in
     within-grams (co2Of mg area) 1 few
 
-others-added : (c : Co2) (n : ℕ) → Co2Within 4096 c → n ≤ 4096 * 10 ^ 13 → co2Grams (plusCo2 c (gramsCo2 (pos n))) ≡ co2Grams c +ℤ pos n
+others-added : (c : Co2) (n : ℕ) → Co2Within 4096 c → n ≤ 49152 * 10 ^ 13 → co2Grams (plusCo2 c (gramsCo2 (pos n))) ≡ co2Grams c +ℤ pos n
 others-added c n p h =
     let e : co2Grams (gramsCo2 (pos n)) ≡ pos n = signed-word (pos n) (omega arith) in
-    plus-grams c (gramsCo2 (pos n)) 4096 4096 (omega arith) p (within-grams (pos n) 4096 h) ∙ ap (λ (z : ℤ). co2Grams c +ℤ z) e
+    plus-grams c (gramsCo2 (pos n)) 4096 49152 (omega arith) p (within-grams (pos n) 49152 h) ∙ ap (λ (z : ℤ). co2Grams c +ℤ z) e
 
--- CO2e of a total, which may be below zero, does not go round its 8 bytes
+-- what CH4, N2O and grazing count for at most, by any factors
+pub others-most : {w : Factors} {ch4 n g : ℕ} → FactorsMost w → ch4 ≤ 4096 * 10 ^ 11 → n ≤ 4096 * 10 ^ 10 → g ≤ 4096 * 10 ^ 11
+    → w .ch4 * ch4 + w .n2o * n + g ≤ 49152 * 10 ^ 13
+others-most f c n g = le-trans (f .ch4-most ⊗ c ⊕ f .n2o-most ⊗ n ⊕ g) (lit≤ tt)
+
+-- CO2e of a total, which may be below zero, does not go round its 8 bytes, whatever the factors
 module _ {co2 : Co2} {ch4 : ℕ} {n2o : N2o} {grazing : Grazed} (i : SumsIn co2 ch4 n2o grazing) where
-  pub co2e-grams : (w : Warming) → co2Grams (co2eOf w co2 ch4 n2o grazing) ≡ co2Grams co2 +ℤ pos (factorsOf w .ch4 * ch4 + factorsOf w .n2o * n2o .0 + grazing .0)
+  pub co2e-grams : (w : Factors) → FactorsMost w → co2Grams (co2eOf w co2 ch4 n2o grazing) ≡ co2Grams co2 +ℤ pos (w .ch4 * ch4 + w .n2o * n2o .0 + grazing .0)
   unfolding co2eOf
-  co2e-grams First = others-added co2 (21 * ch4 + 310 * n2o .0 + grazing .0) (i .co2-in) (omega arith)
-  co2e-grams Second = others-added co2 (23 * ch4 + 296 * n2o .0 + grazing .0) (i .co2-in) (omega arith)
+  co2e-grams w f = others-added co2 (w .ch4 * ch4 + w .n2o * n2o .0 + grazing .0) (i .co2-in) (others-most f (i .ch4-in) (i .n2o-in) (i .grazing-in))
 
 pub grazing-small : {region column weight fraction head : ℕ} → GrazingIn region column weight fraction head → grazingOf region column weight fraction head .0 ≤ 10 ^ 11
 unfolding grazingOf

@@ -9,8 +9,7 @@ use Rattle.grams.specs.Figure.{Carbon}
 use Rattle.grams.specs.declared.units.Co2.{Co2}
 use Rattle.grams.specs.declared.units.Grazed.{Grazed}
 use Rattle.grams.specs.declared.units.N2o.{N2o}
-use Rattle.grams.specs.declared.farm.Warming.{Warming}
-use Rattle.grams.specs.declared.farm.Warming.the-variants.{First, Second}
+use Rattle.grams.specs.declared.farm.Factors.{Factors}
 
 -- the ranges of an energy record, from above
 pub record EnergyIn (amount factor : ℕ) : Type 0 where
@@ -37,19 +36,14 @@ soilOf area = gramsCo2 (pos (roundDiv (area * 550000) 3))
 abbrev pub Soil : ℕ → Co2 → Type 0
 Soil area r = Carbon (soilOf area) r
 
--- a and b
-pub record Factors : Type 0 where
-  pub ch4 : ℕ
-  pub n2o : ℕ
-
 -- (a, b) = (21, 310) in set 1, (23, 296) in set 2
-abbrev pub factorsOf : Warming → Factors
-factorsOf First = record { ch4 = 21; n2o = 310 }
-factorsOf Second = record { ch4 = 23; n2o = 296 }
+abbrev pub setFactors : ℕ → Factors
+setFactors set = pick (eqb set 1) (record { ch4 = 21; n2o = 310 }) (record { ch4 = 23; n2o = 296 })
 
--- the warming set by its number, 1 or 2
-abbrev pub warmingOf : ℕ → Warming
-warmingOf set = pick (eqb set 1) First Second
+-- the factors that a farm record may give (change request W11), from above
+pub record FactorsMost (w : Factors) : Type 0 where
+  pub ch4-most : w .ch4 ≤ 1000
+  pub n2o-most : w .n2o ≤ 1000
 
 -- the most that the sums of 4,096 records reach
 pub record SumsIn (co2 : Co2) (ch4 : ℕ) (n2o : N2o) (grazing : Grazed) : Type 0 where
@@ -59,5 +53,5 @@ pub record SumsIn (co2 : Co2) (ch4 : ℕ) (n2o : N2o) (grazing : Grazed) : Type 
   pub grazing-in : grazing .0 ≤ 4096 * 10 ^ 11
 
 -- CO2e = CO2 + a × CH4 + b × N2O + grazing, which is CO2e from the start (W10); below zero where more is taken up
-unfoldable pub co2eOf : Warming → Co2 → ℕ → N2o → Grazed → Co2
-co2eOf w co2 ch4 n2o grazing = plusCo2 co2 (gramsCo2 (pos (factorsOf w .ch4 * ch4 + factorsOf w .n2o * n2o .0 + grazing .0)))
+unfoldable pub co2eOf : Factors → Co2 → ℕ → N2o → Grazed → Co2
+co2eOf w co2 ch4 n2o grazing = plusCo2 co2 (gramsCo2 (pos (w .ch4 * ch4 + w .n2o * n2o .0 + grazing .0)))

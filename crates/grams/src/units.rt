@@ -25,8 +25,9 @@ impl Co2 {
         Co2(std::num::wrapping_sub_u64(0, grams))
     }
 
+    // The other may be all that the CH4, N2O and grazing of 4,096 records count for.
     pub fn plus(self, other: Co2) -> Co2
-        requires { ⌜ Co2Within 4096 self × Co2Within 4096 other ⌝ }
+        requires { ⌜ Co2Within 4096 self × Co2Within 49152 other ⌝ }
         ensures { λ r. ⌜ r ≡ plusCo2 self other ⌝ }
     {
         Co2(std::num::wrapping_add_u64(self.0, other.0))

@@ -12,15 +12,15 @@ use lib.ListN.{length, getD, take, drop, length-drop}
 use lib.Dec.{eqb}
 use Rattle.base.specs.Choice.{pick}
 use Rattle.base.proofs.Tests.{lt-or-ge, not-false, of-choice}
-use Rattle.codec.proofs.EachKind.{kind-most}
-use Rattle.codec.specs.Table.{table, lineFields, totalFields, isKind}
+use Rattle.codec.proofs.EachKind.{row-most, row-of-kind}
+use Rattle.codec.specs.Table.{table, lineFields, totalFields, isRow}
 use Rattle.codec.specs.Codec.{valAt, be, valuesAt, bytesOf, lineBytes, totalBytes}
 use Rattle.account.specs.declared.Account.{Account}
 use Rattle.account.specs.Sorts.{heads, ofGroup, sortOf}
 use Rattle.account.specs.Line.{lineWith, subtotals, totalOf}
 use Rattle.account.specs.Figures.{groupFigures}
 use Rattle.account.specs.Range.{Headed, Unheaded, AccountInRange}
-use Rattle.account.specs.Judge.{kindOf, valuesOf, underHeading, first, refusals, Step, accepted, judge}
+use Rattle.account.specs.Judge.{versionOf, kindByte, kindOf, valuesOf, underHeading, first, refusals, Step, accepted, judge}
 use Rattle.account.proofs.Sorts.{by-sort, heads-two}
 use Rattle.account.proofs.Refusals.{not-refused}
 use Rattle.account.proofs.Keeps.{in-range-judge}
@@ -69,9 +69,9 @@ pub record Stopped (a : Account) (j : Step) : Type 0 where
   pub counted : j .account .records ≡ a .records
   pub none : j .lines ≡ []
 
-module _ (a : Account) (r : List ℕ) (f : AccountInRange a) (kinds : isKind (kindOf r) ≡ true) where
+module _ (a : Account) (r : List ℕ) (f : AccountInRange a) (kinds : isRow (kindOf r) ≡ true) where
   small-kind : kindOf r < 256
-  small-kind = omega (arith, kind-most (kindOf r) kinds)
+  small-kind = omega (arith, row-most (kindOf r) kinds)
 
   -- the subtotal of the group that ends
   group-marks : map markOf (subtotals a) ≡ subtotalMark (a .heading .group)
@@ -106,8 +106,8 @@ module _ (a : Account) (r : List ℕ) (f : AccountInRange a) (kinds : isKind (ki
       (λ e. record { counted = refl; marks = rw e (ap (λ (m : Mark). m ∷ []) (line-mark _ _ _ _ _ _ _ _ small-kind (omega arith))); group = rw e refl })
       (λ e. record { counted = refl; marks = close-marks ∙ rw e refl; group = rw e refl })
 
-pub kind-in : (a : Account) (r : List ℕ) → first (refusals a r) ≡ 0 → isKind (kindOf r) ≡ true
-kind-in a r e = not-false _ (not-refused a r e .kind)
+pub kind-in : (a : Account) (r : List ℕ) → first (refusals a r) ≡ 0 → isRow (kindOf r) ≡ true
+kind-in a r e = row-of-kind (versionOf r) (kindByte r) (not-false _ (not-refused a r e .kind))
 
 pub judged : (a : Account) (r : List ℕ) → AccountInRange a → Stopped a (judge a r) ⊎ Grown a r (judge a r)
 unfolding judge

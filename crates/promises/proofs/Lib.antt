@@ -15,3 +15,4 @@ pub mod Totals
 pub mod SoFar
 pub mod WholeLines
 pub mod SameLine
+pub mod Warming

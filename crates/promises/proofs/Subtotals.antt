@@ -12,8 +12,8 @@ use lib.ListN.{length, take, drop, length-drop}
 use lib.Dec.{leb, eqb}
 use Rattle.base.specs.Choice.{pick}
 use Rattle.base.proofs.Tests.{lt-or-ge, no-bool, of-choice, true-or-false}
-use Rattle.codec.proofs.EachKind.{kind-most}
-use Rattle.codec.specs.Table.{isKind}
+use Rattle.codec.proofs.EachKind.{row-most}
+use Rattle.codec.specs.Table.{isRow}
 use Rattle.codec.specs.Codec.{valAt, lineBytes}
 use Rattle.account.specs.declared.Account.{Account}
 use Rattle.grams.specs.declared.units.Co2.{Co2}
@@ -89,7 +89,7 @@ record Made (a : Account) (r : List ℕ) (j : Step) : Type 0 where
   still : a .stage < 2 → closing r ≡ false → j .account .stage < 2
   shut : closing r ≡ true → j .account .stage ≡ 2
 
-module _ (a : Account) (r : List ℕ) (f : AccountInRange a) (kinds : isKind (kindOf r) ≡ true) where
+module _ (a : Account) (r : List ℕ) (f : AccountInRange a) (kinds : isRow (kindOf r) ≡ true) where
   -- the subtotal of the group that ends
   ending : subtotalLines (subtotals a) ≡ map lineOfGroup (groupUnder (a .heading) (a .subtotal))
   unfolding subtotalLines
@@ -104,7 +104,7 @@ module _ (a : Account) (r : List ℕ) (f : AccountInRange a) (kinds : isKind (ki
   -- a detail gives no subtotal line
   detail-line : (g : ℕ) → g < 65536 → subtotalLines (lineWith (kindOf r) g (detailOf (a .heading) r) ∷ []) ≡ []
   detail-line g b =
-      let most = kind-most (kindOf r) kinds in
+      let most = row-most (kindOf r) kinds in
       other-line (lineWith (kindOf r) g (detailOf (a .heading) r)) (kindOf r) (line-kind (kindOf r) _ _ (omega arith) b) (λ q. omega (arith, q, most))
 
   total-line : subtotalLines (totalOf a ∷ []) ≡ []

@@ -8,3 +8,4 @@ pub mod Totals
 pub mod WholeLines
 pub mod Answers
 pub mod SameLine
+pub mod Warming

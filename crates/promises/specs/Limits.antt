@@ -69,7 +69,7 @@ from records bytes told =
     (record {
       stage = 1;
       records = records;
-      set = 1;
+      factors = record { ch4 = 21; n2o = 310 };
       heading = noRecord .heading;
       days = noRecord .days;
       subtotal = noRecord .subtotal;
@@ -100,6 +100,33 @@ farmFields =
     ∷ after [] (recordBytes 1 (7 ∷ 2010 ∷ 1 ∷ [])) (going 1)
     ∷ after [] (recordBytes 1 (7 ∷ 2010 ∷ 2 ∷ [])) (going 1)
     ∷ after [] (recordBytes 1 (7 ∷ 2010 ∷ 3 ∷ [])) (refused 0 7 3)
+    ∷ []
+
+-- farm, version 2
+abbrev pub farmFactorsFields : List Row
+farmFactorsFields =
+    -- farm number: any
+    after [] (recordBytes 11 (0 ∷ 2010 ∷ 21 ∷ 310 ∷ [])) (going 1)
+    ∷ after [] (recordBytes 11 (4294967295 ∷ 2010 ∷ 21 ∷ 310 ∷ [])) (going 1)
+    -- year: 1900..2200
+    ∷ after [] (recordBytes 11 (7 ∷ 1899 ∷ 21 ∷ 310 ∷ [])) (refused 0 7 2)
+    ∷ after [] (recordBytes 11 (7 ∷ 1900 ∷ 21 ∷ 310 ∷ [])) (going 1)
+    ∷ after [] (recordBytes 11 (7 ∷ 2200 ∷ 21 ∷ 310 ∷ [])) (going 1)
+    ∷ after [] (recordBytes 11 (7 ∷ 2201 ∷ 21 ∷ 310 ∷ [])) (refused 0 7 2)
+    -- CH4 factor: 1..1000
+    ∷ after [] (recordBytes 11 (7 ∷ 2010 ∷ 0 ∷ 310 ∷ [])) (refused 0 7 3)
+    ∷ after [] (recordBytes 11 (7 ∷ 2010 ∷ 1 ∷ 310 ∷ [])) (going 1)
+    ∷ after [] (recordBytes 11 (7 ∷ 2010 ∷ 1000 ∷ 310 ∷ [])) (going 1)
+    ∷ after [] (recordBytes 11 (7 ∷ 2010 ∷ 1001 ∷ 310 ∷ [])) (refused 0 7 3)
+    -- N2O factor: 1..1000
+    ∷ after [] (recordBytes 11 (7 ∷ 2010 ∷ 21 ∷ 0 ∷ [])) (refused 0 7 4)
+    ∷ after [] (recordBytes 11 (7 ∷ 2010 ∷ 21 ∷ 1 ∷ [])) (going 1)
+    ∷ after [] (recordBytes 11 (7 ∷ 2010 ∷ 21 ∷ 1000 ∷ [])) (going 1)
+    ∷ after [] (recordBytes 11 (7 ∷ 2010 ∷ 21 ∷ 1001 ∷ [])) (refused 0 7 4)
+    -- its bytes, one by one; a second farm record, of either version
+    ∷ after [] (0 ∷ 12 ∷ 2 ∷ 1 ∷ 0 ∷ 0 ∷ 0 ∷ 7 ∷ 7 ∷ 218 ∷ 0 ∷ 21 ∷ 1 ∷ 54 ∷ []) (going 1)
+    ∷ after farm (recordBytes 11 (7 ∷ 2010 ∷ 21 ∷ 310 ∷ [])) (refused 1 6 0)
+    ∷ after (recordBytes 11 (7 ∷ 2010 ∷ 21 ∷ 310 ∷ [])) farm (refused 1 6 0)
     ∷ []
 
 -- heading
@@ -349,7 +376,12 @@ lengthsAndKinds =
     ∷ after farm (0 ∷ 27 ∷ []) (refused 1 1 0)
     -- on the last byte of a record, not before
     ∷ after farm (0 ∷ 4 ∷ 2 ∷ 9 ∷ 0 ∷ []) (going 1)
-    -- 2: version not 1
+    -- 2: neither version 1, nor version 2 of kind 1
+    ∷ after [] (0 ∷ 9 ∷ 0 ∷ 1 ∷ 0 ∷ 0 ∷ 0 ∷ 7 ∷ 7 ∷ 218 ∷ 1 ∷ []) (refused 0 2 0)
+    ∷ after [] (0 ∷ 12 ∷ 0 ∷ 1 ∷ 0 ∷ 0 ∷ 0 ∷ 7 ∷ 7 ∷ 218 ∷ 0 ∷ 21 ∷ 1 ∷ 54 ∷ []) (refused 0 2 0)
+    ∷ after [] (0 ∷ 12 ∷ 3 ∷ 1 ∷ 0 ∷ 0 ∷ 0 ∷ 7 ∷ 7 ∷ 218 ∷ 0 ∷ 21 ∷ 1 ∷ 54 ∷ []) (refused 0 2 0)
+    ∷ after farm (0 ∷ 4 ∷ 2 ∷ 0 ∷ 0 ∷ 0 ∷ []) (refused 1 2 0)
+    ∷ after farm (0 ∷ 12 ∷ 2 ∷ 11 ∷ 0 ∷ 0 ∷ 0 ∷ 7 ∷ 7 ∷ 218 ∷ 0 ∷ 21 ∷ 1 ∷ 54 ∷ []) (refused 1 2 0)
     ∷ after farm (0 ∷ 6 ∷ 0 ∷ 7 ∷ 0 ∷ 0 ∷ 0 ∷ 10 ∷ []) (refused 1 2 0)
     ∷ after farm (0 ∷ 6 ∷ 1 ∷ 7 ∷ 0 ∷ 0 ∷ 0 ∷ 10 ∷ []) (going 2)
     ∷ after farm (0 ∷ 6 ∷ 2 ∷ 7 ∷ 0 ∷ 0 ∷ 0 ∷ 10 ∷ []) (refused 1 2 0)
@@ -358,9 +390,13 @@ lengthsAndKinds =
     ∷ after farm (0 ∷ 6 ∷ 1 ∷ 0 ∷ 0 ∷ 0 ∷ 0 ∷ 10 ∷ []) (refused 1 3 0)
     ∷ after farm (0 ∷ 6 ∷ 1 ∷ 11 ∷ 0 ∷ 0 ∷ 0 ∷ 10 ∷ []) (refused 1 3 0)
     ∷ after farm (0 ∷ 6 ∷ 1 ∷ 255 ∷ 0 ∷ 0 ∷ 0 ∷ 10 ∷ []) (refused 1 3 0)
-    -- 4: length not the kind's, one byte less and one more; beyond 4 and 26 it is refusal 1
+    -- 4: length not that of kind and version, one byte less and one more; beyond 4 and 26 it is refusal 1
     ∷ after [] (blank 8 1) (refused 0 4 0)
     ∷ after [] (blank 10 1) (refused 0 4 0)
+    ∷ after [] (blank 12 1) (refused 0 4 0)
+    ∷ after [] (0 ∷ 9 ∷ 2 ∷ 1 ∷ 0 ∷ 0 ∷ 0 ∷ 7 ∷ 7 ∷ 218 ∷ 1 ∷ []) (refused 0 4 0)
+    ∷ after [] (0 ∷ 11 ∷ 2 ∷ 1 ∷ replicate 9 0) (refused 0 4 0)
+    ∷ after [] (0 ∷ 13 ∷ 2 ∷ 1 ∷ replicate 11 0) (refused 0 4 0)
     ∷ after farm (blank 6 2) (refused 1 4 0)
     ∷ after farm (blank 8 2) (refused 1 4 0)
     ∷ after cow (blank 9 3) (refused 2 4 0)
@@ -498,6 +534,7 @@ firstTold =
 abbrev pub limits : List Row
 limits =
     farmFields
+    ++ farmFactorsFields
     ++ headingFields
     ++ entericFields
     ++ cattleFields

@@ -16,6 +16,7 @@ use Rattle.account.specs.Judge.{kindOf, weigh, judge}
 use Rattle.account.specs.Told.{TellsIn, Kind}
 use Rattle.rules.specs.Right.{Right}
 use Rattle.account.proofs.Told.{right-length}
+use Rattle.rules.proofs.ByVersion.{first-version, own-row}
 
 -- the size that a kind has, or none
 module _ (k n : ℕ) (e : n ≡ pick (isKind k) (2 + lengthOf k) 0) where
@@ -48,6 +49,7 @@ module _ {r : List ℕ} (s : Right r) (k : ℕ) (e : kindOf r ≡ k) where
   pub by-kind : (room : ℕ) (a : Account) (v : List ℕ) (j : Judged) → v ≡ valuesAt (fields k) r 4 → TellsIn room a (weigh a k v) j
       → TellsIn room a (judge a r) j
   by-kind room a v j q t =
-      let is : Kind (kindOf r) r = record { whole = s .whole; version = s .version; kind = refl } in
+      let is : Kind (kindOf r) r =
+      record { whole = s .whole; version = first-version r (s .version); listed = rw (← own-row r (s .version), s .kinds) refl; kind = refl } in
       let size : lengthOf (kindOf r) + 2 ≡ length r = omega (arith, s .long) in
-      rw (right-length a (kindOf r) r (length r) is (s .kinds) size refl, e, ← q) t
+      rw (right-length a (kindOf r) r (length r) is size refl, e, ← q) t

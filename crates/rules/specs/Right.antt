@@ -9,7 +9,7 @@ use lib.Dec.{leb}
 use Rattle.codec.specs.Table.{lengthOf, isKind}
 use Rattle.account.specs.Judge.{WholeRecord, versionOf, kindOf}
 
--- r is a whole record of version 1, of one of the eight kinds, and as long as its kind
+-- r is a whole record of version 1, of one of the kinds, and as long as its kind
 pub record Right (r : List ℕ) : Type 0 where
   pub whole : WholeRecord r
   pub version : versionOf r ≡ 1

@@ -8,26 +8,16 @@ use crate::refusals::wrong;
 use account::Account;
 use account::Judged;
 use account::line::Line;
-use grams::farm::Warming;
+use grams::farm::Factors;
 ghost use mathlib.Core.Path.{_≡_};
 ghost use Prim.Native.Nat.{_<_};
 ghost use lib.Dec.{eqb};
 ghost use Rattle.base.specs.Choice.{pick};
 ghost use Rattle.codec.specs.Table.{totalSize, linesMost};
-ghost use Rattle.grams.specs.Farm.{warmingOf};
+ghost use Rattle.grams.specs.Farm.{FactorsMost};
 ghost use Rattle.account.specs.Range.{AccountInRange, Bounded};
 ghost use Rattle.account.specs.Judge.{weigh};
 ghost use Rattle.account.specs.Told.{TellsIn, inRoom, closing};
-
-fn warming(set: u8) -> Warming
-    ensures { λ r. ⌜ r ≡ warmingOf set ⌝ }
-{
-    if set == 1 {
-        Warming::First
-    } else {
-        Warming::Second
-    }
-}
 
 // The total alone, or with the last group's subtotal before it.
 fn closing_length(group: u16) -> usize
@@ -42,14 +32,18 @@ fn closing_length(group: u16) -> usize
 
 // The close's lines: the last group's subtotal, where there is a heading, and the sums with their CO2e.
 fn totalled(a: Account, room: usize) -> Judged
-    requires { ⌜ (a .records < 4096) × Bounded (a .sums) 4096 ⌝ }
+    requires { ⌜ (a .records < 4096) × Bounded (a .sums) 4096 × FactorsMost (a .factors) ⌝ }
     ensures { λ r. ⌜ r ≡ inRoom room a (closing a) ⌝ }
 {
     let sums = a.sums;
     let n2o = sums.n2o;
     let co2 = sums.co2;
     let grazing = sums.grazing;
-    let w = warming(a.set);
+    // field by field: of a copy the compiler makes one word, which it takes apart at each record
+    let w = Factors {
+        ch4: a.factors.ch4,
+        n2o: a.factors.n2o,
+    };
     let co2e = grams::farm::co2e(w, co2, sums.ch4, n2o, grazing);
     let h = a.heading;
     let s = a.subtotal;

@@ -1,9 +1,10 @@
-// Kind 1 opens the book.
+// Kind 1 opens the book, with the warming factors of its set.
 use crate::lines::silent;
 use crate::refusals::barred;
 use crate::refusals::stopped;
 use account::Account;
 use account::Judged;
+use grams::farm::factors_of;
 ghost use Prim.Native.Nat.{_<_};
 ghost use Rattle.account.specs.Range.{AccountInRange};
 ghost use Rattle.account.specs.Judge.{weigh};
@@ -18,9 +19,12 @@ pub fn weigh(a: Account, v: [u64; 3], room: usize) -> Judged
     if code != 0 {
         return stopped(a, code, bad);
     }
+    let factors = factors_of(v[2]);
     let mut next = a.by_fields();
     next.stage = 1;
     next.records = a.records + 1;
-    next.set = v[2] as u8;
+    // field by field: of a copy the compiler makes one word, which it takes apart at each record
+    next.factors.ch4 = factors.ch4;
+    next.factors.n2o = factors.n2o;
     silent(next)
 }

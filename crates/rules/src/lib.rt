@@ -5,6 +5,7 @@ pub mod close;
 pub mod energy;
 pub mod enteric;
 pub mod farm;
+pub mod farm_factors; // farm_factors.rt: the farm record of version 2
 pub mod grazing;
 pub mod heading;
 pub mod pig;
@@ -24,7 +25,7 @@ ghost use lib.Dec.{leb};
 ghost use Rattle.base.specs.Choice.{pick};
 ghost use Rattle.codec.specs.Table.{lengthOf, isKind};
 ghost use Rattle.account.specs.Range.{AccountInRange};
-ghost use Rattle.account.specs.Judge.{WholeRecord, kindOf, judge};
+ghost use Rattle.account.specs.Judge.{WholeRecord, versionOf, kindOf, judge};
 ghost use Rattle.account.specs.Told.{TellsIn};
 ghost use Rattle.rules.specs.Right.{Right};
 
@@ -66,6 +67,22 @@ fn by_kind(a: Account, kind: u8, r: &[u8], room: usize) -> Judged
     }
 }
 
+// What the whole record r does that is not of version 1: a farm record of version 2, or refused.
+fn by_version(a: Account, r: &[u8], room: usize) -> Judged
+    requires { ⌜ AccountInRange a × (a .stage < 2) × WholeRecord (now r) × (versionOf (now r) ≡ 1 → ⊥) ⌝ }
+    ensures { λ j. ⌜ TellsIn room a (judge a (now (r .entry))) j ⌝ }
+{
+    let version = r[2];
+    let kind = r[3];
+    if (version != 2) | (kind != 1) {
+        return wrong(a, 2, 0);
+    }
+    if r.len() != 14 {
+        return wrong(a, 4, 0);
+    }
+    farm_factors::weigh(a, codec::farm_factors::read(r, 4), room)
+}
+
 // What the whole record r does: its version, its kind and its length are looked at here, its values in the kind's file.
 pub fn judge(a: Account, r: &[u8], room: usize) -> Judged
     requires { ⌜ AccountInRange a × (a .stage < 2) × WholeRecord (now r) ⌝ }
@@ -73,7 +90,7 @@ pub fn judge(a: Account, r: &[u8], room: usize) -> Judged
 {
     let version = r[2];
     if version != 1 {
-        return wrong(a, 2, 0);
+        return by_version(a, r, room);
     }
     let kind = r[3];
     let size = size_of(kind);

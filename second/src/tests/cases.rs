@@ -3,19 +3,22 @@
 use crate::cases;
 use crate::figures::Subtotal;
 use crate::kind;
-use crate::record::{fields_of, length_of};
+use crate::plain::plain_rows;
+use crate::record::{fields_with, length_of};
 use crate::trial::Case;
+use crate::warming::factors;
 
 #[test]
 fn lengths_of_the_table() {
-    let lengths: Vec<u16> = kind::ALL.map(length_of).collect();
+    let lengths: Vec<u16> = kind::ALL.map(|kind| length_of(kind, 1)).collect();
     assert_eq!(lengths, [9, 7, 10, 20, 26, 11, 6, 4, 11, 8]);
+    assert_eq!(length_of(kind::FARM, 2), 12);
 }
 
 #[test]
 fn each_field_is_tested_at_its_ends() {
-    for kind in kind::ALL {
-        for f in fields_of(kind) {
+    for (kind, plain) in plain_rows() {
+        for f in fields_with(kind, plain.len()) {
             assert!(f.low <= f.high && u64::from(f.high) < 1 << (8 * f.bytes));
         }
     }
@@ -27,16 +30,17 @@ fn cases_survive_their_text() {
         let text = cases::fresh(5, index).text();
         assert_eq!(Case::parse(&text).unwrap().text(), text);
     }
-    let no_state = format!("B{} {} - 0", " 0".repeat(24), "00".repeat(27));
+    let no_state = format!("B{} {} - 0", " 0".repeat(25), "00".repeat(27));
     assert_eq!(Case::parse(&no_state).unwrap().text(), no_state + "\n");
-    let ranks: Vec<String> = (0..24).map(|i| format!("{i:x}")).collect();
+    let ranks: Vec<String> = (0..25).map(|i| format!("{i:x}")).collect();
     let ranked = format!("B {} {} - 0", ranks.join(" "), "00".repeat(27));
     match Case::parse(&ranked) {
         Ok(Case::Book { state, .. }) => {
-            assert_eq!((state.heading.days, state.heading.grazed), ([6, 7, 8], 9));
-            assert_eq!(state.subtotal, Subtotal { ch4: 10, n2o: 11, excreted: 12, land: 13 });
-            assert_eq!(state.sums.in_order(), [14, 15, 16, 17, 18, 19]);
-            assert_eq!((state.refusal.code, state.held_count), (20, 23));
+            assert_eq!((state.records, state.factors), (1, factors(2, 3)));
+            assert_eq!((state.heading.days, state.heading.grazed), ([7, 8, 9], 10));
+            assert_eq!(state.subtotal, Subtotal { ch4: 11, n2o: 12, excreted: 13, land: 14 });
+            assert_eq!(state.sums.in_order(), [15, 16, 17, 18, 19, 20]);
+            assert_eq!((state.refusal.code, state.held_count), (21, 24));
         }
         other => panic!("{other:?}"),
     }

@@ -1,8 +1,9 @@
 //! Document 01's arithmetic: P1 to P9, what is rounded when, the warming sets.
 
 use super::{adds, under, COW, PIG};
-use crate::figures::{self, co2e, pig_ch4_product, round, Figures};
+use crate::figures::{self, pig_ch4_product, round, Figures};
 use crate::kind;
+use crate::warming::{SET_1, SET_2};
 
 #[test]
 fn round_takes_halves_to_the_even_number() {
@@ -91,6 +92,6 @@ fn direct_and_indirect_are_rounded_apart() {
 #[test]
 fn both_warming_sets() {
     let sums = Figures { ch4: 2, n2o: 3, co2: 5, excreted: 7, land: 11, grazing: 13 };
-    assert_eq!(co2e(1, sums), 5 + 2 * 21 + 3 * 310 + 13);
-    assert_eq!(co2e(2, sums), 5 + 2 * 23 + 3 * 296 + 13);
+    assert_eq!(SET_1.co2e(sums), 5 + 2 * 21 + 3 * 310 + 13);
+    assert_eq!(SET_2.co2e(sums), 5 + 2 * 23 + 3 * 296 + 13);
 }

@@ -16,17 +16,19 @@ mod subtotals;
 mod tillage;
 mod typed;
 mod typed_lines;
+mod warming;
 mod writer;
 
 use crate::feed::{feed, Answer, Reply};
 use crate::figures::{Figures, Subtotal};
 use crate::record::record_of;
 use crate::state::{Heading, State, LARGE, OPEN};
+use crate::warming::SET_1;
 
 /// An open state under a heading of this class and head count.
 fn under(class: u8, head: u16) -> State {
     let heading = Heading { group: 9, class, head, days: [0; 3], grazed: 0 };
-    State { stage: OPEN, records: 2, set: 1, heading, ..State::default() }
+    State { stage: OPEN, records: 2, factors: SET_1, heading, ..State::default() }
 }
 
 fn all(state: &State, input: &[u8]) -> Reply {
@@ -58,7 +60,7 @@ const COW: [u64; 9] = [365, 2_000, 1_600, 3_000, 320, 0, 2_000, 8_000, 0];
 
 /// An open state of four records without a heading.
 fn no_group() -> State {
-    State { stage: OPEN, records: 4, set: 1, ..State::default() }
+    State { stage: OPEN, records: 4, factors: SET_1, ..State::default() }
 }
 
 /// An open state of four records whose group 9 of this class has a subtotal.

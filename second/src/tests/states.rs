@@ -7,6 +7,7 @@ use crate::feed::{feed, Answer, Reply};
 use crate::plain::sample;
 use crate::state::{Heading, Refusal, State, CLOSED, OPEN, REFUSED};
 use crate::states::{beside_bounds, right_state};
+use crate::warming::{NONE, SET_2};
 
 #[test]
 fn closed_and_refused_take_nothing() {
@@ -59,7 +60,11 @@ fn ranges_of_a_state() {
     );
     assert!(!fits(&|s| s.records = 1) && !fits(&|s| s.records = 0));
     assert!(fits(&|s| (s.records, s.heading) = (1, Heading::default())));
-    assert!(!fits(&|s| s.set = 0) && fits(&|s| s.set = 2) && !fits(&|s| s.set = 3));
+    assert!(!fits(&|s| s.factors = NONE) && fits(&|s| s.factors = SET_2));
+    assert!(fits(&|s| s.factors.ch4 = 1) && fits(&|s| s.factors.ch4 = 1_000));
+    assert!(!fits(&|s| s.factors.ch4 = 0) && !fits(&|s| s.factors.ch4 = 1_001));
+    assert!(fits(&|s| s.factors.n2o = 1) && fits(&|s| s.factors.n2o = 1_000));
+    assert!(!fits(&|s| s.factors.n2o = 0) && !fits(&|s| s.factors.n2o = 1_001));
     assert!(!fits(&|s| s.heading.group = 0) && fits(&|s| s.heading = Heading::default()));
     assert!(!fits(&|s| s.heading.class = 0) && !fits(&|s| s.heading.class = 5));
     assert!(fits(&|s| s.heading.head = 20_000) && !fits(&|s| s.heading.head = 20_001));

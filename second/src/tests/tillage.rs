@@ -4,7 +4,7 @@ use super::typed::{record_typed, remarks};
 use super::{accepted, adds, all, no_group, refused_by, under, with_group};
 use crate::books::after;
 use crate::feed::Answer;
-use crate::figures::{co2e, signed, Figures};
+use crate::figures::{signed, Figures};
 use crate::kind;
 use crate::lister::list;
 use crate::plain::{plain_values, sample};
@@ -13,6 +13,7 @@ use crate::record::{number, record_of};
 use crate::salvage::tell;
 use crate::state::{State, CLOSED};
 use crate::tillage::{pair, rate};
+use crate::warming::{SET_1, SET_2};
 use crate::why::why;
 
 /// Table A4-4 of source document 002, copied: zone, texture, then lumCmax and k of the six changes.
@@ -140,7 +141,7 @@ closed
 ";
     assert_eq!(list(&book), text);
     let sums = Figures { ch4: 1, n2o: 1, co2: -1_000, ..Figures::default() };
-    assert_eq!((co2e(1, sums), co2e(2, sums)), (-669, -681));
+    assert_eq!((SET_1.co2e(sums), SET_2.co2e(sums)), (-669, -681));
 }
 
 #[test]

@@ -1,8 +1,8 @@
 //! One line of a typed text: its bytes, its words and its numbers, and what is said of it.
 
 use super::typed::{record_typed, remarks, said, verdict};
-use crate::plain::{plain_values, sample};
-use crate::record::{fields_of, record_of};
+use crate::plain::{plain_rows, plain_values, sample};
+use crate::record::{fields_with, record_of};
 use crate::typed::enter;
 use crate::words::{kind_name, shown, spoken_of, KINDS};
 
@@ -100,10 +100,11 @@ fn numbers_of_any_count_of_digits() {
 
 #[test]
 fn every_field_has_its_decimals() {
-    for kind in 1..=10_u64 {
-        let spoken = spoken_of(kind);
-        assert_eq!(spoken.len(), fields_of(kind as u8).len());
-        for (place, (f, field)) in spoken.iter().zip(fields_of(kind as u8)).enumerate() {
+    for (kind, plain) in plain_rows() {
+        let (spoken, fields) =
+            (spoken_of(kind.into(), plain.len()), fields_with(kind, plain.len()));
+        assert_eq!(spoken.len(), fields.len());
+        for (place, (f, field)) in spoken.iter().zip(fields).enumerate() {
             let expected = highest_expected(f.expected);
             let scale = 10_u64.pow(f.decimals as u32);
             let high = u64::from(field.high);

@@ -3,17 +3,14 @@
 use crate::books::{after, closed_run, values_outside};
 use crate::dice::Dice;
 use crate::kind;
-use crate::plain::{place_of, plain_values, sample, under};
-use crate::record::{fields_of, length_of, record_of};
+use crate::plain::{place_of, plain_rows, plain_values, sample, under};
+use crate::record::{fields_of, fields_with, record_of};
 use crate::state::{Refusal, State, CLOSED, MOST_RECORDS, OPEN, REFUSED};
 use crate::states::{beside_bounds, right_state};
 use crate::trial::{hex, Case};
+use crate::warming::SET_1;
 use crate::writer::{write, Wrote};
 use crate::writes::{in_a_row, in_order, records_of, row, some_write, stored};
-
-fn size_of(kind: u8) -> usize {
-    2 + usize::from(length_of(kind))
-}
 
 /// The number and field of a refusal that goes with the records accepted.
 fn refused_by(state: &State, kind: u64, values: &[u64], room: usize) -> (u8, u8) {
@@ -35,10 +32,10 @@ fn code_of(case: &Case) -> u8 {
 
 #[test]
 fn every_kind_is_written_and_read_back() {
-    for kind in kind::ALL {
-        let (state, values) = (place_of(kind), plain_values(kind));
-        let wrote = write(&state, kind.into(), &values, size_of(kind)).unwrap();
-        assert_eq!(wrote.bytes, record_of(kind, &values));
+    for (kind, values) in plain_rows() {
+        let (state, record) = (place_of(kind), record_of(kind, &values));
+        let wrote = write(&state, kind.into(), &values, record.len()).unwrap();
+        assert_eq!(wrote.bytes, record);
         assert_eq!(wrote.state, after(&state, &wrote.bytes));
         assert_eq!(wrote.state.records, state.records + 1);
         assert_eq!(write(&state, kind.into(), &values, 64), Ok(wrote));
@@ -49,14 +46,14 @@ fn every_kind_is_written_and_read_back() {
 fn the_papers_farm_record() {
     let wrote = write(&State::default(), 1, &[7, 2010, 1], 11).unwrap();
     assert_eq!(hex(&wrote.bytes), "000901010000000707da01");
-    assert_eq!((wrote.state.stage, wrote.state.set), (OPEN, 1));
+    assert_eq!((wrote.state.stage, wrote.state.factors), (OPEN, SET_1));
 }
 
 #[test]
 fn short_buffers_come_last() {
-    for kind in kind::ALL {
-        let (state, values) = (place_of(kind), plain_values(kind));
-        for room in 0..size_of(kind) {
+    for (kind, values) in plain_rows() {
+        let state = place_of(kind);
+        for room in 0..record_of(kind, &values).len() {
             assert_eq!(refused_by(&state, kind.into(), &values, room), (16, 0));
         }
     }
@@ -65,11 +62,11 @@ fn short_buffers_come_last() {
 
 #[test]
 fn values_at_and_past_their_ranges() {
-    for kind in kind::ALL {
+    for (kind, plain) in plain_rows() {
         let state = place_of(kind);
-        for (position, f) in fields_of(kind).iter().enumerate() {
+        for (position, f) in fields_with(kind, plain.len()).iter().enumerate() {
             let with = |value| {
-                let mut values = plain_values(kind);
+                let mut values = plain.clone();
                 values[position] = value;
                 write(&state, kind.into(), &values, 64)
             };
@@ -77,7 +74,7 @@ fn values_at_and_past_their_ranges() {
             for value in [f.low, f.high] {
                 assert_ne!(with(value.into()), seven);
             }
-            for value in values_outside(kind, position) {
+            for value in values_outside(f) {
                 assert_eq!(with(value), seven);
             }
             for high in [1, 256, 1 << (63 - 8 * f.bytes)] {
@@ -98,8 +95,9 @@ fn the_first_field_out_of_range_is_given() {
 #[test]
 fn wrong_counts_and_wrong_kinds() {
     for kind in kind::ALL.map(u64::from) {
-        let right = fields_of(kind as u8).len();
-        for count in (0..=20).filter(|&count| count != right) {
+        let right = fields_of(kind as u8, 1).len();
+        let right = |count| count == right || (kind, count) == (1, 4);
+        for count in (0..=20).filter(|&count| !right(count)) {
             assert_eq!(refused_by(&place_of(kind as u8), kind, &vec![1; count], 64), (4, 0));
         }
     }
@@ -166,8 +164,8 @@ fn refused_as_the_reader_would() {
         let code = write(&state, kind, &values, 64).err().map_or(0, |refusal| refusal.code);
         let fits = |(f, &value): (&crate::record::Field, &u64)| value < 1 << (8 * f.bytes);
         let sayable = (1..=10).contains(&kind)
-            && values.len() == fields_of(kind as u8).len()
-            && fields_of(kind as u8).iter().zip(&values).all(fits);
+            && values.len() == fields_with(kind as u8, values.len()).len()
+            && fields_with(kind as u8, values.len()).iter().zip(&values).all(fits);
         if sayable && state.in_range() && state.stage <= OPEN && state.held_count == 0 {
             let read = after(&state, &record_of(kind as u8, &values));
             assert_eq!(code, read.refusal.code);

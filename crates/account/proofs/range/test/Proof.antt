@@ -7,7 +7,7 @@ returns : tie.Need-returns
 returns c =
     let e = c .before in
     rw (c .grazed-in .ensures, e .ended .ensures, e .before .under .ensures, e .before .before .bounded .ensures, e .before .before .before .started .ensures)
-    (in-parts (e .before .before .before .before .before .before .before .before .before .args .a))
+    (in-parts (e .before .before .before .before .before .before .before .before .before .before .args .a))
 
 pub test-spec : {M : Type 1} → statement M
 test-spec = tie.close (tie.spec (λ c κs. tt) (λ c κs. tt) (λ c κs. tt) (λ c κs. tt) (λ c κs. tt) returns)

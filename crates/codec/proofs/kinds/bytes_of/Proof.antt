@@ -1,7 +1,7 @@
 -- `codec::kinds::bytes_of` meets its contract: read off the table, kind by kind.
 -- Assumes nothing.
 use Rattle.codec.specs.Table.{table, size}
-use Rattle.codec.proofs.EachKind.{last-kind}
+use Rattle.codec.proofs.EachKind.{last-row}
 use Rattle.codec.proofs.kinds.bytes_of.Statement.{statement}
 use Rattle.codec.proofs.kinds.bytes_of.Tie as tie
 
@@ -19,8 +19,9 @@ bytes-of-spec =
     (λ c. rw (c .match .keys7))
     (λ c. rw (c .match .keys8))
     (λ c. rw (c .match .keys9))
+    (λ c. rw (c .match .keys10))
     (λ c.
     let r = c .match .rest in
     let p = c .before .pre in
     let s = r .0 .0 .0 .0 in
-    rw (last-kind _ (p .0) (p .1) (s .0 .0 .0 .0 .1) (s .0 .0 .0 .1) (s .0 .0 .1) (s .0 .1) (s .1) (r .0 .0 .0 .1) (r .0 .0 .1) (r .0 .1) (r .1))))
+    rw (last-row _ (p .0) (p .1) (s .0 .0 .0 .0 .0 .1) (s .0 .0 .0 .0 .1) (s .0 .0 .0 .1) (s .0 .0 .1) (s .0 .1) (s .1) (r .0 .0 .0 .1) (r .0 .0 .1) (r .0 .1) (r .1))))

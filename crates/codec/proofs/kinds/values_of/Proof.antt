@@ -1,5 +1,5 @@
 -- Read off the table, kind by kind. Assumes nothing.
-use Rattle.codec.proofs.EachKind.{other-kind}
+use Rattle.codec.proofs.EachKind.{other-row}
 use Rattle.codec.specs.Table.{table}
 use Rattle.codec.proofs.kinds.values_of.Statement.{statement}
 use Rattle.codec.proofs.kinds.values_of.Tie as tie
@@ -19,7 +19,8 @@ values-of-spec =
     (λ c. rw (c .match .keys8))
     (λ c. rw (c .match .keys9))
     (λ c. rw (c .match .keys10))
+    (λ c. rw (c .match .keys11))
     (λ c.
     let r = c .match .rest in
     let s = r .0 .0 .0 .0 in
-    other-kind _ (s .0 .0 .0 .0 .0 .1) (s .0 .0 .0 .0 .1) (s .0 .0 .0 .1) (s .0 .0 .1) (s .0 .1) (s .1) (r .0 .0 .0 .1) (r .0 .0 .1) (r .0 .1) (r .1)))
+    other-row _ (s .0 .0 .0 .0 .0 .0 .1) (s .0 .0 .0 .0 .0 .1) (s .0 .0 .0 .0 .1) (s .0 .0 .0 .1) (s .0 .0 .1) (s .0 .1) (s .1) (r .0 .0 .0 .1) (r .0 .0 .1) (r .0 .1) (r .1)))

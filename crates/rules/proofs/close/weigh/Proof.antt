@@ -22,7 +22,9 @@ unfolding first
 returns-2 c = refuses _ 8 _ (passed (c .before .before .before)) _ 12 _ (rw (ne-eqb _ _ (c .before .if2 .taken))) refl refl (c .wrong .ensures)
 
 totalled-requires : tie.Need-totalled-requires
-totalled-requires c κs = (passed (c .before .before) .room, sums-most _ (c .before .before .before .before .before .before .pre .0))
+totalled-requires c κs =
+    let f = c .before .before .before .before .before .before .pre .0 in
+    (passed (c .before .before) .room, sums-most _ f, record { ch4-most = f .ch4-factor .most; n2o-most = f .n2o-factor .most })
 
 returns-3 : tie.Need-returns-3
 unfolding first accepted sortOf

@@ -4,7 +4,6 @@ use native.Mathlib.Omega.{arith}
 use borrow.Author.Needs.{needs}
 use Rattle.account.specs.Sorts.{sortOf}
 use Rattle.account.specs.Judge.{inPlace, first, accepted}
-use Rattle.account.proofs.Ranges.{farm-in}
 use Rattle.account.proofs.Told.{tells-quiet, quiet-in, Passes, passes, stops, accepts}
 use Rattle.rules.proofs.farm.weigh.Statement.{statement}
 use Rattle.rules.proofs.farm.weigh.Tie as tie
@@ -21,7 +20,7 @@ returns-2 : tie.Need-returns-2
 unfolding first accepted sortOf
 returns-2 c =
     quiet-in _ _ _ _ _ (c .silent .ensures)
-    (rw (accepts _ 1 _ (passed (c .before .before .before)) refl, c .silent .ensures, c .before .before .by-fields .ensures) (tells-quiet _))
+    (rw (accepts _ 1 _ (passed (c .before .before .before .before .before .before)) refl, c .silent .ensures, c .before .before .before .before .by-fields .ensures, c .before .before .before .before .before .factors-of .ensures) (tells-quiet _))
 
 pub weigh-spec : {M : Type 1} → statement M
 weigh-spec =
@@ -31,9 +30,9 @@ weigh-spec =
     (λ c κs. tt)
     (λ c κs. tt)
     returns
-    (λ c κs. tt)
-    (λ c. omega (arith, passed (c .before .before) .room))
     (λ c. search needs)
-    (λ c. omega (arith, farm-in _ (passed (c .before .before) .ranges) .set-most))
+    (λ c κs. tt)
+    (λ c κs. tt)
+    (λ c. omega (arith, passed (c .before .before .before) .room))
     (λ c κs. tt)
     returns-2)

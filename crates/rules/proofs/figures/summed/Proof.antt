@@ -11,7 +11,7 @@ summed-spec =
     tie.close
     (tie.spec
     (λ c κs. search needs)
-    (λ c κs. let a = c .before .before .before .before .before in (a .pre .0 .co2, within-more (a .args .g .co2) 1 4096 (omega arith) (a .pre .1 .co2)))
+    (λ c κs. let a = c .before .before .before .before .before in (a .pre .0 .co2, within-more (a .args .g .co2) 1 49152 (omega arith) (a .pre .1 .co2)))
     (λ c κs. search needs)
     (λ c. search needs)
     (λ c. search needs)

@@ -1,0 +1,42 @@
+-- `codec::farm_factors::write` meets its contract.
+-- Assumes nothing.
+use mathlib.Core.Path.{refl}
+use Rattle.codec.specs.Table.{table, size}
+use Rattle.codec.proofs.Stores.{fields-stored}
+use native.Mathlib.Omega.{arith}
+use Rattle.codec.proofs.farm_factors.write.Statement.{statement}
+use Rattle.codec.proofs.farm_factors.write.Tie as tie
+
+returns : tie.Need-returns
+unfolding table size
+returns c =
+    rw (
+      fields-stored,
+      c .before .before .put23 .ensures,
+      c .before .before .before .before .before .before .put22 .ensures,
+      c .before .before .before .before .before .before .before .before .before .before .put2 .ensures,
+      c .before .before .before .before .before .before .before .before .before .before .before .before .before .before .put4 .ensures,
+      c .before .before .before .before .before .before .before .before .before .before .before .before .before .before .before .before .before .before .put-versioned .ensures,
+    )
+    refl
+
+pub write-spec : {M : Type 1} → statement M
+unfolding table size
+write-spec =
+    tie.close
+    (tie.spec
+    (λ c κs. omega arith)
+    (λ c. omega arith)
+    (λ c. omega arith)
+    (λ c κs. omega arith)
+    (λ c. omega arith)
+    (λ c. omega arith)
+    (λ c κs. omega arith)
+    (λ c. omega arith)
+    (λ c. omega arith)
+    (λ c κs. omega arith)
+    (λ c. omega arith)
+    (λ c. omega arith)
+    (λ c κs. omega arith)
+    (λ c. omega arith)
+    returns)

@@ -1,0 +1,201 @@
+-- W11: the factors of a book are its farm record's; those of a set give what the set gives; the rules before refuse version 2.
+-- Assumes nothing.
+use Prim.Native.Nat.{ℕ, zero, suc, _+_, _≤_, _<_}
+use mathlib.Core.Path.{_≡_, refl, sym, ap, _∙_}
+use mathlib.Core.List.{List, [], _∷_, _++_}
+use mathlib.Core.Bool.{Bool, true, false, not, _||_}
+use native.Mathlib.Omega.{arith}
+use borrow.Author.Tests.{eqb-true, eq-eqb, ne-eqb, le-leb}
+use lib.ListN.{length, getD, take, drop}
+use lib.Dec.{eqb, ltb, leb}
+use Rattle.base.specs.Choice.{pick}
+use Rattle.base.proofs.Tests.{of-choice, not-false, no-bool, true-or-false}
+use Rattle.codec.specs.Table.{table, fields, size, lengthOf}
+use Rattle.codec.specs.Codec.{valAt, be, valuesAt, bytesOf, firstBad, recordBytes}
+use Rattle.codec.proofs.Round.{record-length, record-back}
+use Rattle.grams.specs.Farm.{setFactors}
+use Rattle.grams.specs.declared.farm.Factors.{Factors}
+use Rattle.account.specs.declared.Account.{Account}
+use Rattle.account.specs.Sorts.{isFarm, opens, heads, ofGroup, ofFarm, closes, Sort, sortOf, bySort}
+use Rattle.account.specs.Judge.{WholeRecord, versionOf, opened, refused, kindByte, kindOf, valuesOf, noRecord, refusals, first, inPlace, Step, accepted, weigh, judge}
+use Rattle.account.specs.Told.{Kind}
+use Rattle.account.proofs.Sorts.{by-sort}
+use Rattle.account.proofs.Refusals.{not-refused}
+use Rattle.account.proofs.Told.{right-length}
+use Rattle.book.specs.Front.{Front, unfinished, badLength, whole, need, front}
+use Rattle.book.specs.State.{noRecordYet}
+use Rattle.book.specs.Run.{Run, then, ended, byFront, bookBy, book, run}
+use Rattle.promises.specs.Warming.{refusalsBefore, bySet, byFactors}
+use Rattle.promises.proofs.SameLine.{book-record}
+
+-- ---- the factors stay
+
+opens-farm : (k : ℕ) → sortOf k ≡ opens → isFarm k ≡ true
+unfolding sortOf
+opens-farm k e = go (isFarm k) (eqb k 2) (eqb k 3 || (eqb k 4 || (eqb k 5 || eqb k 10))) (eqb k 8) e
+  where
+    go : (a b c d : Bool) → pick a opens (pick b heads (pick c ofGroup (pick d closes ofFarm))) ≡ opens → a ≡ true
+    go true b c d e = refl
+    go false true c d e = let z : _≡_ {A = ℕ} 0 1 = cc in absurd (omega arith)
+    go false false true d e = let z : _≡_ {A = ℕ} 0 1 = cc in absurd (omega arith)
+    go false false false true e = let z : _≡_ {A = ℕ} 0 1 = cc in absurd (omega arith)
+    go false false false false e = let z : _≡_ {A = ℕ} 0 1 = cc in absurd (omega arith)
+
+-- behind a book's first record no farm record is in its place
+no-second : (a : Account) (k : ℕ) → 1 ≤ a .records → isFarm k ≡ true → inPlace a k ≡ true → ⊥
+unfolding inPlace
+no-second a k h f p =
+    let z : a .records ≡ 0 = eqb-true _ _ (rw f at p) in
+    omega arith
+
+Keeps : Account → Step → Type 0
+Keeps a s = (s .account .factors ≡ a .factors) × (1 ≤ s .account .records)
+
+-- a record behind the first keeps them
+record-keeps : (a : Account) (r : List ℕ) → 1 ≤ a .records → Keeps a (judge a r)
+unfolding judge accepted Keeps
+record-keeps a r h =
+    of-choice (Keeps a) (eqb (first (refusals a r)) 0)
+    (λ e.
+    let t = not-refused a r (eqb-true _ _ e) in
+    by-sort (Keeps a) (sortOf (kindOf r)) (λ o. absurd (no-second a (kindOf r) h (opens-farm (kindOf r) o) (not-false _ (t .values .place))))
+    (λ o. (refl, omega arith)) (λ o. (refl, omega arith)) (λ o. (refl, omega arith)) (λ o. (refl, omega arith)))
+    (λ e. (refl, h))
+
+-- and so do all
+book-keeps : (n : ℕ) (a : Account) (xs : List ℕ) → 1 ≤ a .records → bookBy n a xs .state .account .factors ≡ a .factors
+unfolding bookBy Keeps
+book-keeps zero a xs h = refl
+book-keeps (suc n) a xs h =
+    let k = record-keeps a (take (need xs) xs) h in
+    go (ltb (a .stage) 2) (front xs) (book-keeps n (judge a (take (need xs) xs) .account) (drop (need xs) xs) (k .1) ∙ k .0)
+  where
+    go : (b : Bool) (f : Front) → bookBy n (judge a (take (need xs) xs) .account) (drop (need xs) xs) .state .account .factors ≡ a .factors
+        → pick b (byFront f a xs (bookBy n (judge a (take (need xs) xs) .account) (drop (need xs) xs))) (ended a xs) .state .account .factors ≡ a .factors
+    go false f ih = refl
+    go true unfinished ih = refl
+    go true badLength ih = refl
+    go true whole ih = ih
+
+-- ---- a farm record of version 1
+
+-- what it leaves where it opens the book
+Opens : List ℕ → Step → Type 0
+Opens v s = s .account .stage ≡ 1 → (s .account .factors ≡ setFactors (getD v 2 0)) × (1 ≤ s .account .records)
+
+unopened : (v : List ℕ) (s : Step) → s .account .stage ≡ 3 → Opens v s
+unfolding Opens
+unopened v s e = λ o. absurd (omega arith)
+
+accepted-opens : (k : ℕ) (v : List ℕ) → k ≡ 1 → Opens v (accepted noRecord k v)
+unfolding accepted sortOf Opens
+accepted-opens k v e = rw e (λ o. (refl, omega arith))
+
+set-opens : (r : List ℕ) → kindOf r ≡ 1 → Opens (valuesOf r) (judge noRecord r)
+unfolding judge
+set-opens r k =
+    of-choice (Opens (valuesOf r)) (eqb (first (refusals noRecord r)) 0) (λ e. accepted-opens (kindOf r) (valuesOf r) k) (λ e. never e)
+  where
+    never : eqb (first (refusals noRecord r)) 0 ≡ false → Opens (valuesOf r) (record { account = refused noRecord (first (refusals noRecord r)) (pick (eqb (first (refusals noRecord r)) 7) (firstBad (fields (kindOf r)) (valuesOf r) 0) 0); lines = [] })
+    never e = unopened (valuesOf r) _ refl
+
+-- A book whose farm record is of version 1 has the factors of its set at every point, and so the totals that it had.
+pub old-books : (r xs : List ℕ) → WholeRecord r → versionOf r ≡ 1 → kindByte r ≡ 1 → judge noRecord r .account .stage ≡ 1
+    → run noRecordYet (r ++ xs) .state .account .factors ≡ setFactors (getD (valuesOf r) 2 0)
+unfolding run book Opens
+old-books r xs w v k o =
+    let row : kindOf r ≡ 1 = rw (v, k) refl in
+    let first-one = set-opens r row o in
+    ap (λ (x : Run). x .state .account .factors) (book-record noRecord r xs w (omega arith))
+    ∙ book-keeps (suc (length xs)) (judge noRecord r .account) xs (first-one .1)
+    ∙ first-one .0
+
+-- ---- the same factors by version 2
+
+-- in range with the one are in range with the other
+same-front : (a b c d : Bool) (x y : ℕ) → pick a (pick b (pick c (pick d x 2) 2) 1) 1 ≡ 0 → y ≡ 0 → pick a (pick b (pick c (pick d y 2) 2) 1) 1 ≡ 0
+same-front true true true true x y h e = e
+same-front true true true false x y h e = h
+same-front true true false d x y h e = h
+same-front true false c d x y h e = h
+same-front false b c d x y h e = h
+
+-- the factors of set 1, or else those of set 2
+abbrev factorsIf : Bool → Factors
+factorsIf b = pick b (record { ch4 = 21; n2o = 310 }) (record { ch4 = 23; n2o = 296 })
+
+factors-fit : (farm year set : ℕ) → firstBad (fields 1) (bySet farm year set) 0 ≡ 0 → firstBad (fields 11) (byFactors farm year set) 0 ≡ 0
+unfolding firstBad table
+factors-fit farm year set h = same-front (leb 0 farm) (leb farm 4294967295) (leb 1900 year) (leb year 2200) _ _ h (go (eqb set 1))
+  where
+    go : (b : Bool)
+        → _≡_ {A = ℕ} (pick (leb 1 (factorsIf b .ch4)) (pick (leb (factorsIf b .ch4) 1000) (pick (leb 1 (factorsIf b .n2o)) (pick (leb (factorsIf b .n2o) 1000) 0 4) 4) 3) 3) 0
+    go true = refl
+    go false = refl
+
+size-1 : lengthOf 1 + 2 ≡ 11
+unfolding table size
+size-1 = refl
+
+size-11 : lengthOf 11 + 2 ≡ 14
+unfolding table size
+size-11 = refl
+
+size-of-1 : 2 + lengthOf 1 ≡ 11
+unfolding table size
+size-of-1 = refl
+
+size-of-11 : 2 + lengthOf 11 ≡ 14
+unfolding table size
+size-of-11 = refl
+
+count-1 : 3 ≡ length (fields 1)
+unfolding table
+count-1 = refl
+
+count-11 : 4 ≡ length (fields 11)
+unfolding table
+count-11 = refl
+
+-- what a farm record in range does first of all
+set-weighs : (v : List ℕ) → firstBad (fields 1) v 0 ≡ 0 → weigh noRecord 1 v ≡ record { account = opened noRecord (setFactors (getD v 2 0)); lines = [] }
+unfolding weigh first inPlace accepted sortOf
+set-weighs v h = rw h refl
+
+factors-weigh : (v : List ℕ) → firstBad (fields 11) v 0 ≡ 0
+    → weigh noRecord 11 v ≡ record { account = opened noRecord (record { ch4 = getD v 2 0; n2o = getD v 3 0 }); lines = [] }
+unfolding weigh first inPlace accepted sortOf
+factors-weigh v h = rw h refl
+
+set-kind : (farm year set : ℕ) → Kind 1 (recordBytes 1 (bySet farm year set))
+unfolding recordBytes be bytesOf table size valAt
+set-kind farm year set = record { whole = record { long = refl; low = omega arith; high = omega arith }; version = refl; listed = refl; kind = refl }
+
+factors-kind : (farm year set : ℕ) → Kind 11 (recordBytes 11 (byFactors farm year set))
+unfolding recordBytes be bytesOf table size valAt
+factors-kind farm year set = record { whole = record { long = refl; low = omega arith; high = omega arith }; version = refl; listed = refl; kind = refl }
+
+-- A farm record of version 2 with the factors of a set gives what version 1 with that set gives: the same state, lines and bytes left.
+pub factors-as-set : (farm year set : ℕ) (xs : List ℕ) → firstBad (fields 1) (bySet farm year set) 0 ≡ 0
+    → run noRecordYet (recordBytes 11 (byFactors farm year set) ++ xs) ≡ run noRecordYet (recordBytes 1 (bySet farm year set) ++ xs)
+unfolding run
+factors-as-set farm year set xs h =
+    let v = bySet farm year set in
+    let w = byFactors farm year set in
+    let fit = factors-fit farm year set h in
+    let one = set-kind farm year set in
+    let two = factors-kind farm year set in
+    let by-set : judge noRecord (recordBytes 1 v) ≡ record { account = opened noRecord (setFactors set); lines = [] } =
+    right-length noRecord 1 (recordBytes 1 v) 11 one size-1 (record-length 1 v ∙ size-of-1) ∙ ap (weigh noRecord 1) (record-back 1 v h count-1) ∙ set-weighs v h in
+    let by-factors : judge noRecord (recordBytes 11 w) ≡ record { account = opened noRecord (setFactors set); lines = [] } =
+    right-length noRecord 11 (recordBytes 11 w) 14 two size-11 (record-length 11 w ∙ size-of-11) ∙ ap (weigh noRecord 11) (record-back 11 w fit count-11) ∙ factors-weigh w fit in
+    book-record noRecord (recordBytes 11 w) xs (two .whole) (omega arith)
+    ∙ ap (λ (j : Step). then (j .lines) (book (j .account) xs)) (by-factors ∙ sym by-set)
+    ∙ sym (book-record noRecord (recordBytes 1 v) xs (one .whole) (omega arith))
+
+-- ---- the rules of before
+
+-- They refuse a record of version 2 by 2, whatever it is.
+pub before-refuses : (a : Account) (r : List ℕ) → versionOf r ≡ 2 → first (refusalsBefore a r) ≡ 2
+unfolding first
+before-refuses a r e = rw e refl
