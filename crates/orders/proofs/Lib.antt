@@ -1,0 +1,4 @@
+mod Runs
+mod Orders
+pub mod AnyOrder
+pub mod Premises
