@@ -88,7 +88,8 @@ figures-same p q r s t u = rw (p, q, r, s, t, u) refl
 added-swap : (s f g : Figures) → added (added s f) g ≡ added (added s g) f
 added-swap s f g =
     figures-same (plus-swap (s .ch4) (f .ch4) (g .ch4)) (plus-swap (s .n2o .0) (f .n2o .0) (g .n2o .0)) (co2-swap (s .co2) (f .co2) (g .co2))
-    (plus-swap (s .excreted) (f .excreted) (g .excreted)) (plus-swap (s .land) (f .land) (g .land)) (plus-swap (s .grazing .0) (f .grazing .0) (g .grazing .0))
+    (plus-swap (s .excreted) (f .excreted) (g .excreted)) (plus-swap (s .land) (f .land) (g .land))
+    (plus-swap (s .grazing .0) (f .grazing .0) (g .grazing .0))
 
 subtotal-same : {ch4 ch4′ n2o n2o′ excreted excreted′ land land′ : ℕ} → ch4 ≡ ch4′ → n2o ≡ n2o′ → excreted ≡ excreted′ → land ≡ land′
     → _≡_ {A = Subtotal} (record { ch4 = ch4; n2o = gramsN2o n2o; excreted = excreted; land = land })
@@ -119,7 +120,8 @@ days-same p q r s = rw (p, q, r, s) refl
 
 days-swap : (d : Days) (k l : ℕ) (v w : List ℕ) → daysAfter (daysAfter d k v) l w ≡ daysAfter (daysAfter d l w) k v
 days-swap d k l v w =
-    days-same (column-swap (eqb k 3) (eqb l 3) (d .enteric) (getD v 0 0) (getD w 0 0)) (column-swap (eqb k 4) (eqb l 4) (d .nitrogen) (getD v 0 0) (getD w 0 0))
+    days-same (column-swap (eqb k 3) (eqb l 3) (d .enteric) (getD v 0 0) (getD w 0 0))
+    (column-swap (eqb k 4) (eqb l 4) (d .nitrogen) (getD v 0 0) (getD w 0 0))
     (column-swap (eqb k 5) (eqb l 5) (d .pig) (getD v 0 0) (getD w 0 0)) (column-swap (eqb k 10) (eqb l 10) (d .grazed) (getD v 3 0) (getD w 3 0))
 
 -- two details give the same account in either order
@@ -232,7 +234,8 @@ within-after a r d w t = fits-within (a .days) (kindOf r) (valuesOf r) w (found 
 
 -- ---- two neighbours change places
 
-module _ (a : Account) (r s : List ℕ) (dr : DetailKind (kindOf r)) (ds : DetailKind (kindOf s)) (w : Within a) (tr : NotRefused a r) (ts : NotRefused (withRecord a r) s) where
+module _ (a : Account) (r s : List ℕ) (dr : DetailKind (kindOf r)) (ds : DetailKind (kindOf s)) (w : Within a)
+    (tr : NotRefused a r) (ts : NotRefused (withRecord a r) s) where
   -- with both of them the sums are within, in either order
   within-both : Within (withRecord (withRecord a s) r)
   within-both = subst Within (same-account a r s) (within-after (withRecord a r) s ds (within-after a r dr w tr) ts)

@@ -36,7 +36,8 @@ heads-two k e = go (eqb k 1) (eqb k 2) (eqb k 3 || (eqb k 4 || (eqb k 5 || eqb k
     go false false false false q e = let z : _≡_ {A = ℕ} 0 1 = cc in absurd (omega arith)
 
 -- the kinds of details are none of the others
-pub other-kind : (k n : ℕ) → bySort (sortOf k) false false true true false ≡ true → bySort (sortOf n) false false true true false ≡ false → eqb k n ≡ false
+pub other-kind : (k n : ℕ) → bySort (sortOf k) false false true true false ≡ true → bySort (sortOf n) false false true true false ≡ false
+    → eqb k n ≡ false
 other-kind k n d e = by-test (eqb k n) (λ q. no-bool (sym e ∙ (rw (eqb-true k n q) at d))) (λ q. q)
 
 -- a detail of the farm is of none of the group's kinds

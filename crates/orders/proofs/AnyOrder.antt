@@ -36,7 +36,8 @@ module _ (before : List (List ℕ)) (t : Taken noRecord before) where
 
   -- a book with details in the middle
   run-with : (middle behind : List (List ℕ)) → InTurn a middle
-      → run noRecordYet (bookOf before middle behind) ≡ then (given noRecord before) (then (map (lineIn (a .heading)) middle) (book (withRecords a middle) (joined behind)))
+      → run noRecordYet (bookOf before middle behind)
+      ≡ then (given noRecord before) (then (map (lineIn (a .heading)) middle) (book (withRecords a middle) (joined behind)))
   unfolding run
   run-with middle behind i =
       rw (parts before middle behind, book-records before noRecord (joined middle ++ joined behind) t, book-details middle a (joined behind) i) refl
@@ -48,13 +49,14 @@ module _ (before : List (List ℕ)) (t : Taken noRecord before) where
   module _ (middle : List (List ℕ)) (m : Taken a middle) (i : InTurn a middle) where
     none-behind : book (withRecords a middle) [] .lines ≡ []
     none-behind =
-        ap (λ (r : Run). r .lines)
-        (book-none (withRecords a middle) (subst AccountInRange (reached-details middle a i) (reached-range middle a (reached-range before noRecord in-range-none t) m)))
+        let v = reached-range middle a (reached-range before noRecord in-range-none t) m in
+        ap (λ (r : Run). r .lines) (book-none (withRecords a middle) (subst AccountInRange (reached-details middle a i) v))
 
     lines-middle : linesOf before middle ≡ map (lineIn (a .heading)) middle
     lines-middle =
-        lines-behind before middle t
-        ∙ (rw (append-nil (joined middle), append-nil (map (lineIn (a .heading)) middle)) at (ap (λ (r : Run). r .lines) (book-details middle a [] i) ∙ ap (λ (l : List (List ℕ)). map (lineIn (a .heading)) middle ++ l) none-behind))
+        let ls : List (List ℕ) = map (lineIn (a .heading)) middle in
+        let e = ap (λ (r : Run). r .lines) (book-details middle a [] i) ∙ ap (λ (l : List (List ℕ)). ls ++ l) none-behind in
+        lines-behind before middle t ∙ (rw (append-nil (joined middle), append-nil ls) at e)
 
     lines-last : (behind : List (List ℕ)) → Taken noRecord (before ++ middle)
         → linesOf (before ++ middle) behind ≡ book (withRecords a middle) (joined behind) .lines
@@ -91,9 +93,9 @@ in-any-order xs before middle behind order ok e t d =
       same = rw (two, s .account, lines-before before tb, mid, last, map-order (lineIn (c .heading)) order middle) refl;
     })
 
--- A book is accepted, and its records are some, then details of one heading or before any, then others. Put the details in any other order: the book is
--- still accepted, the records before and behind give the lines that they gave, subtotals and total among them, and each of the details gives the line that
--- it gave, in its new place.
+-- A book is accepted, and its records are some, then details of one heading or before any, then others. Put the details in any other order: the
+-- book is still accepted, the records before and behind give the lines that they gave, subtotals and total among them, and each of the details
+-- gives the line that it gave, in its new place.
 pub any-order : (xs : List ℕ) (before middle behind : List (List ℕ)) (order : List ℕ)
     → Accepted xs → recordsOf xs ≡ before ++ (middle ++ behind) → Details middle
     → InAnyOrder xs before middle behind order

@@ -130,7 +130,8 @@ module _ (f : List ℕ → List ℕ) where
   map-front (suc i) [] = refl
   map-front (suc i) (r ∷ rs) = map-behind r (toFront i rs) ∙ ap (behindFirst (f r)) (map-front i rs)
 
-  map-keep : (g : List (List ℕ) → List (List ℕ)) → ((ss : List (List ℕ)) → map f (g ss) ≡ g (map f ss)) → (rs : List (List ℕ)) → map f (keepFirst g rs) ≡ keepFirst g (map f rs)
+  map-keep : (g : List (List ℕ) → List (List ℕ)) → ((ss : List (List ℕ)) → map f (g ss) ≡ g (map f ss))
+      → (rs : List (List ℕ)) → map f (keepFirst g rs) ≡ keepFirst g (map f rs)
   map-keep g h [] = refl
   map-keep g h (r ∷ rs) = ap (λ (l : List (List ℕ)). f r ∷ l) (h rs)
 

@@ -1,5 +1,5 @@
--- The premises of any-order are met by the book with every kind, and what comes of it is computed once more from the definitions. And what the law does not
--- say of a refused book.
+-- The premises of any-order are met by the book with every kind, and what comes of it is computed once more from the definitions. And what the
+-- law does not say of a refused book.
 -- Assumes nothing.
 use Prim.Native.Nat.{ℕ}
 use mathlib.Core.Path.{_≡_, refl, ap}
@@ -26,8 +26,8 @@ use Rattle.promises.specs.Paper.{verdict, everyKind}
 use Rattle.promises.proofs.Paper.{every-kind-closed}
 use Rattle.orders.specs.InOrder.{toFront, inOrder}
 use Rattle.orders.specs.AnyOrder.{Accepted, Details, bookOf, InAnyOrder}
-use Rattle.orders.specs.Examples.{cattleBefore, cattleDetails, cattleBehind, grazingFirst, cattleMoved, pigBefore, pigDetails, pigBehind, tillageFirst}
-use Rattle.orders.specs.Examples.{movedLines, daysFirst, sharesFirst}
+use Rattle.orders.specs.Examples.{cattleBefore, cattleDetails, cattleBehind, grazingFirst, cattleMoved}
+use Rattle.orders.specs.Examples.{pigBefore, pigDetails, pigBehind, tillageFirst, movedLines, daysFirst, sharesFirst}
 use Rattle.orders.proofs.AnyOrder.{any-order}
 
 -- ---- every kind of detail

@@ -57,14 +57,16 @@ made-one xs e m =
 made-ended : (a : Account) (xs : List ℕ) → 2 ≤ a .stage → book a xs .left ≡ [] → Made xs
 made-ended a xs h l = made-none xs (rw (book-ended a xs h) at l)
 
-made-at : (a : Account) (xs : List ℕ) → a .stage < 2 → ((b : Account) (zs : List ℕ) → length zs < length xs → book b zs .state .account .stage ≡ 2 → book b zs .left ≡ [] → Made zs)
+made-at : (a : Account) (xs : List ℕ) → a .stage < 2
+    → ((b : Account) (zs : List ℕ) → length zs < length xs → book b zs .state .account .stage ≡ 2 → book b zs .left ≡ [] → Made zs)
     → book a xs .state .account .stage ≡ 2 → book a xs .left ≡ [] → (f : Front) → front xs ≡ f → Made xs
 made-at a xs k ih c l unfinished e = let z : a .stage ≡ 2 = rw (book-unfinished a xs k e) at c in absurd (omega arith)
 made-at a xs k ih c l badLength e = let z : _≡_ {A = ℕ} 3 2 = rw (book-bad a xs k e) at c in absurd (omega arith)
 made-at a xs k ih c l whole e =
     let m = meaning xs whole e in
     let short : length (drop (need xs) xs) < length xs = rw length-drop (omega arith) in
-    made-one xs e (ih (judge a (take (need xs) xs) .account) (drop (need xs) xs) short (rw (book-whole a xs k e) at c) (rw (book-whole a xs k e) at l))
+    made-one xs e
+    (ih (judge a (take (need xs) xs) .account) (drop (need xs) xs) short (rw (book-whole a xs k e) at c) (rw (book-whole a xs k e) at l))
 
 made-by : (n : ℕ) (a : Account) (xs : List ℕ) → length xs < n → book a xs .state .account .stage ≡ 2 → book a xs .left ≡ [] → Made xs
 made-by zero a xs h c l = absurd (omega arith)
@@ -137,10 +139,16 @@ joined-append [] ss = refl
 joined-append (r ∷ rs) ss = ap (λ (l : List ℕ). r ++ l) (joined-append rs ss) ∙ sym (append-assoc r (joined rs) (joined ss))
 
 -- what they give, and then what the bytes behind them give
-pub book-records : (rs : List (List ℕ)) (a : Account) (ys : List ℕ) → Taken a rs → book a (joined rs ++ ys) ≡ then (given a rs) (book (reached a rs) ys)
+pub book-records : (rs : List (List ℕ)) (a : Account) (ys : List ℕ) → Taken a rs
+    → book a (joined rs ++ ys) ≡ then (given a rs) (book (reached a rs) ys)
 book-records [] a ys t = refl
 book-records (r ∷ rs) a ys t =
-    rw (append-assoc, book-record a r (joined rs ++ ys) (t .0 .whole) (t .0 .early), book-records rs (judge a r .account) ys (t .1), append-assoc) refl
+    rw (
+      append-assoc,
+      book-record a r (joined rs ++ ys) (t .0 .whole) (t .0 .early),
+      book-records rs (judge a r .account) ys (t .1),
+      append-assoc,
+    ) refl
 
 pub reached-range : (rs : List (List ℕ)) (a : Account) → AccountInRange a → Taken a rs → AccountInRange (reached a rs)
 reached-range [] a v t = v
@@ -169,4 +177,5 @@ goes-on a ys = refl
 -- the lines of records behind others
 pub lines-behind : (before rs : List (List ℕ)) → Taken noRecord before → linesOf before rs ≡ book (reached noRecord before) (joined rs) .lines
 lines-behind before rs t =
-    ap (λ (r : Run). run (r .state) (joined rs) .lines) (run-records before t) ∙ ap (λ (r : Run). r .lines) (goes-on (reached noRecord before) (joined rs))
+    ap (λ (r : Run). run (r .state) (joined rs) .lines) (run-records before t)
+    ∙ ap (λ (r : Run). r .lines) (goes-on (reached noRecord before) (joined rs))

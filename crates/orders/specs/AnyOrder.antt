@@ -1,6 +1,6 @@
--- Document 02, W14: "under one heading, put its detail records and the energy, soil, tillage and grazing records among them in another order. If the book
--- was accepted, it still is, with the same subtotals and total line, and its lines are the old ones in the new order." Said over the bytes of a book and
--- the records that they make.
+-- Document 02, W14: "under one heading, put its detail records and the energy, soil, tillage and grazing records among them in another order. If
+-- the book was accepted, it still is, with the same subtotals and total line, and its lines are the old ones in the new order." Said over the
+-- bytes of a book and the records that they make.
 -- Assumes nothing.
 use Prim.Native.Nat.{ℕ}
 use mathlib.Core.Path.{_≡_}
@@ -40,7 +40,7 @@ pub record InAnyOrder (xs : List ℕ) (before middle behind : List (List ℕ)) (
   pub lines : run noRecordYet xs .lines ≡ linesOf [] before ++ (linesOf before middle ++ linesOf (before ++ middle) behind)
   -- each record of the middle gives one, under the last heading before the middle
   pub each : linesOf before middle ≡ map (lineUnder (headingBefore before)) middle
-  -- in the second book the records before and behind give the same lines, subtotals and total among them, and the middle's are the old ones in the new
-  -- order
+  -- in the second book the records before and behind give the same lines, subtotals and total among them, and the middle's are the old ones in the
+  -- new order
   pub same : run noRecordYet (bookOf before (inOrder order middle) behind) .lines
       ≡ linesOf [] before ++ (inOrder order (linesOf before middle) ++ linesOf (before ++ middle) behind)

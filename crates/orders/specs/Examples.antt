@@ -1,5 +1,5 @@
--- A book that the law speaks of: that with every kind, its details put in another order under both of its headings. And a book that it does not speak of,
--- since it is refused: "The first of several faults in a refused book may change" (document 02, W14).
+-- A book that the law speaks of: that with every kind, its details put in another order under both of its headings. And a book that it does not
+-- speak of, since it is refused: "The first of several faults in a refused book may change" (document 02, W14).
 -- Assumes nothing.
 use Prim.Native.Nat.{ℕ}
 use mathlib.Core.List.{List, [], _∷_, _++_}
@@ -63,8 +63,8 @@ pigBehind = drop 10 (recordsOf cattleMoved)
 abbrev pub tillageFirst : List ℕ
 tillageFirst = 2 ∷ []
 
--- the lines of the book with both runs so: those of the book with every kind, the first four in the order of their records, the subtotal of group 258, the
--- three of the pig heading in theirs, the subtotal of group 515 and the total
+-- the lines of the book with both runs so: those of the book with every kind, the first four in the order of their records, the subtotal of group
+-- 258, the three of the pig heading in theirs, the subtotal of group 515 and the total
 abbrev pub movedLines : List (List ℕ)
 movedLines =
     inOrder grazingFirst (take 4 everyKindLines)
