@@ -1,4 +1,4 @@
-mod Runs
-mod Orders
+pub mod Runs
+pub mod Orders
 pub mod AnyOrder
 pub mod Premises

@@ -55,6 +55,10 @@ book-details (r ∷ rs) a ys t =
       book-details rs (withRecord a r) ys (t .1),
     ) refl
 
+pub given-details : (rs : List (List ℕ)) (a : Account) → InTurn a rs → given a rs ≡ map (lineIn (a .heading)) rs
+given-details [] a t = refl
+given-details (r ∷ rs) a t = rw (judge-detail a r (t .0 .kind) (t .0 .takes .passes), given-details rs (withRecord a r) (t .1)) refl
+
 -- ---- in another order
 
 -- accepted in the other order too, with the same account in the end

@@ -134,6 +134,10 @@ pub reached-append : (rs ss : List (List ℕ)) (a : Account) → reached a (rs +
 reached-append [] ss a = refl
 reached-append (r ∷ rs) ss a = reached-append rs ss (judge a r .account)
 
+pub given-append : (rs ss : List (List ℕ)) (a : Account) → given a (rs ++ ss) ≡ given a rs ++ given (reached a rs) ss
+given-append [] ss a = refl
+given-append (r ∷ rs) ss a = rw (given-append rs ss (judge a r .account), append-assoc) refl
+
 pub joined-append : (rs ss : List (List ℕ)) → joined (rs ++ ss) ≡ joined rs ++ joined ss
 joined-append [] ss = refl
 joined-append (r ∷ rs) ss = ap (λ (l : List ℕ). r ++ l) (joined-append rs ss) ∙ sym (append-assoc r (joined rs) (joined ss))
