@@ -7,14 +7,13 @@ use mathlib.Core.List.{List, [], _∷_}
 use mathlib.Core.Bool.{Bool, true, false, _&&_, _||_, not}
 use native.Mathlib.Omega.{arith}
 use borrow.Author.Tests.{eqb-true, ne-eqb}
-use lib.ListN.{length, getD, take, drop, length-drop}
+use lib.ListN.{length, take, drop, length-drop}
 use lib.Seq.{drop-drop}
 use lib.Dec.{eqb}
 use Rattle.base.specs.Choice.{pick}
 use Rattle.base.proofs.Tests.{by-test, of-choice, not-true, not-false}
 use Rattle.account.specs.declared.Account.{Account}
-use Rattle.account.specs.Sorts.{ofGroup, ofFarm, closes, sortOf, bySort}
-use Rattle.account.specs.Judge.{kindOf}
+use Rattle.account.specs.Sorts.{ofGroup, ofFarm, sortOf, bySort}
 use Rattle.book.specs.Front.{whole, need, front}
 use Rattle.book.specs.WholeRecords.{Ready, recordsOf}
 use Rattle.book.proofs.WholeRecordLaws.{records-whole}
@@ -24,7 +23,7 @@ use Rattle.comparing.specs.declared.cursor.Cursor.{Cursor}
 use Rattle.comparing.specs.Entries.{after, takes, Entry, recordsIn, entriesFrom, entriesAfter, entriesOf}
 use Rattle.comparing.specs.Same.{same}
 use Rattle.comparing.specs.Moved.{timesIn, asOften, allAsOften, sameDetails}
-use Rattle.comparing.specs.Compare.{between, movedOf}
+use Rattle.comparing.specs.Compare.{movedOf}
 use Rattle.comparing.specs.Inner.{entry, Reached}
 use Rattle.comparing.proofs.EntryLaws.{records-none}
 use Rattle.comparing.proofs.TellLaws.{long-enough}
@@ -185,7 +184,8 @@ records-behind xs k m c r h =
     let l : m ≤ length (entriesAfter (c .account) (drop (c .at) xs)) = rw (r .rest) (omega (arith, h, length-drop k (entriesOf xs))) in
     first-records (c .account) (recordsOf (drop (c .at) xs)) m l ∙ ap (λ (es : List Entry). recordsIn (take m es)) (r .rest)
 
-pub records-at : (xs rest : List ℕ) (k n o back : ℕ) (c : Cursor) → Reached xs k c → rest ≡ drop (c .at) xs → n ≡ length (entriesOf xs) → o ≡ n - k - back
+pub records-at : (xs rest : List ℕ) (k n o back : ℕ) (c : Cursor) → Reached xs k c → rest ≡ drop (c .at) xs
+    → n ≡ length (entriesOf xs) → o ≡ n - k - back
     → take o (recordsOf rest) ≡ recordsIn (take o (drop k (entriesOf xs)))
 records-at xs rest k n o back c r e f g = rw e (records-behind xs k o c r (omega (arith, f, g)))
 

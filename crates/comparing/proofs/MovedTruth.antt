@@ -1,13 +1,13 @@
 -- Books of which the same records in another order are told have the same lines, but for those of these records, which stand in the new order: the
 -- subtotals and the total are the same.
 -- Assumes nothing.
-use Prim.Native.Nat.{ℕ, zero, suc, _+_, _-_, _≤_, _<_, min}
+use Prim.Native.Nat.{ℕ, zero, suc, _+_, _-_, _≤_, _<_}
 use mathlib.Core.Path.{_≡_, refl, sym, ap, _∙_, subst}
 use mathlib.Core.List.{List, [], _∷_, _++_, map, head-eq-of-cons-eq}
-use mathlib.Core.Bool.{Bool, true, false, _&&_, not}
+use mathlib.Core.Bool.{Bool, true, false, not}
 use native.Mathlib.Omega.{arith}
 use borrow.Author.Tests.{eqb-true}
-use lib.ListN.{length, getD, take, drop, length-drop, take-append-drop}
+use lib.ListN.{length, take, drop, length-drop, take-append-drop}
 use lib.Seq.{drop-drop, getD-take}
 use lib.Dec.{eqb}
 use Rattle.base.specs.Choice.{pick}
@@ -21,8 +21,7 @@ use Rattle.account.proofs.Refusals.{judged-passes}
 use Rattle.account.proofs.Keeps.{in-range-none, in-range-judge}
 use Rattle.account.proofs.Details.{judge-accepted, within-range}
 use Rattle.book.specs.Front.{whole, need, front}
-use Rattle.book.specs.State.{noRecordYet}
-use Rattle.book.specs.Run.{Run, then, book, run}
+use Rattle.book.specs.Run.{Run, book, run}
 use Rattle.book.proofs.FrontLaws.{meaning}
 use Rattle.book.proofs.RecordLaws.{record-whole}
 use Rattle.book.proofs.RunLaws.{book-whole}
@@ -36,7 +35,7 @@ use Rattle.orders.proofs.Runs.{Takes, Taken, reached, given, taken-first, taken
 use Rattle.orders.proofs.Orders.{InTurn, withRecords, lineIn, Same, in-turn, reached-details, given-details, in-order, map-order}
 use Rattle.comparing.specs.Entries.{Entry, recordsIn, entriesAfter, entriesOf}
 use Rattle.comparing.specs.Moved.{sameDetails, LinesMoved}
-use Rattle.comparing.specs.Compare.{shapeOf, runsOf, frontOf, backMost, backOf, between, movedOf, planOf}
+use Rattle.comparing.specs.Compare.{shapeOf, frontOf, backMost, backOf, between, planOf}
 use Rattle.comparing.proofs.PairLaws.{leading-left, leading-right, trailing-left}
 use Rattle.comparing.proofs.Truths.{shapesIn, front-same, back-same, First, Cases, none, some, cases, records-both}
 use Rattle.comparing.proofs.SameDetails.{same-are-details, some-order}
@@ -60,7 +59,8 @@ as-taken-one a xs x l e f i =
     record {
       taken = subst (Taken a) (sym q) (t, i .taken);
       lines =
-          ap (λ (r : Run). r .lines) (book-whole a xs (f .early) (f .front)) ∙ ap (λ (ls : List (List ℕ)). judge a r .lines ++ ls) (i .lines) ∙ ap (given a) (sym q);
+          ap (λ (r : Run). r .lines) (book-whole a xs (f .early) (f .front))
+          ∙ ap (λ (ls : List (List ℕ)). judge a r .lines ++ ls) (i .lines) ∙ ap (given a) (sym q);
     }
 
 as-taken-none : (a : Account) (xs : List ℕ) → entriesAfter a xs ≡ [] → book a xs .lines ≡ [] → AsTaken a xs
@@ -112,7 +112,8 @@ record Alike (a : Account) (rs ss : List (List ℕ)) : Type 0 where
   lines : given a rs ≡ given a ss
   account : reached a rs ≡ reached a ss
 
-alike : (es ns : List Entry) (a : Account) → Taken a (recordsIn es) → Taken a (recordsIn ns) → shapesIn es ≡ shapesIn ns → Alike a (recordsIn es) (recordsIn ns)
+alike : (es ns : List Entry) (a : Account) → Taken a (recordsIn es) → Taken a (recordsIn ns) → shapesIn es ≡ shapesIn ns
+    → Alike a (recordsIn es) (recordsIn ns)
 unfolding recordsIn shapesIn
 alike [] [] a t u e = record { lines = refl; account = refl }
 alike [] (n ∷ ns) a t u e = let z = ap length e in absurd (omega (arith, z))
@@ -154,7 +155,8 @@ module _ (fs fs′ bs bs′ : List Entry) (rs ss : List (List ℕ))
   begins = alike fs fs′ noRecord taken-before (taken-first (recordsIn fs′) (ss ++ recordsIn bs′) noRecord u) p
 
   taken-after′ : Taken a (ss ++ recordsIn bs′)
-  taken-after′ = subst (λ (b : Account). Taken b (ss ++ recordsIn bs′)) (sym (begins .account)) (taken-last (recordsIn fs′) (ss ++ recordsIn bs′) noRecord u)
+  taken-after′ =
+      subst (λ (b : Account). Taken b (ss ++ recordsIn bs′)) (sym (begins .account)) (taken-last (recordsIn fs′) (ss ++ recordsIn bs′) noRecord u)
 
   turn : InTurn a rs
   turn = in-turn rs a (same-are-details rs ss e) (taken-first rs (recordsIn bs) a taken-after)
@@ -189,7 +191,8 @@ module _ (fs fs′ bs bs′ : List Entry) (rs ss : List (List ℕ))
 
   given-new : given a ss ≡ inOrder order (map l rs)
   given-new =
-      given-details ss a turn′ ∙ ap (λ (h : Heading). map (lineIn h) ss) heading-here ∙ ap (map l) (sym (some-order rs ss e .is)) ∙ map-order l order rs
+      given-details ss a turn′ ∙ ap (λ (h : Heading). map (lineIn h) ss) heading-here
+      ∙ ap (map l) (sym (some-order rs ss e .is)) ∙ map-order l order rs
 
   lines-old : given noRecord (x ++ (rs ++ recordsIn bs)) ≡ given noRecord x ++ (map l rs ++ given (reached a rs) (recordsIn bs))
   lines-old =
@@ -203,7 +206,8 @@ module _ (fs fs′ bs bs′ : List Entry) (rs ss : List (List ℕ))
       ∙ ap (λ (ls : List (List ℕ)). ls ++ given (reached a ss) (recordsIn bs′)) given-new
       ∙ ap (λ (ls : List (List ℕ)). inOrder order (map l rs) ++ ls) (ap (λ (b : Account). given b (recordsIn bs′)) account-behind ∙ sym (ends .lines))
 
-  lines-new : given noRecord (recordsIn fs′ ++ (ss ++ recordsIn bs′)) ≡ given noRecord x ++ (inOrder order (map l rs) ++ given (reached a rs) (recordsIn bs))
+  lines-new : given noRecord (recordsIn fs′ ++ (ss ++ recordsIn bs′))
+      ≡ given noRecord x ++ (inOrder order (map l rs) ++ given (reached a rs) (recordsIn bs))
   lines-new =
       given-append (recordsIn fs′) (ss ++ recordsIn bs′) noRecord
       ∙ ap (λ (ls : List (List ℕ)). ls ++ given (reached noRecord (recordsIn fs′)) (ss ++ recordsIn bs′)) (sym (begins .lines))
@@ -289,8 +293,8 @@ module _ (es ns : List Entry) where
       ∙ back-same (drop (length es - backMost es ns) es) (drop (length ns - backMost es ns) ns) (tail-long ∙ sym tail-long′)
       ∙ last-shapes ns (backMost es ns) (backOf es ns) n tail-long back-few (most-fits .1)
 
--- Where two books are told to have the same records in another order, their lines are the same but for those of these records, which stand in the new order;
--- the subtotals and the total are the same. Nothing is asked of either book.
+-- Where two books are told to have the same records in another order, their lines are the same but for those of these records, which stand in the
+-- new order; the subtotals and the total are the same. Nothing is asked of either book.
 pub moved-true : (old new : List ℕ) → planOf (entriesOf old) (entriesOf new) .moved ≡ true → LinesMoved old new
 unfolding planOf run
 moved-true old new e =
@@ -304,7 +308,8 @@ moved-true old new e =
     let pn = in-parts ns f b (both-fit es ns .1) in
     let g =
     given-moved (take f es) (take f ns) (drop (length es - b) es) (drop (length ns - b) ns) (between f b es) (between f b ns)
-    (subst (Taken noRecord) pe (t .taken)) (subst (Taken noRecord) pn (u .taken)) (fronts es ns) (backs es ns) (and-r (not (eqb (length es - f - b) 0)) _ e) in
+    (subst (Taken noRecord) pe (t .taken)) (subst (Taken noRecord) pn (u .taken)) (fronts es ns) (backs es ns)
+    (and-r (not (eqb (length es - f - b) 0)) _ e) in
     record {
       first = g .first;
       heading = g .heading;

@@ -1,15 +1,14 @@
 -- Two runs of records that are the same details: some order makes the one of the other.
 -- Assumes nothing.
-use Prim.Native.Nat.{ℕ, zero, suc, _+_, _≤_, _<_}
+use Prim.Native.Nat.{ℕ, suc, _+_, _≤_, _<_}
 use mathlib.Core.Path.{_≡_, refl, sym, ap, _∙_}
 use mathlib.Core.List.{List, [], _∷_}
-use mathlib.Core.Bool.{Bool, true, false, _&&_}
+use mathlib.Core.Bool.{Bool, true, false}
 use mathlib.Core.Logic.{⊎-elim}
 use native.Mathlib.Omega.{arith}
 use borrow.Author.Tests.{eqb-true}
-use lib.Dec.{eqb}
 use Rattle.base.specs.Choice.{pick}
-use Rattle.base.proofs.Tests.{by-test, lt-or-ge, no-bool, and-l, and-r}
+use Rattle.base.proofs.Tests.{lt-or-ge, and-l, and-r}
 use Rattle.promises.specs.WholeLines.{isDetail}
 use Rattle.orders.specs.InOrder.{behindFirst, toFront, keepFirst, inOrder}
 use Rattle.orders.specs.AnyOrder.{Details}
@@ -102,14 +101,15 @@ one-less : (b : Bool) (n m : ℕ) → pick b (n + 1) n ≡ pick b (m + 1) m → 
 one-less true n m e = omega (arith, e)
 one-less false n m e = e
 
-ordered : (ss rs : List (List ℕ)) → ((x : List ℕ) → timesIn x rs ≡ timesIn x ss) → Ordered rs ss
+-- Where each stands as often in the one run as in the other, some order makes the one of the other: no order is left out.
+pub every-order : (ss rs : List (List ℕ)) → ((x : List ℕ) → timesIn x rs ≡ timesIn x ss) → Ordered rs ss
 unfolding timesIn inOrder
-ordered [] rs h = record { order = []; is = none-left rs h }
-ordered (s ∷ ss) rs h =
+every-order [] rs h = record { order = []; is = none-left rs h }
+every-order (s ∷ ss) rs h =
     let own : timesIn s rs ≡ timesIn s ss + 1 = h s ∙ rw (same-self s) refl in
     let f = found s rs (omega (arith, own)) in
-    let i = ordered ss (f .others) (λ x. one-less (same x s) _ _ (sym (f .times x) ∙ h x)) in
+    let i = every-order ss (f .others) (λ x. one-less (same x s) _ _ (sym (f .times x) ∙ h x)) in
     record { order = f .place ∷ i .order; is = ap (keepFirst (inOrder (i .order))) (f .is) ∙ ap (λ (l : List (List ℕ)). s ∷ l) (i .is) }
 
 pub some-order : (rs ss : List (List ℕ)) → sameDetails rs ss ≡ true → Ordered rs ss
-some-order rs ss e = ordered ss rs (as-often rs ss e)
+some-order rs ss e = every-order ss rs (as-often rs ss e)

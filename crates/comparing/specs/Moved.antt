@@ -29,9 +29,12 @@ unfoldable pub allAsOften : List (List ℕ) → List (List ℕ) → List (List �
 allAsOften rs ss [] = true
 allAsOften rs ss (x ∷ xs) = asOften rs ss x && allAsOften rs ss xs
 
+abbrev pub eachAsOften : List (List ℕ) → List (List ℕ) → Bool
+eachAsOften rs ss = allAsOften rs ss rs
+
 -- all of both are details, and they are the same ones
 abbrev pub sameDetails : List (List ℕ) → List (List ℕ) → Bool
-sameDetails rs ss = allAsOften rs ss rs && allAsOften ss rs ss
+sameDetails rs ss = eachAsOften rs ss && eachAsOften ss rs
 
 -- ---- what it means for the lines
 

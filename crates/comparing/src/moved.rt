@@ -12,7 +12,7 @@ ghost use lib.ListN.{length, take};
 ghost use Rattle.promises.specs.WholeLines.{isDetail};
 ghost use Rattle.book.specs.WholeRecords.{recordsOf};
 ghost use Rattle.comparing.specs.Entries.{entriesOf};
-ghost use Rattle.comparing.specs.Moved.{timesIn, asOften, allAsOften, sameDetails};
+ghost use Rattle.comparing.specs.Moved.{timesIn, asOften, eachAsOften, sameDetails};
 ghost use Rattle.comparing.specs.Compare.{movedOf};
 
 // How often the record r stands among the first many records of xs.
@@ -56,7 +56,7 @@ fn as_often(r: &[u8], xs: &[u8], m: usize, ys: &[u8], n: usize) -> bool
 
 // Whether each of the first m records of xs does.
 fn all_as_often(xs: &[u8], m: usize, ys: &[u8], n: usize) -> bool
-    ensures { λ b. ⌜ b ≡ allAsOften (take m (recordsOf (now (xs .entry)))) (take n (recordsOf (now (ys .entry)))) (take m (recordsOf (now (xs .entry)))) ⌝ }
+    ensures { λ b. ⌜ b ≡ eachAsOften (take m (recordsOf (now (xs .entry)))) (take n (recordsOf (now (ys .entry)))) ⌝ }
 {
     let mut at = 0;
     let mut i = 0;

@@ -20,8 +20,8 @@ ghost use Rattle.printing.specs.Ascii.{ascii};
 ghost use Rattle.printing.specs.Said.{Said};
 ghost use Rattle.listing.specs.Listing.{linesText};
 ghost use Rattle.comparing.specs.Entries.{linesOf, entriesOf};
-ghost use Rattle.comparing.specs.Remarks.{wordOf, entryText, partText, pairsPart, planText, oldBetween, newBetween, changedText, movedText, othersText};
-ghost use Rattle.comparing.specs.Remarks.{otherText, twoText, lastText, statusByte};
+ghost use Rattle.comparing.specs.Remarks.{wordOf, entryText, partText, pairsPart, planText, oldBetween, newBetween, changedText, othersText};
+ghost use Rattle.comparing.specs.Remarks.{movedText, otherText, twoText, lastText, statusByte};
 
 // Which book.
 fn say_word(out: &mut [u8], at: usize, new: bool) -> usize

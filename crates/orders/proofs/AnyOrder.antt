@@ -11,7 +11,7 @@ use Rattle.account.specs.Judge.{noRecord}
 use Rattle.account.proofs.Keeps.{in-range-none}
 use Rattle.account.proofs.Details.{within-range}
 use Rattle.book.specs.WholeRecords.{recordsOf}
-use Rattle.book.specs.State.{noRecordYet, holding}
+use Rattle.book.specs.State.{noRecordYet}
 use Rattle.book.specs.Run.{Run, then, book, run}
 use Rattle.book.proofs.RunLaws.{book-none}
 use Rattle.promises.specs.SameLine.{headingBefore, lineUnder}

@@ -6,7 +6,7 @@ use mathlib.Core.List.{List, [], _∷_, _++_, map, append-assoc}
 use Rattle.account.specs.declared.Account.{Account}
 use Rattle.account.specs.declared.Heading.{Heading}
 use Rattle.account.specs.Line.{joined, lineOf}
-use Rattle.account.specs.Judge.{kindOf, valuesOf, judge}
+use Rattle.account.specs.Judge.{kindOf, valuesOf}
 use Rattle.account.proofs.Details.{DetailKind, withRecord, judge-detail, same-account, Within, within-after, second-first, first-second}
 use Rattle.book.specs.Run.{then, book}
 use Rattle.promises.proofs.SameLine.{book-record}

@@ -2,7 +2,8 @@ use Prim.Native.Nat.{_-_}
 use native.Mathlib.Omega.{arith}
 use lib.ListN.{take}
 use Rattle.book.specs.WholeRecords.{recordsOf}
-use Rattle.comparing.proofs.MovedLaws.{size-inside, kind-there, next-inside, Asking, asking-none, asking-far, asking-ends, asking-stops, asking-on}
+use Rattle.comparing.proofs.MovedLaws.{size-inside, kind-there, next-inside}
+use Rattle.comparing.proofs.MovedLaws.{Asking, asking-none, asking-far, asking-ends, asking-stops, asking-on}
 use Rattle.comparing.proofs.moved.all_as_often.Statement.{statement}
 use Rattle.comparing.proofs.moved.all_as_often.Tie as tie
 
@@ -30,7 +31,8 @@ all-as-often-spec =
     (λ c κs.
     let y = c .before .before in
     let r = y .before in
-    kind-there _ _ (r .before .before .loop .inv .inside) _ (r .rest-of .ensures) _ (y .ready .ensures) (c .before .if1 .left) _ (c .first-of .ensures))
+    kind-there _ _ (r .before .before .loop .inv .inside) _ (r .rest-of .ensures) _ (y .ready .ensures) (c .before .if1 .left) _
+    (c .first-of .ensures))
     (λ c.
     let y = c .before .before .before .before in
     let r = y .before in
