@@ -43,17 +43,13 @@ use Rattle.promises.proofs.WholeLines.{shaped, bookRecords}
 use Rattle.promises.proofs.SameLine.{heading-is, gives-line, same-line}
 use Rattle.reasons.proofs.FaultLaws.{refused-is}
 use Rattle.comparing.specs.declared.runs.Counts.{Counts}
-use Rattle.comparing.specs.Entries.{read, after, linesOf, takes, Entry, entriesFrom, entriesAfter, entriesOf}
-use Rattle.comparing.specs.Compare.{same, shapeOf, noRuns, oneMore, runsFrom, runsOf, frontOf}
+use Rattle.comparing.specs.Entries.{read, after, linesOf, takes, Entry, recordsIn, entriesFrom, entriesAfter, entriesOf}
+use Rattle.comparing.specs.Same.{same}
+use Rattle.comparing.specs.Compare.{shapeOf, noRuns, oneMore, runsFrom, runsOf, frontOf}
 use Rattle.comparing.specs.Remarks.{otherText}
 use Rattle.comparing.proofs.EntryLaws.{shut, entries-none}
 use Rattle.comparing.proofs.SameLaws.{same-true, same-self}
 use Rattle.comparing.proofs.PairLaws.{runs-most}
-
--- the records of entries, as bytes
-unfoldable pub recordsIn : List Entry → List (List ℕ)
-recordsIn [] = []
-recordsIn (e ∷ es) = e .bytes ∷ recordsIn es
 
 -- the same, but for the count of a close
 unfoldable pub shapesIn : List Entry → List (List ℕ)
@@ -192,16 +188,16 @@ linesIn [] = []
 linesIn (e ∷ es) = e .lines ++ linesIn es
 
 -- x is the first entry of xs after a, and l are the others: a whole record that is accepted, with the lines that the rules give
-record First (a : Account) (xs : List ℕ) (x : Entry) (l : List Entry) : Type 0 where
-  early : a .stage < 2
-  front : front xs ≡ whole
-  bytes : x .bytes ≡ take (need xs) xs
-  lines : x .lines ≡ joined (judge a (take (need xs) xs) .lines)
-  counted : judge a (take (need xs) xs) .account .records ≡ a .records + 1
-  rest : l ≡ entriesAfter (judge a (take (need xs) xs) .account) (drop (need xs) xs)
+pub record First (a : Account) (xs : List ℕ) (x : Entry) (l : List Entry) : Type 0 where
+  pub early : a .stage < 2
+  pub front : front xs ≡ whole
+  pub bytes : x .bytes ≡ take (need xs) xs
+  pub lines : x .lines ≡ joined (judge a (take (need xs) xs) .lines)
+  pub counted : judge a (take (need xs) xs) .account .records ≡ a .records + 1
+  pub rest : l ≡ entriesAfter (judge a (take (need xs) xs) .account) (drop (need xs) xs)
 
 -- there is none, and rule 2 accepts none; or there is a first
-data Cases (a : Account) (xs : List ℕ) : Type 0 where
+pub data Cases (a : Account) (xs : List ℕ) : Type 0 where
   none : entriesAfter a xs ≡ [] → book a xs .state .account .records ≡ a .records → book a xs .lines ≡ [] → Cases a xs
   some : (x : Entry) (l : List Entry) → entriesAfter a xs ≡ x ∷ l → First a xs x l → Cases a xs
 
@@ -242,7 +238,7 @@ cases-at a xs v k badLength e =
     none (entries-none a xs (λ z. let q : _≡_ {A = ℕ} 0 1 = cc in absurd (omega arith))) (rw b refl) (rw b refl)
 cases-at a xs v k whole e = ⊎-elim (stopped a xs v k e) (grown a xs v k e) (judged a (take (need xs) xs) v)
 
-cases : (a : Account) (xs : List ℕ) → AccountInRange a → Cases a xs
+pub cases : (a : Account) (xs : List ℕ) → AccountInRange a → Cases a xs
 cases a xs v =
     ⊎-elim (λ (k : a .stage < 2). cases-at a xs v k (front xs) refl)
     (λ (k : 2 ≤ a .stage). none (shut a (recordsOf xs) k) (rw (book-ended a xs k) refl) (rw (book-ended a xs k) refl))
@@ -301,7 +297,7 @@ entries-lines xs = as-run (suc (length xs)) noRecord xs (omega arith) in-range-n
 
 -- ---- what is never listed
 
-records-both : (es ns : List Entry) → recordsIn (es ++ ns) ≡ recordsIn es ++ recordsIn ns
+pub records-both : (es ns : List Entry) → recordsIn (es ++ ns) ≡ recordsIn es ++ recordsIn ns
 unfolding recordsIn
 records-both [] ns = refl
 records-both (e ∷ es) ns = rw (records-both es ns) refl

@@ -1,0 +1,13 @@
+use borrow.Author.Needs.{needs}
+use Rattle.comparing.proofs.MovedLaws.{detail-test}
+use Rattle.comparing.proofs.moved.detail.Statement.{statement}
+use Rattle.comparing.proofs.moved.detail.Tie as tie
+
+pub detail-spec : {M : Type 1} → statement M
+detail-spec =
+    tie.close
+    (tie.spec
+    (λ c. search needs)
+    (λ c. search needs)
+    (λ c. search needs)
+    (λ c. detail-test _))
