@@ -1,21 +1,21 @@
 -- Laws of what stands at the front of some bytes.
-use Prim.Native.Nat.{ℕ, _+_, _≤_, _<_}
+use Prim.Native.Nat.{ℕ, _+_, _*_, _≤_, _<_}
 use mathlib.Core.Path.{_≡_, refl, sym, _∙_}
-use mathlib.Core.List.{List, [], _++_}
+use mathlib.Core.List.{List, [], _∷_, _++_}
 use mathlib.Core.Bool.{true, false}
 use mathlib.Core.Logic.{⊎-elim}
 use native.Mathlib.Omega.{arith}
 use borrow.Author.Tests.{ltb-true, ltb-false, lt-ltb, le-ltb}
-use lib.ListN.{length, take, length-append, List·getD-append}
+use lib.ListN.{length, getD, take, length-append, List·getD-append}
 use lib.Seq.{length-take-le, getD-take}
-use lib.Dec.{ltb}
+use lib.Dec.{ltb, eqb}
 use Rattle.base.specs.Choice.{pick}
 use Rattle.base.proofs.Tests.{lt-or-ge, neither, no-bool, of-choice}
 use Rattle.codec.specs.Codec.{valAt}
 use Rattle.codec.proofs.BigEndian.{valAt-same}
 use Rattle.book.specs.Front.{Front, unfinished, badLength, whole, need, bad, front}
 use Rattle.book.specs.State.{isUnfinished}
-use Rattle.book.specs.Inner.{codeOf}
+use Rattle.book.specs.Inner.{byLength, codeOf}
 
 -- ---- the length stands in the first two bytes
 
@@ -25,9 +25,18 @@ length-take-two xs n p = valAt-same (take n xs) xs 0 0 2 (λ k h. getD-take n xs
 pub length-append-two : (xs ys : List ℕ) → 2 ≤ length xs → valAt (xs ++ ys) 0 2 ≡ valAt xs 0 2
 length-append-two xs ys p = valAt-same (xs ++ ys) xs 0 0 2 (λ k h. List·getD-append xs ys 0 (0 + k) (omega arith))
 
+-- where the first n of the bytes held stand before others
+pub length-held : (held xs : List ℕ) (n : ℕ) → 2 ≤ n → n ≤ length held → valAt (take n held ++ xs) 0 2 ≡ valAt held 0 2
+length-held held xs n p q = length-append-two (take n held) xs (rw (length-take-le n held q) p) ∙ length-take-two held n p
+
+pub length-cut : (held xs : List ℕ) → 1 ≤ length held → valAt (take 1 held ++ xs) 0 2 ≡ getD held 0 0 * 256 + getD xs 0 0
+unfolding valAt
+length-cut [] xs p = absurd (omega arith)
+length-cut (h ∷ held) xs p = omega arith
+
 -- the front of the first n bytes, read off all of them
 pub front-take : (xs : List ℕ) (n : ℕ) → n ≤ length xs
-    → front (take n xs) ≡ pick (ltb n 2) unfinished (pick (bad xs) badLength (pick (ltb n (need xs)) unfinished whole))
+    → front (take n xs) ≡ pick (ltb n 2) unfinished (byLength (valAt xs 0 2) n)
 unfolding front
 front-take xs n p =
     ⊎-elim
@@ -81,6 +90,24 @@ pub unfinished-short : (xs : List ℕ) → front xs ≡ unfinished → length xs
 unfinished-short xs e =
     ⊎-elim (λ (k : length xs < 2). omega arith) (λ (k : 2 ≤ length xs). let m = meaning xs unfinished e k in omega arith) (lt-or-ge (length xs) 2)
 
+-- ---- whether a front is unfinished
+
+module _ (xs : List ℕ) where
+  pub too-long : 27 < length xs → false ≡ isUnfinished (front xs)
+  too-long h = go (front xs) refl
+    where
+      go : (f : Front) → front xs ≡ f → false ≡ isUnfinished f
+      go unfinished e = let s = unfinished-short xs e in absurd (omega arith)
+      go badLength e = refl
+      go whole e = refl
+
+  pub too-short : length xs < 2 → true ≡ isUnfinished (front xs)
+  too-short h = rw (is-unfinished xs (λ k. absurd (omega arith)))
+
+  pub front-long : 2 ≤ length xs → front xs ≡ byLength (valAt xs 0 2) (length xs)
+  unfolding front
+  front-long h = rw (le-ltb _ _ h)
+
 -- ---- bytes behind a front do not change it
 
 pub bad-append : (xs ys : List ℕ) → front xs ≡ badLength → front (xs ++ ys) ≡ badLength
@@ -117,6 +144,11 @@ pub code-some : (f : Front) → (codeOf f ≡ 0 → ⊥) → isUnfinished f ≡ 
 code-some unfinished h = absurd (h refl)
 code-some badLength h = refl
 code-some whole h = refl
+
+pub code-none : (f : Front) → eqb (codeOf f) 0 ≡ isUnfinished f
+code-none unfinished = refl
+code-none badLength = refl
+code-none whole = refl
 
 pub code-unfinished : (f : Front) → codeOf f ≡ 0 → f ≡ unfinished
 code-unfinished unfinished e = refl

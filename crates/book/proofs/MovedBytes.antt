@@ -10,7 +10,8 @@ use native.Mathlib.Omega.{arith}
 use borrow.Author.Tests.{eq-eqb}
 use lib.Dec.{eqb}
 use lib.ListN.{length, getD, take, drop, set, replicate}
-use lib.Seq.{paste, paste-suc, length-paste, take-paste, take-suc, set-at, append-snoc, drop-cons, length-take-le, take-take, take-append-seam}
+use lib.Seq.{paste, paste-suc, length-paste, take-paste, take-suc, set-at, append-snoc, drop-cons}
+use lib.Seq.{length-take-le, take-length, take-take, take-append-seam}
 use Rattle.base.proofs.Tests.{lt-or-ge}
 use Rattle.codec.specs.Codec.{valAt}
 use Rattle.book.specs.State.{zeros}
@@ -50,7 +51,14 @@ gathered held count src r0 r1 r2 h k l27 short some l28 f1 f2 =
     let lh : length (take count held) ≡ count = length-take-le count held (omega arith) in
     let more : 0 < k = ⊎-elim (λ (q : 0 < k). q) (λ (q : k ≤ 0). let z = f2 .end (omega arith) in absurd (omega arith)) (lt-or-ge 0 k) in
     let d : count + k - length (take count held) ≡ k = omega arith in
-    record { least = omega arith; array = omega (arith, f2 .array, f2 .bound); places = f2 .array; inside = omega (arith, f2 .inside); bytes = rw d t2 }
+    record {
+      least = omega arith;
+      array = omega (arith, f2 .array, f2 .bound);
+      places = f2 .array;
+      inside = omega (arith, f2 .inside);
+      bytes = rw d t2;
+      end = λ q. rw d (f2 .end q);
+    }
 
 module _ (held xs rec src : List ℕ) (n count : ℕ) (g : Gathered held xs rec n) (e : src ≡ take n rec) (l : length held ≡ count) where
   pub gathered-held : take count src ≡ held
@@ -58,6 +66,12 @@ module _ (held xs rec src : List ℕ) (n count : ℕ) (g : Gathered held xs rec 
 
   pub gathered-more : count < length src
   gathered-more = omega (arith, ap length e, length-take-le n rec (g .array), g .least, l)
+
+  -- fewer than the longest record has are all there are
+  pub gathered-all : length src ≤ 27 → src ≡ held ++ xs
+  gathered-all h =
+      let d : n - length held ≡ length xs = g .end (omega (arith, ap length e, length-take-le n rec (g .array))) in
+      rw (e, g .bytes, d, take-length xs)
 
 -- ---- places that are zero
 

@@ -1,12 +1,12 @@
 -- The range of a state: its parts and the test that decides it; what a state in range holds; which states are in range.
-use Prim.Native.Nat.{ℕ, zero, suc, _-_, _≤_, _<_}
+use Prim.Native.Nat.{ℕ, zero, suc, _+_, _-_, _≤_, _<_}
 use mathlib.Core.Path.{_≡_, refl, ap₂, sym, _∙_}
-use mathlib.Core.List.{List, [], _∷_}
+use mathlib.Core.List.{List, [], _∷_, _++_}
 use mathlib.Core.Bool.{true, false, _||_}
 use native.Mathlib.Omega.{arith}
 use borrow.Author.Tests.{ltb-false, le-ltb, le-leb, lt-leb, leb-true, eqb-true, eq-eqb}
 use lib.ListN.{length, drop, replicate, length-append, length-drop, length-replicate, take-append-drop}
-use lib.Seq.{length-take-le, take-append-seam, drop-append-seam}
+use lib.Seq.{paste, length-take-le, take-length, take-append-seam, drop-append-seam, drop-drop}
 use lib.Dec.{ltb, leb, eqb}
 use Rattle.base.proofs.Tests.{and-false, both, no-bool, or-left, or-right}
 use Rattle.account.specs.declared.Account.{Account}
@@ -19,7 +19,7 @@ use Rattle.book.proofs.FrontLaws.{unfinished-short, front-none}
 
 -- ---- the parts and the test
 
-begins : (f : Front) → isUnfinished f ≡ true → f ≡ unfinished
+pub begins : (f : Front) → isUnfinished f ≡ true → f ≡ unfinished
 begins unfinished e = refl
 begins badLength e = no-bool e
 begins whole e = no-bool e
@@ -63,12 +63,32 @@ zeros-are : (l : List ℕ) → zeros l ≡ true → l ≡ replicate (length l) 0
 zeros-are [] e = refl
 zeros-are (x ∷ l) e = let b = both (eqb x 0) (zeros l) e in ap₂ _∷_ (eqb-true x 0 (b .0)) (zeros-are l (b .1))
 
+-- fewer zeros are zeros
+zeros-behind : (l : List ℕ) (n k : ℕ) → zeros (drop n l) ≡ true → zeros (drop (n + k) l) ≡ true
+zeros-behind l n k e = rw (← drop-drop k n l) (go k (drop n l) e)
+  where
+    go : (k : ℕ) (l : List ℕ) → zeros l ≡ true → zeros (drop k l) ≡ true
+    go zero l e = e
+    go (suc k) [] e = refl
+    go (suc k) (x ∷ l) e = go k l (both (eqb x 0) (zeros l) e .1)
+
 -- a state in range is its account and what it holds
 pub holding-held : (s : State) → InRange s → holding (s .account) (heldOf s) ≡ s
 holding-held s v =
     let n = s .count in
     let d : replicate (27 - n) 0 ≡ drop n (s .held) = sym (zeros-are (drop n (s .held)) (v .unused) ∙ rw (length-drop n (s .held), v .places)) in
     rw (held-length s v, d, take-append-drop)
+
+-- more bytes are held behind those that are
+pub holding-more : (s : State) (xs : List ℕ) → InRange s → s .count + length xs ≤ 27
+    → record { account = s .account; held = paste (s .held) (s .count) xs (length xs); count = s .count + length xs }
+    ≡ holding (s .account) (heldOf s ++ xs)
+holding-more s xs v h =
+    let n = s .count + length xs in
+    let l : length (heldOf s ++ xs) ≡ n = rw (length-append (heldOf s) xs, held-length s v) in
+    let z = zeros-are (drop n (s .held)) (zeros-behind (s .held) (s .count) (length xs) (v .unused)) in
+    let d : replicate (27 - n) 0 ≡ drop n (s .held) = sym (z ∙ rw (length-drop n (s .held), v .places)) in
+    rw (l, d, take-length xs)
 
 pub ended-held : (s : State) → InRange s → 2 ≤ s .account .stage → heldOf s ≡ []
 ended-held s v h = rw (v .none h)

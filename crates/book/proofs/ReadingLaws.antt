@@ -3,6 +3,7 @@ use Prim.Native.Nat.{ℕ, _+_, _-_, _≤_, _<_}
 use mathlib.Core.Path.{_≡_, refl, ap, sym, _∙_}
 use mathlib.Core.List.{List, [], _++_, append-nil}
 use mathlib.Core.Bool.{true}
+use native.Mathlib.Nat.{add-zero}
 use native.Mathlib.Omega.{arith}
 use borrow.Rule.Slice.PartMut.{putMid}
 use lib.ListN.{length, take, drop, length-append, length-drop, drop-of-length-le}
@@ -10,10 +11,12 @@ use lib.Seq.{paste, take-paste, drop-paste, length-paste, length-take-le, take-a
 use Rattle.account.specs.Line.{joined}
 use Rattle.book.specs.declared.State.{State}
 use Rattle.book.specs.declared.turns.Turn.{Turn}
-use Rattle.book.specs.State.{InRange}
+use Rattle.book.specs.Front.{unfinished, front}
+use Rattle.book.specs.State.{heldOf, holding, InRange}
 use Rattle.book.specs.Run.{Outcome, outcome, run}
 use Rattle.book.specs.Inner.{Reading, Turned}
-use Rattle.book.proofs.RunLaws.{run-none}
+use Rattle.book.proofs.RangeLaws.{range-holding}
+use Rattle.book.proofs.RunLaws.{book-unfinished, run-none}
 use Rattle.book.proofs.Outcomes.{outcome-append}
 
 pub reading-none : (input out : List ℕ) (s : State) → InRange s → Reading input out s out s 0 0
@@ -52,6 +55,21 @@ read-line {out = out} {w = w} r line len put room full s′ n inside v e =
     take-paste out w line len (r .fits) (omega arith) ∙ ap (λ (l : List ℕ). take w out ++ l) (take-all len line (omega arith)) in
     reading-on r s′ n len line inside room v (rw put (length-paste out w line len room (omega arith))) (rw put taken)
     (rw put (drop-paste out w line len (r .fits) (omega arith) ∙ sym (drop-drop len w out))) e
+
+-- all bytes from i on leave the record unfinished, and are held
+pub read-rest : {input out₀ : List ℕ} {s₀ : State} {out : List ℕ} {s : State} {i w : ℕ} → Reading input out₀ s₀ out s i w
+    → s .account .stage < 2 → front (heldOf s ++ drop i input) ≡ unfinished
+    → Reading input out₀ s₀ out (holding (s .account) (heldOf s ++ drop i input)) (length input) w
+unfolding run
+read-rest {input} {out₀} {s₀} {out} {s} {i} {w} r early e =
+    let xs = heldOf s ++ drop i input in
+    let s′ = holding (s .account) xs in
+    let n : i + (length input - i) ≡ length input = omega (arith, r .within) in
+    let all : take (length input - i) (drop i input) ≡ drop i input = take-all (length input - i) (drop i input) (rw length-drop (omega arith)) in
+    let q : Reading input out₀ s₀ out s′ (i + (length input - i)) (w + 0) =
+    reading-on r s′ (length input - i) 0 [] (omega arith) (omega (arith, r .fits)) (range-holding (s .account) xs (r .range .account) early e) refl
+    (rw (add-zero, append-nil)) (rw add-zero) (rw all (ap outcome (book-unfinished (s .account) xs early e))) in
+    rw (n, add-zero) at q
 
 -- ---- a turn, with its lines in the part of the buffer from w on, which is lent and given back
 

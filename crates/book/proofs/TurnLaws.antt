@@ -2,13 +2,12 @@
 use Prim.Native.Nat.{ℕ, _+_, _-_, _≤_, _<_}
 use mathlib.Core.Path.{_≡_, refl, ap, sym, _∙_}
 use mathlib.Core.List.{List, [], _++_, append-nil}
-use mathlib.Core.Bool.{false}
+use mathlib.Core.Bool.{true, false}
+use mathlib.Core.Logic.{⊎-elim}
 use native.Mathlib.Omega.{arith}
-use lib.Dec.{eqb}
 use lib.ListN.{length, take, drop, length-append, length-drop, drop-of-length-le, take-append-drop}
 use lib.Seq.{length-take-le, take-take, take-length, take-append-add}
-use Rattle.base.specs.Choice.{pick}
-use Rattle.base.proofs.Tests.{no-bool}
+use Rattle.base.proofs.Tests.{lt-or-ge, no-bool}
 use Rattle.codec.specs.Codec.{valAt}
 use Rattle.account.specs.declared.Account.{Account}
 use Rattle.account.specs.Judge.{judge, refused}
@@ -16,12 +15,12 @@ use Rattle.account.specs.Line.{joined}
 use Rattle.account.proofs.Keeps.{in-range-length}
 use Rattle.book.specs.declared.State.{State}
 use Rattle.book.specs.declared.turns.Turn.{Turn}
-use Rattle.book.specs.Front.{Front, unfinished, badLength, whole, need, front}
+use Rattle.book.specs.Front.{Front, unfinished, badLength, whole, need, bad, front}
 use Rattle.book.specs.State.{heldOf, holding}
 use Rattle.book.specs.Run.{outcome, book, run}
-use Rattle.book.specs.Inner.{Gathered, Ran, Offered, Begins, Turned, leftBy, codeOf}
-use Rattle.book.proofs.MovedBytes.{gathered-held, gathered-more}
-use Rattle.book.proofs.FrontLaws.{meaning, unfinished-short, is-unfinished, is-bad, length-take-two, held-bad, held-whole}
+use Rattle.book.specs.Inner.{Gathered, Ran, Offered, Begins, Turned, leftBy}
+use Rattle.book.proofs.MovedBytes.{gathered-held, gathered-more, gathered-all}
+use Rattle.book.proofs.FrontLaws.{meaning, good-length, unfinished-short, is-unfinished, is-bad, length-take-two, held-bad, held-whole}
 use Rattle.book.proofs.RangeLaws.{held-length, range-holding, range-idle}
 use Rattle.book.proofs.RunLaws.{book-unfinished, book-bad}
 use Rattle.book.proofs.RecordLaws.{book-one, nothing-yet}
@@ -52,22 +51,23 @@ module _ {s : State} {src : List ℕ} (b : Begins s src) where
       let q = ap need parts in
       omega arith
 
-  turned-unfinished : {out : List ℕ} → front src ≡ unfinished → Does s src out out (leftBy unfinished (s .account) (s .count) src)
-  turned-unfinished e =
-      let k : book (s .account) (take (length src) src) ≡ record { state = holding (s .account) src; lines = []; left = [] } =
-      rw (take-length src) (book-unfinished (s .account) src (b .early) e) in
-      record {
-        range = range-holding (s .account) src (b .range .account) (b .early) e;
-        inside = omega arith;
-        long = refl;
-        rest = refl;
-        within = omega arith;
-        is = ap outcome (up-to (length src) (omega arith) ∙ k);
-        some = λ f. omega arith;
-        full = λ f. no-bool f;
-      }
+  -- the length is in, and where it is not bad a whole record stands there
+  pub has-length : 2 ≤ length src
+  has-length =
+      ⊎-elim
+      (λ (k : length src < 2). absurd (b .finished (is-unfinished src (λ q. absurd (omega arith)))))
+      (λ (k : 2 ≤ length src). k)
+      (lt-or-ge (length src) 2)
 
-  turned-bad : {out : List ℕ} → front src ≡ badLength → Does s src out out (leftBy badLength (s .account) (s .count) src)
+  pub is-record : bad src ≡ false → front src ≡ whole
+  is-record g = go (front src) refl
+    where
+      go : (f : Front) → front src ≡ f → f ≡ whole
+      go unfinished e = absurd (b .finished e)
+      go badLength e = no-bool (sym g ∙ meaning src badLength e .1)
+      go whole e = refl
+
+  turned-bad : {out : List ℕ} → front src ≡ badLength → Does s src out out (leftBy true (s .account) (s .count) src)
   turned-bad e =
       let m = meaning src badLength e in
       let c = bad-count e in
@@ -107,7 +107,7 @@ module _ {s : State} {src : List ℕ} (b : Begins s src) where
           full = λ g. no-bool g;
         })
 
-    turned-full : at ≡ 0 → front src ≡ whole → Does s src out out′ (leftBy whole (s .account) (s .count) src)
+    turned-full : at ≡ 0 → front src ≡ whole → Does s src out out′ (leftBy false (s .account) (s .count) src)
     turned-full z e =
         let y = r .reading in
         let m = valAt src 0 2 + 1 in
@@ -132,16 +132,16 @@ module _ {s : State} {src : List ℕ} (b : Begins s src) where
         }
 
     -- no record was judged
-    pub turned-left : {t : Turn} → at ≡ 0 → t ≡ leftBy (front src) a (s .count) src → Does s src out out′ t
+    pub turned-left : {t : Turn} → at ≡ 0 → t ≡ leftBy (bad src) a (s .count) src → Does s src out out′ t
     turned-left {t} z h = rw (h, ← nothing-yet (r .reading) z .0) (go (front src) refl)
       where
         same : out′ ≡ out
         same = let d : drop 0 out′ ≡ drop 0 out = rw (nothing-yet (r .reading) z .1) at (r .reading .rest) in d
 
-        go : (f : Front) → front src ≡ f → Does s src out out′ (leftBy f (s .account) (s .count) src)
-        go unfinished e = rw same (turned-unfinished e)
-        go badLength e = rw same (turned-bad e)
-        go whole e = turned-full z e
+        go : (f : Front) → front src ≡ f → Does s src out out′ (leftBy (bad src) (s .account) (s .count) src)
+        go unfinished e = absurd (b .finished e)
+        go badLength e = rw (meaning src badLength e .1, same) (turned-bad e)
+        go whole e = let m = meaning src whole e in rw (good-length src (m .1) (m .2)) (turned-full z e)
 
 -- ---- a turn over what is gathered is a turn over the next bytes
 
@@ -177,7 +177,14 @@ module _ (s : State) (xs src : List ℕ) (m : ℕ) (h : m ≤ length xs) (is : s
 
 module _ {s : State} {input : List ℕ} {i : ℕ} (o : Offered s input i) {src : List ℕ} where
   pub begins-idle : s .count ≡ 0 → src ≡ drop i input → Begins s src
-  begins-idle z e = record { range = o .range; early = o .early; held = rw z; more = omega (arith, ap length e, length-drop i input, o .more) }
+  begins-idle z e =
+      record {
+        range = o .range;
+        early = o .early;
+        held = rw z;
+        more = omega (arith, ap length e, length-drop i input, o .more);
+        finished = λ u. o .finished (rw z (rw e at u));
+      }
 
   pub turned-idle : {out out′ : List ℕ} {t : Turn} → s .count ≡ 0 → src ≡ drop i input → Does s src out out′ t
       → Turned (λ n. run s (take n (drop i input))) (length input - i) out out′ t
@@ -191,38 +198,15 @@ module _ {s : State} {input : List ℕ} {i : ℕ} (o : Offered s input i) {src :
     pub begins-gathered : Begins s src
     begins-gathered =
         let l = held-length s (o .range) in
-        record { range = o .range; early = o .early; held = gathered-held (heldOf s) rest rec src n (s .count) g h l; more = gathered-more (heldOf s) rest rec src n (s .count) g h l }
+        record {
+          range = o .range;
+          early = o .early;
+          held = gathered-held (heldOf s) rest rec src n (s .count) g h l;
+          more = gathered-more (heldOf s) rest rec src n (s .count) g h l;
+          finished = λ u. o .finished (rw (← e, ← gathered-all (heldOf s) rest rec src n (s .count) g h l (unfinished-short src u)) u);
+        }
 
     pub turned-gathered : {out out′ : List ℕ} {t : Turn} → Does s src out out′ t → Turned (λ n. run s (take n (drop i input))) (length input - i) out out′ t
     turned-gathered a =
         let g2 : Gathered (heldOf s) (drop i input) rec n = rw e at g in
         rw (length-drop i input) at (turned-run s (drop i input) src (n - length (heldOf s)) (g2 .inside) (h ∙ g2 .bytes) (held-length s (o .range)) a)
-
--- ---- what is left of src
-
--- neither all of an unfinished record nor all but the last byte of a whole one are more than can be held
-module _ (xs : List ℕ) (front-code n : ℕ) (c : front-code ≡ codeOf (front xs)) (fine : front-code ≡ 1 → ⊥)
-    (e : n ≡ pick (eqb front-code 2) (valAt xs 0 2 + 1) (length xs)) where
-  by-front : (P : Front → ℕ → Type 0) → (front xs ≡ unfinished → P unfinished (length xs)) → (front xs ≡ whole → P whole (valAt xs 0 2 + 1)) → P (front xs) n
-  by-front P f g = rw (e, c) (go (front xs) refl)
-    where
-      go : (x : Front) → front xs ≡ x → P x (pick (eqb (codeOf x) 2) (valAt xs 0 2 + 1) (length xs))
-      go unfinished h = f h
-      go badLength h = absurd (fine (c ∙ ap codeOf h))
-      go whole h = g h
-
-  pub left-short : n ≤ 27
-  left-short = by-front (λ x m. m ≤ 27) (λ h. unfinished-short xs h) (λ h. let m = meaning xs whole h in omega (arith, m .2))
-
-  pub left-inside : n ≤ length xs
-  left-inside = by-front (λ x m. m ≤ length xs) (λ h. omega arith) (λ h. let m = meaning xs whole h in omega (arith, m .3))
-
-  pub left-more : {s : State} → Begins s xs → s .count ≤ n
-  left-more {s} b = by-front (λ x m. s .count ≤ m) (λ h. omega (arith, b .more)) (λ h. omega (arith, whole-count b))
-
-  pub left-is : (a : Account) (count : ℕ) (s′ : State) → s′ ≡ holding a (take n xs)
-      → record { state = s′; taken = n - count; written = 0; full = eqb front-code 2 } ≡ leftBy (front xs) a count xs
-  left-is a count s′ h =
-      rw (h, c)
-      (by-front (λ x m. record { state = holding a (take m xs); taken = m - count; written = 0; full = eqb (codeOf x) 2 } ≡ leftBy x a count xs)
-      (λ u. rw (take-length xs) refl) (λ u. refl))

@@ -2,10 +2,12 @@
 use Prim.Native.Nat.{ℕ, _+_, _-_, _≤_, _<_}
 use mathlib.Core.Path.{_≡_}
 use mathlib.Core.List.{List, [], _++_}
-use mathlib.Core.Bool.{true, false}
+use mathlib.Core.Bool.{Bool, true, false, _||_}
 use lib.ListN.{length, take, drop}
 use lib.Seq.{paste}
-use Rattle.codec.specs.Table.{recordMost}
+use lib.Dec.{ltb}
+use Rattle.base.specs.Choice.{pick}
+use Rattle.codec.specs.Table.{lengthMost, recordMost}
 use Rattle.codec.specs.Codec.{valAt}
 use Rattle.account.specs.declared.Account.{Account}
 use Rattle.account.specs.Judge.{judge, refused}
@@ -24,6 +26,10 @@ codeOf unfinished = 0
 codeOf badLength = 1
 codeOf whole = 2
 
+-- what n bytes of the length l are at their front, where there are two at least
+abbrev pub byLength : ℕ → ℕ → Front
+byLength l n = pick (ltb l 4 || ltb lengthMost l) badLength (pick (ltb n (l + 2)) unfinished whole)
+
 -- k bytes of src stand in rec′ behind the first n of rec, up to goal bytes or the end of src
 pub record Filled (rec rec′ : List ℕ) (n goal : ℕ) (src : List ℕ) (k : ℕ) : Type 0 where
   pub inside : k ≤ length src
@@ -40,6 +46,7 @@ pub record Gathered (held xs rec : List ℕ) (n : ℕ) : Type 0 where
   pub places : length rec ≡ recordMost
   pub inside : n - length held ≤ length xs
   pub bytes : take n rec ≡ held ++ take (n - length held) xs
+  pub end : n < recordMost → n - length held ≡ length xs
 
 -- i bytes of the input are read and w bytes of lines written, from the state s₀ to s: what rule 2 gives for those i bytes
 pub record Reading (input out₀ : List ℕ) (s₀ : State) (out : List ℕ) (s : State) (i w : ℕ) : Type 0 where
@@ -57,18 +64,20 @@ pub record Ran (a₀ : Account) (src out₀ out : List ℕ) (a : Account) (at w 
   pub least : 0 < at → need src ≤ at
   pub none : at ≡ 0 → front src ≡ whole → length out₀ < length (joined (judge a₀ (take (need src) src) .lines))
 
--- an open state has bytes of the input left from i on
+-- an open state has bytes of the input left from i on, which do not leave its record unfinished
 pub record Offered (s : State) (input : List ℕ) (i : ℕ) : Type 0 where
   pub range : InRange s
   pub early : s .account .stage < 2
   pub more : i < length input
+  pub finished : front (heldOf s ++ drop i input) ≡ unfinished → ⊥
 
--- src begins with the bytes that an open state holds, and has more
+-- src begins with the bytes that an open state holds, and has more, which do not leave the record unfinished
 pub record Begins (s : State) (src : List ℕ) : Type 0 where
   pub range : InRange s
   pub early : s .account .stage < 2
   pub held : take (s .count) src ≡ heldOf s
   pub more : s .count < length src
+  pub finished : front src ≡ unfinished → ⊥
 
 -- t is one turn over at most so many bytes, of which the first n give what gives says, with its lines at the front of the buffer;
 -- where it is full, the lines of one byte more do not fit
@@ -82,12 +91,11 @@ pub record Turned (gives : ℕ → Run) (most : ℕ) (out out′ : List ℕ) (t 
   pub some : t .full ≡ false → 0 < t .taken
   pub full : t .full ≡ true → (t .taken < most) × (t .written ≡ 0) × (length out < length (joined (gives (t .taken + 1) .lines)))
 
--- what a turn leaves of src, of which count bytes were held before, where it judges no record: an unfinished record is held, a bad length refused, and
--- a record whose lines do not fit is held but for its last byte
-abbrev pub leftBy : Front → Account → ℕ → List ℕ → Turn
-leftBy unfinished a count src = record { state = holding a src; taken = length src - count; written = 0; full = false }
-leftBy badLength a count src = record { state = holding (refused a 1 0) []; taken = 2 - count; written = 0; full = false }
-leftBy whole a count src = record { state = holding a (take (valAt src 0 2 + 1) src); taken = valAt src 0 2 + 1 - count; written = 0; full = true }
+-- what a turn leaves of src, of which count bytes were held before, where it judges no record: a bad length is refused, and a record whose lines do
+-- not fit is held but for its last byte
+abbrev pub leftBy : Bool → Account → ℕ → List ℕ → Turn
+leftBy true a count src = record { state = holding (refused a 1 0) []; taken = 2 - count; written = 0; full = false }
+leftBy false a count src = record { state = holding a (take (valAt src 0 2 + 1) src); taken = valAt src 0 2 + 1 - count; written = 0; full = true }
 
 -- the answer to n bytes, with so many taken and written
 abbrev pub fed : State → ℕ → ℕ → ℕ → Fed

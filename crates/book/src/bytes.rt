@@ -3,8 +3,9 @@ use codec::RECORD_MOST;
 use codec::numbers::be32;
 ghost use mathlib.Core.Path.{_≡_};
 ghost use mathlib.Core.List.{_++_};
-ghost use Prim.Native.Nat.{_-_, _≤_};
+ghost use Prim.Native.Nat.{_+_, _-_, _≤_};
 ghost use lib.ListN.{length, take, drop, replicate};
+ghost use lib.Seq.{paste};
 ghost use Rattle.codec.specs.Table.{recordMost};
 ghost use Rattle.book.specs.State.{zeros};
 ghost use Rattle.book.specs.Inner.{Filled};
@@ -62,6 +63,20 @@ pub(crate) fn kept(s: &[u8], n: usize) -> [u8; 27]
     let mut j = 0;
     while j < n {
         held[j] = s[j];
+        j += 1;
+    }
+    held
+}
+
+// The same, with all of s behind the first n bytes.
+pub(crate) fn put_behind(a: [u8; 27], n: usize, s: &[u8]) -> [u8; 27]
+    requires { ⌜ n + length (now s) ≤ 27 ⌝ }
+    ensures { λ r. ⌜ r ≡ paste a n (now (s .entry)) (length (now (s .entry))) ⌝ }
+{
+    let mut held = a;
+    let mut j = 0;
+    while j < s.len() {
+        held[n + j] = s[j];
         j += 1;
     }
     held

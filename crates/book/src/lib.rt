@@ -4,14 +4,18 @@ mod bytes;
 mod records;
 mod turns;
 
+use crate::bytes::put_behind;
 use crate::bytes::zeroed;
 use crate::front::front_of;
+use crate::front::unfinished;
 use account::Account;
 use account::Refusal;
+use base::rest_of;
 ghost use mathlib.Core.Path.{_≡_};
-ghost use Prim.Native.Nat.{_≤_};
+ghost use mathlib.Core.List.{_++_};
+ghost use Prim.Native.Nat.{_+_, _≤_};
 ghost use lib.ListN.{length};
-ghost use Rattle.book.specs.State.{inRange, noRecordYet};
+ghost use Rattle.book.specs.State.{InRange, heldOf, holding, inRange, noRecordYet};
 ghost use Rattle.book.specs.Call.{answerOf, call, fedOf, laid, outside};
 ghost use Rattle.book.specs.Inner.{fed};
 
@@ -138,6 +142,22 @@ impl State {
         }
     }
 
+    // The bytes of rest are held too.
+    fn hold_more(self, rest: &[u8]) -> State
+        requires { ⌜ InRange self × (self .count + length (now rest) ≤ 27) ⌝ }
+        ensures { λ r. ⌜ r ≡ holding (self .account) (heldOf self ++ now (rest .entry)) ⌝ }
+    {
+        let before = self.held;
+        let held = put_behind(before, self.count, rest);
+        let a = self.account;
+        let account = a.by_fields();
+        State {
+            account: account,
+            held: held,
+            count: self.count + rest.len(),
+        }
+    }
+
     // One call: it takes the longest beginning of the input whose lines fit out.
     pub fn feed(mut self, input: &[u8], out: &mut [u8]) -> Fed
         ensures result { λ r. ⌜ r ≡ fedOf (call self (now (input .entry)) (length (now (out .entry)))) ⌝ }
@@ -153,6 +173,13 @@ impl State {
             let a = self.account;
             if 2 <= a.stage {
                 return self.fed(i, w, input.len());
+            }
+            // Most small calls end here: a turn costs more than holding the bytes.
+            let rest = rest_of(input, i);
+            let held = self.held;
+            if unfinished(held, self.count, rest) {
+                let longer = self.hold_more(rest);
+                return longer.fed(input.len(), w, input.len());
             }
             let t = self.next(input, i, &mut out[w..]);
             self = t.state;

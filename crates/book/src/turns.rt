@@ -2,7 +2,7 @@
 use crate::State;
 use crate::bytes::fill;
 use crate::bytes::kept;
-use crate::front::front_of;
+use crate::front::bad_length;
 use crate::records::judge_all;
 use account::Account;
 use base::first_of;
@@ -13,11 +13,8 @@ ghost use mathlib.Core.Path.{_≡_};
 ghost use mathlib.Core.List.{[]};
 ghost use Prim.Native.Nat.{_+_, _-_, _≤_, _<_};
 ghost use lib.ListN.{length, take, drop};
-ghost use Rattle.base.specs.Choice.{pick};
-ghost use Rattle.codec.specs.Table.{lengthMost, recordMost};
-ghost use Rattle.codec.specs.Codec.{valAt};
-ghost use lib.Dec.{eqb};
-ghost use Rattle.book.specs.Front.{front};
+ghost use Rattle.codec.specs.Table.{recordMost};
+ghost use Rattle.book.specs.Front.{bad};
 ghost use Rattle.book.specs.State.{InRange, heldOf, holding};
 ghost use Rattle.book.specs.Run.{book, run};
 ghost use Rattle.book.specs.Inner.{Begins, Gathered, Offered, Turned, leftBy};
@@ -56,17 +53,6 @@ fn idle(account: Account) -> State
     }
 }
 
-// How many bytes of src are held: all of an unfinished record, all but the last of a whole one.
-fn unread(src: &[u8], front: u8) -> usize
-    requires { ⌜ (front ≡ 2 → (2 ≤ length (now src)) × (valAt (now src) 0 2 ≤ lengthMost)) ⌝ }
-    ensures { λ n. ⌜ n ≡ pick (eqb front 2) (valAt (now (src .entry)) 0 2 + 1) (length (now (src .entry))) ⌝ }
-{
-    if front == 2 {
-        return (be16(src, 0) as usize) + 1;
-    }
-    src.len()
-}
-
 impl State {
     // The bytes held and the next of src, as many as the longest record has at most: any record that the held bytes begin is whole in them. How many they are.
     fn gather(self, bytes: &mut [u8; RECORD_MOST], src: &[u8]) -> usize
@@ -80,14 +66,13 @@ impl State {
         count + k
     }
 
-    // What is left where no record was judged: an unfinished record is held, a bad length refused, a record whose lines do not fit held but for its
-    // last byte.
+    // What is left where no record was judged: a bad length is refused, a record whose lines do not fit held but for its last byte.
     fn left(self, account: Account, src: &[u8]) -> Turn
         requires { ⌜ Begins self (now src) ⌝ }
-        ensures { λ t. ⌜ t ≡ leftBy (front (now (src .entry))) account (self .count) (now (src .entry)) ⌝ }
+        ensures { λ t. ⌜ t ≡ leftBy (bad (now (src .entry))) account (self .count) (now (src .entry)) ⌝ }
     {
-        let front = front_of(src, src.len());
-        if front == 1 {
+        let length = be16(src, 0);
+        if bad_length(length) {
             let refused = account.refuse(1, 0);
             let s = idle(refused);
             return Turn {
@@ -97,13 +82,13 @@ impl State {
                 full: false,
             };
         }
-        let n = unread(src, front);
+        let n = (length as usize) + 1;
         let s = hold(account, src, n);
         Turn {
             state: s,
             taken: n - self.count,
             written: 0,
-            full: front == 2,
+            full: true,
         }
     }
 

@@ -1,35 +1,42 @@
-use mathlib.Core.Path.{_≡_, refl, sym, _∙_}
+use mathlib.Core.Path.{_≡_, sym, _∙_}
+use mathlib.Core.Bool.{false}
 use native.Mathlib.Omega.{arith}
-use lib.Seq.{take-length}
-use Rattle.book.specs.Front.{badLength, whole, front}
-use Rattle.book.specs.Inner.{codeOf}
-use Rattle.book.proofs.FrontLaws.{meaning, code-bad, code-two}
-use Rattle.book.proofs.TurnLaws.{bad-count, left-short, left-inside, left-more, left-is}
+use borrow.Author.Needs.{needs}
+use Rattle.book.specs.Front.{whole, bad, front}
+use Rattle.book.proofs.FrontLaws.{Means, meaning, is-bad}
+use Rattle.book.proofs.TurnLaws.{has-length, is-record, bad-count, whole-count}
 use Rattle.book.proofs.State.left.Statement.{statement}
 use Rattle.book.proofs.State.left.Tie as tie
 
--- the place of the entry, from that after the front is found
-abbrev entry : tie.After-front-of → tie.Start
-entry c = c .before .before
+-- the place of the entry, from that after the length is tested
+abbrev entry : tie.After-bad-length → tie.Start
+entry c = c .before .before .before
 
-code : (c : tie.After-front-of) → c .front-of .result ≡ codeOf (front (entry c .args .src .now))
-code c = rw take-length at (c .front-of .ensures)
+tested : (c : tie.After-bad-length) → c .bad-length .result ≡ bad (entry c .args .src .now)
+tested c = rw (c .before .be16 .ensures) at (c .bad-length .ensures)
 
-is-bad : (c : tie.Then1) → front (entry (c .before) .args .src .now) ≡ badLength
-is-bad c = code-bad _ (sym (code (c .before)) ∙ c .if1 .taken)
+good : (c : tie.Else1) → bad (entry (c .before) .args .src .now) ≡ false
+good c = sym (tested (c .before)) ∙ c .if1 .left
+
+is-whole : (c : tie.Else1) → Means (entry (c .before) .args .src .now) whole
+is-whole c = meaning _ whole (is-record (entry (c .before) .pre) (good c))
 
 pub left-spec : {M : Type 1} → statement M
 left-spec =
     tie.close
     (tie.spec
-    (λ c κs. omega arith)
+    (λ c κs. has-length (c .before .pre))
     (λ c κs. tt)
     (λ c κs. tt)
-    (λ c. omega (arith, bad-count (c .before .before .before .before .before .before .pre) (is-bad (c .before .before .before))))
-    (λ c. rw (is-bad (c .before .before .before), c .before .idle .ensures, c .before .before .refuse .ensures) refl)
-    (λ c κs. λ e. let m = meaning _ whole (code-two _ (sym (code (c .before)) ∙ e)) in (m .0, m .2))
-    (λ c κs.
-    let f = c .before .before in
-    (left-short _ _ _ (code f) (c .before .if1 .left) (c .unread .ensures), left-inside _ _ _ (code f) (c .before .if1 .left) (c .unread .ensures)))
-    (λ c. omega (arith, left-more _ _ _ (code (c .before .before .before .before)) (c .before .before .before .if1 .left) (c .before .before .unread .ensures) (c .before .before .before .before .before .before .pre)))
-    (λ c. left-is _ _ _ (code (c .before .before .before .before)) (c .before .before .before .if1 .left) (c .before .before .unread .ensures) _ _ _ (c .before .hold .ensures)))
+    (λ c κs. tt)
+    (λ c.
+    let t = c .before .before .before in
+    let p = entry (t .before) .pre in
+    omega (arith, bad-count p (is-bad _ (has-length p, sym (tested (t .before)) ∙ t .if1 .taken))))
+    (λ c.
+    let t = c .before .before .before in
+    rw (← tested (t .before), t .if1 .taken, c .before .idle .ensures, c .before .before .refuse .ensures))
+    (λ c. let m = is-whole c .2 in search needs)
+    (λ c κs. let m = is-whole c in rw (c .before .before .be16 .ensures) (omega (arith, m .2), omega (arith, m .3)))
+    (λ c. let e = c .before .before in rw (e .before .before .be16 .ensures) (omega (arith, whole-count (entry (e .before) .pre))))
+    (λ c. let e = c .before .before in rw (good e, c .before .hold .ensures, e .before .before .be16 .ensures)))
