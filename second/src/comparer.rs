@@ -1,4 +1,4 @@
-//! Document 02, W9: what differs between two books, once more, from the written decision alone; and pairs of books by chance, a book and an edited copy.
+//! Document 02, W9 and W14: what differs between two books, once more, from the written decision alone; and pairs of books by chance, a book and an edited copy.
 //! A program of its own, on the second program's reader.
 #![allow(dead_code)]
 
@@ -94,6 +94,17 @@ fn alike(a: &Entry, b: &Entry) -> bool {
     a.record == b.record || (a.record[3] == kind::CLOSE && b.record[3] == kind::CLOSE)
 }
 
+/// Whether two runs are the same records in another order, all of them details of a group or of the farm.
+fn moved(a: &[Entry], b: &[Entry]) -> bool {
+    let details = a.iter().chain(b).all(|entry| matches!(entry.record[3], 3..=7 | 9 | 10));
+    let sorted = |entries: &[Entry]| {
+        let mut records: Vec<Vec<u8>> = entries.iter().map(|entry| entry.record.clone()).collect();
+        records.sort();
+        records
+    };
+    !a.is_empty() && details && sorted(a) == sorted(b)
+}
+
 fn tell(word: &str, number: usize, entry: &Entry) -> String {
     format!("{word} record {number}: {}\n{}", words::kind_name(u64::from(entry.record[3])), entry.text)
 }
@@ -110,14 +121,18 @@ fn compare(old: &[u8], new: &[u8]) -> String {
     }
     let (n, m) = (a.len(), b.len());
     writeln!(said, "accepted records: {n} in old, {m} in new; the first {front} and the last {back} are the same").unwrap();
-    said += match (x > front, y > front) {
-        (false, false) => "",
-        (false, true) => "added:\n",
-        (true, false) => "removed:\n",
-        (true, true) => "changed:\n",
-    };
-    (front..x).for_each(|i| said += &tell("old", i, &a[i]));
-    (front..y).for_each(|i| said += &tell("new", i, &b[i]));
+    if moved(&a[front..x], &b[front..y]) {
+        writeln!(said, "records {front} to {} are the same in another order, with the same lines", x - 1).unwrap();
+    } else {
+        said += match (x > front, y > front) {
+            (false, false) => "",
+            (false, true) => "added:\n",
+            (true, false) => "removed:\n",
+            (true, true) => "changed:\n",
+        };
+        (front..x).for_each(|i| said += &tell("old", i, &a[i]));
+        (front..y).for_each(|i| said += &tell("new", i, &b[i]));
+    }
     let others: Vec<usize> = (0..back).filter(|&i| a[x + i].lines != b[y + i].lines).collect();
     if !others.is_empty() {
         said += "the same records, which give other lines:\n";
@@ -177,6 +192,8 @@ fn pair(seed: u64, index: u64) -> (Vec<u8>, Vec<u8>) {
             1 => records.insert(at, records[to].clone()),
             2 => records.swap(at, to),
             3 => records.truncate(at),
+            // a run of records the other way round
+            7 => records[at.min(to)..=at.max(to)].reverse(),
             4 => {
                 // another head count, or another value near the record's end
                 let last = records[at].len() - 1;

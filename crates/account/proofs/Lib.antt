@@ -9,4 +9,5 @@ pub mod Written
 pub mod Clauses
 mod Shortcuts
 pub mod Keeps
+pub mod Details
 pub mod Counts

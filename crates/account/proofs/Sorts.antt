@@ -1,14 +1,14 @@
 -- Laws of sorts and of kinds: what holds of each of the five sorts, and of each row of the table, holds of all.
 -- Assumes nothing.
 use Prim.Native.Nat.{ℕ, _+_, _≤_}
-use mathlib.Core.Path.{_≡_, refl}
+use mathlib.Core.Path.{_≡_, refl, sym, _∙_}
 use mathlib.Core.Bool.{Bool, true, false, _&&_, _||_}
 use mathlib.Core.Logic.{_⊎_, ⊎-elim}
 use native.Mathlib.Omega.{arith}
 use borrow.Author.Tests.{leb-true, eqb-true, eqb-false}
 use lib.Dec.{leb, eqb}
 use Rattle.base.specs.Choice.{pick}
-use Rattle.base.proofs.Tests.{and-l, and-r, true-or-false}
+use Rattle.base.proofs.Tests.{and-l, and-r, by-test, no-bool, true-or-false}
 use Rattle.codec.specs.Table.{isKind, lastKind}
 use Rattle.account.specs.Sorts.{isFarm, Sort, opens, heads, ofGroup, ofFarm, closes, sortOf, bySort}
 
@@ -34,6 +34,11 @@ heads-two k e = go (isFarm k) (eqb k 2) (eqb k 3 || (eqb k 4 || (eqb k 5 || eqb 
     go false false true d q e = let z : _≡_ {A = ℕ} 0 1 = cc in absurd (omega arith)
     go false false false true q e = let z : _≡_ {A = ℕ} 0 1 = cc in absurd (omega arith)
     go false false false false q e = let z : _≡_ {A = ℕ} 0 1 = cc in absurd (omega arith)
+
+-- the kinds of details are none of the others
+pub other-kind : (k n : ℕ) → bySort (sortOf k) false false true true false ≡ true → bySort (sortOf n) false false true true false ≡ false
+    → eqb k n ≡ false
+other-kind k n d e = by-test (eqb k n) (λ q. no-bool (sym e ∙ (rw (eqb-true k n q) at d))) (λ q. q)
 
 -- a detail of the farm is of none of the group's kinds
 pub not-of-group : (k : ℕ) → sortOf k ≡ ofFarm → (eqb k 3 ≡ false) × ((eqb k 4 ≡ false) × ((eqb k 5 ≡ false) × (eqb k 10 ≡ false)))

@@ -93,6 +93,12 @@ fn tell_changed(p: Plan) -> bool {
     send(&text[..n])
 }
 
+fn tell_moved(p: Plan) -> bool {
+    let mut text = [0u8; 512];
+    let n = remarks::say_moved(&mut text, p);
+    send(&text[..n])
+}
+
 fn tell_others(p: Plan) -> bool {
     let mut text = [0u8; 512];
     let n = remarks::say_others(&mut text, p);
@@ -166,8 +172,11 @@ fn tell_pairs(old: &[u8], i: usize, new: &[u8], j: usize, many: usize) -> bool {
     true
 }
 
-// The records that differ, those of the old book first.
+// The records that differ, those of the old book first; or that they are the same in another order.
 fn tell_between(old: &[u8], new: &[u8], p: Plan) -> bool {
+    if p.moved {
+        return tell_moved(p);
+    }
     if !tell_changed(p) {
         return false;
     }

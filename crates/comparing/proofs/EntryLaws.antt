@@ -34,7 +34,7 @@ unfolding entriesFrom
 shut a [] h = refl
 shut a (r ∷ rs) h = rw (le-ltb _ _ h) refl
 
-records-none : (xs : List ℕ) → (front xs ≡ whole → ⊥) → recordsOf xs ≡ []
+pub records-none : (xs : List ℕ) → (front xs ≡ whole → ⊥) → recordsOf xs ≡ []
 unfolding recordsOf recordsBy
 records-none xs n = go (front xs) refl
   where

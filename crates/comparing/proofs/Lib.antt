@@ -4,4 +4,7 @@ pub mod WalkLaws
 pub mod PairLaws
 pub mod TellLaws
 pub mod TextLaws
+pub mod MovedLaws
 pub mod Truths
+pub mod SameDetails
+pub mod MovedTruth

@@ -19,7 +19,8 @@ use Rattle.comparing.specs.declared.cursor.Taken.{Taken}
 use Rattle.comparing.specs.declared.runs.Counts.{Counts}
 use Rattle.comparing.specs.declared.runs.Pair.{Pair}
 use Rattle.comparing.specs.Entries.{Entry, linesOf, entriesAfter, entriesOf}
-use Rattle.comparing.specs.Compare.{same, shapeOf, noRuns, oneMore, runsFrom, runsOf, planOf}
+use Rattle.comparing.specs.Same.{same}
+use Rattle.comparing.specs.Compare.{shapeOf, noRuns, oneMore, runsFrom, runsOf, movedOf, planOf}
 use Rattle.comparing.specs.Inner.{entry, Turned, Written, Reached, Looked, CountsIn}
 use Rattle.comparing.proofs.WalkLaws.{entries-behind}
 
@@ -213,10 +214,11 @@ module _ (es ns : List Entry) (n m l : ℕ) (r : Counts) (p : n ≡ length es) (
     pub back-new : s .trailing ≤ m
     back-new = rw g (omega (arith, trailing-right (drop (n - (l - r .leading)) es) (drop (m - (l - r .leading)) ns), length-drop (m - (l - r .leading)) ns, q))
 
-    pub plan-is : (t : Counts) → t ≡ runsOf (drop (n - s .trailing) es) (drop (m - s .trailing) ns)
-        → record { old = n; new = m; front = r .leading; back = s .trailing; others = t .others } ≡ planOf es ns
+    pub plan-is : (t : Counts) (b : Bool) → t ≡ runsOf (drop (n - s .trailing) es) (drop (m - s .trailing) ns)
+        → b ≡ movedOf (r .leading) (s .trailing) es ns
+        → record { old = n; new = m; front = r .leading; back = s .trailing; others = t .others; moved = b } ≡ planOf es ns
     unfolding planOf
-    plan-is t h = rw (h, g, f, k, p, q) refl
+    plan-is t b h d = rw (d, h, g, f, k, p, q) refl
 
 -- ---- a record without the count of a close, as the code finds it
 

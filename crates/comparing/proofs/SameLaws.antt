@@ -11,7 +11,7 @@ use lib.ListN.{length, getD, drop, drop-of-length-le}
 use lib.Seq.{drop-cons}
 use lib.Dec.{eqb}
 use Rattle.base.proofs.Tests.{and-l, and-r, no-bool}
-use Rattle.comparing.specs.Compare.{same}
+use Rattle.comparing.specs.Same.{same}
 
 -- bytes are the same as themselves,
 pub same-self : (xs : List ℕ) → same xs xs ≡ true

@@ -16,7 +16,7 @@ use Rattle.comparing.specs.declared.cursor.Cursor.{Cursor}
 use Rattle.comparing.specs.declared.cursor.Taken.{Taken}
 use Rattle.comparing.specs.declared.runs.Pair.{Pair}
 use Rattle.comparing.specs.Entries.{Entry, linesOf, entriesAfter, entriesOf}
-use Rattle.comparing.specs.Compare.{same}
+use Rattle.comparing.specs.Same.{same}
 use Rattle.comparing.specs.Remarks.{entryText, recordsText, partText, otherText, pairsText, pairsPart}
 use Rattle.comparing.specs.Inner.{entry, Turned, Reached, Looked}
 

@@ -9,7 +9,12 @@ use lib.Dec.{eqb}
 use Rattle.printing.specs.Ascii.{ascii}
 use Rattle.printing.specs.Decimal.{decimal}
 use Rattle.comparing.specs.declared.Plan.{Plan}
-use Rattle.comparing.specs.Remarks.{oldBetween, newBetween, changedText, twoText, lastText}
+use Rattle.comparing.specs.Remarks.{oldBetween, newBetween, changedText, movedText, twoText, lastText}
+
+pub moved-text : (p : Plan) (a b : ℕ) → a ≡ p .old - p .back → b ≡ a - 1
+    → movedText p ≡ twoText (ascii "records ") (p .front) (ascii " to ") b ++ ascii " are the same in another order, with the same lines\n"
+unfolding movedText
+moved-text p a b e f = rw (f, e) refl
 
 module _ (p : Plan) (o n : ℕ) (e : o ≡ oldBetween p) (f : n ≡ newBetween p) where
   pub changed-none : o ≡ 0 → n ≡ 0 → changedText p ≡ []

@@ -3,21 +3,16 @@
 -- Assumes nothing.
 use Prim.Native.Nat.{ℕ, _+_, _-_, min}
 use mathlib.Core.List.{List, [], _∷_}
-use mathlib.Core.Bool.{Bool, true, false, _&&_, not}
+use mathlib.Core.Bool.{Bool, _&&_, not}
 use lib.ListN.{length, take, drop}
 use lib.Dec.{eqb}
 use Rattle.base.specs.Choice.{pick}
 use Rattle.account.specs.Judge.{kindByte}
 use Rattle.comparing.specs.declared.Plan.{Plan}
 use Rattle.comparing.specs.declared.runs.Counts.{Counts}
-use Rattle.comparing.specs.Entries.{Entry, entriesOf}
-
--- the same bytes
-unfoldable pub same : List ℕ → List ℕ → Bool
-same [] [] = true
-same [] (y ∷ ys) = false
-same (x ∷ xs) [] = false
-same (x ∷ xs) (y ∷ ys) = eqb x y && same xs ys
+use Rattle.comparing.specs.Entries.{Entry, recordsIn}
+use Rattle.comparing.specs.Same.{same}
+use Rattle.comparing.specs.Moved.{sameDetails}
 
 -- a record, and of a close all but its count: other records change that
 abbrev pub shapeOf : List ℕ → List ℕ
@@ -70,6 +65,14 @@ lastOf back es = drop (length es - back) es
 abbrev pub othersOf : ℕ → List Entry → List Entry → ℕ
 othersOf back es ns = runsOf (lastOf back es) (lastOf back ns) .others
 
+-- the records between those that are the same at the beginning and at the end
+abbrev pub between : ℕ → ℕ → List Entry → List (List ℕ)
+between front back es = recordsIn (take (length es - front - back) (drop front es))
+
+-- there are some, and they are the same details in another order
+abbrev pub movedOf : ℕ → ℕ → List Entry → List Entry → Bool
+movedOf front back es ns = not (eqb (length es - front - back) 0) && sameDetails (between front back es) (between front back ns)
+
 unfoldable pub planOf : List Entry → List Entry → Plan
 planOf es ns =
     record {
@@ -78,4 +81,5 @@ planOf es ns =
       front = frontOf es ns;
       back = backOf es ns;
       others = othersOf (backOf es ns) es ns;
+      moved = movedOf (frontOf es ns) (backOf es ns) es ns;
     }

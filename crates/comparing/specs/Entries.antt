@@ -31,6 +31,11 @@ pub record Entry : Type 0 where
   pub bytes : List ℕ
   pub lines : List ℕ
 
+-- the records of entries
+unfoldable pub recordsIn : List Entry → List (List ℕ)
+recordsIn [] = []
+recordsIn (e ∷ es) = e .bytes ∷ recordsIn es
+
 -- the first of the records rs that are accepted, up to one that is not, a being the account before them
 unfoldable pub entriesFrom : Account → List (List ℕ) → List Entry
 entriesFrom a [] = []

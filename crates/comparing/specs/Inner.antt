@@ -11,7 +11,8 @@ use Rattle.comparing.specs.declared.cursor.Taken.{Taken}
 use Rattle.comparing.specs.declared.runs.Counts.{Counts}
 use Rattle.comparing.specs.declared.runs.Pair.{Pair}
 use Rattle.comparing.specs.Entries.{Entry, linesOf, entriesAfter, entriesOf}
-use Rattle.comparing.specs.Compare.{same, shapeOf}
+use Rattle.comparing.specs.Same.{same}
+use Rattle.comparing.specs.Compare.{shapeOf}
 
 -- the entry of the record r after the account a
 abbrev pub entry : Account → List ℕ → Entry

@@ -1,4 +1,6 @@
 pub mod Entries
+pub mod Same
+pub mod Moved
 pub mod Compare
 pub mod Remarks
 pub mod Inner

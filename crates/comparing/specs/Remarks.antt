@@ -16,7 +16,8 @@ use Rattle.reasons.specs.Why.{whyOf}
 use Rattle.reasons.specs.Remarks.{machineText}
 use Rattle.comparing.specs.declared.Plan.{Plan}
 use Rattle.comparing.specs.Entries.{Entry, entriesOf}
-use Rattle.comparing.specs.Compare.{same, planOf}
+use Rattle.comparing.specs.Same.{same}
+use Rattle.comparing.specs.Compare.{planOf}
 
 -- which book
 abbrev pub wordOf : Bool → List ℕ
@@ -81,6 +82,11 @@ changedText p =
     pick (eqb (oldBetween p) 0) (pick (eqb (newBetween p) 0) [] (ascii "added:\n"))
     (pick (eqb (newBetween p) 0) (ascii "removed:\n") (ascii "changed:\n"))
 
+-- of records between that are the same details in another order, by the numbers of the first and the last of them
+unfoldable pub movedText : Plan → List ℕ
+movedText p =
+    twoText (ascii "records ") (p .front) (ascii " to ") (p .old - p .back - 1) ++ ascii " are the same in another order, with the same lines\n"
+
 -- over the records that are the same and give other lines
 unfoldable pub othersText : Plan → List ℕ
 othersText p = pick (eqb (p .others) 0) [] (ascii "the same records, which give other lines:\n")
@@ -101,14 +107,18 @@ lastText p =
 abbrev pub verdictText : Bool → List ℕ → List ℕ
 verdictText new xs = (wordOf new ++ ascii ": ") ++ machineText (whyOf xs)
 
+-- what is told of the records between
+abbrev pub betweenText : Plan → List Entry → List Entry → List ℕ
+betweenText p es ns =
+    pick (p .moved) (movedText p)
+    (changedText p ++ (partText false (p .front) (oldBetween p) es ++ partText true (p .front) (newBetween p) ns))
+
 -- what is printed behind the verdicts
 abbrev pub differencesText : Plan → List Entry → List Entry → List ℕ
 differencesText p es ns =
     planText p
-    ++ (changedText p
-    ++ (partText false (p .front) (oldBetween p) es
-    ++ (partText true (p .front) (newBetween p) ns
-    ++ (othersText p ++ (pairsPart (p .old - p .back) (p .new - p .back) (p .back) es ns ++ lastText p)))))
+    ++ (betweenText p es ns
+    ++ (othersText p ++ (pairsPart (p .old - p .back) (p .new - p .back) (p .back) es ns ++ lastText p)))
 
 unfoldable pub compareText : List ℕ → List ℕ → List ℕ
 compareText old new =

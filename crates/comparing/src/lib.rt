@@ -1,9 +1,11 @@
 // Two books compared, so that an adviser who has corrected one record can say what it touched: which records are the same, and which lines.
 pub mod remarks; // remarks.rt: what is told
 mod cursor; // cursor.rt: a book record by record
+mod moved; // moved.rt: the same records in another order
 mod runs; // runs.rt: pairs of records
 
 use crate::cursor::reach;
+use crate::moved::moved;
 use crate::runs::runs;
 use base::least;
 ghost use mathlib.Core.Path.{_≡_};
@@ -11,13 +13,15 @@ ghost use lib.ListN.{length};
 ghost use Rattle.comparing.specs.Entries.{entriesOf};
 ghost use Rattle.comparing.specs.Compare.{planOf};
 
-// The accepted records of either book; how many of them are the same at the beginning and at the end; and how many of those at the end give other lines.
+// The accepted records of either book; how many of them are the same at the beginning and at the end; how many of those at the end give other lines;
+// and whether those between are the same details in another order.
 pub struct Plan {
     pub old: usize,
     pub new: usize,
     pub front: usize,
     pub back: usize,
     pub others: usize,
+    pub moved: bool,
 }
 
 // How many records of a book are accepted.
@@ -39,11 +43,13 @@ pub fn compare(old: &[u8], new: &[u8]) -> Plan
     let last = runs(old, n - most, new, m - most);
     let back = last.trailing;
     let rest = runs(old, n - back, new, m - back);
+    let same = moved(old, n, new, m, first.leading, back);
     Plan {
         old: n,
         new: m,
         front: first.leading,
         back: back,
         others: rest.others,
+        moved: same,
     }
 }

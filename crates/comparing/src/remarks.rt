@@ -21,7 +21,7 @@ ghost use Rattle.printing.specs.Said.{Said};
 ghost use Rattle.listing.specs.Listing.{linesText};
 ghost use Rattle.comparing.specs.Entries.{linesOf, entriesOf};
 ghost use Rattle.comparing.specs.Remarks.{wordOf, entryText, partText, pairsPart, planText, oldBetween, newBetween, changedText, othersText};
-ghost use Rattle.comparing.specs.Remarks.{otherText, twoText, lastText, statusByte};
+ghost use Rattle.comparing.specs.Remarks.{movedText, otherText, twoText, lastText, statusByte};
 
 // Which book.
 fn say_word(out: &mut [u8], at: usize, new: bool) -> usize
@@ -174,7 +174,7 @@ fn say_two(out: &mut [u8], at: usize, word: &[u8], n: usize, other: &[u8], m: us
     say_number(out, c, m as u64)
 }
 
-fn less(n: usize, m: usize) -> usize
+pub(crate) fn less(n: usize, m: usize) -> usize
     ensures { λ r. ⌜ r ≡ n - m ⌝ }
 {
     if n < m {
@@ -212,6 +212,19 @@ pub fn say_changed(out: &mut [u8], p: Plan) -> usize
         return say(out, 0, b"removed:\n");
     }
     say(out, 0, b"changed:\n")
+}
+
+// That the records between are the same in another order, from the start of out.
+pub fn say_moved(out: &mut [u8], p: Plan) -> usize
+    ensures { λ r. ⌜ Said (now (out .entry)) (now (out .exit)) 0 (movedText p) r ⌝ }
+{
+    let last = less(less(p.old, p.back), 1);
+    let which = say_two(out, 0, b"records ", p.front, b" to ", last);
+    say(
+        out,
+        which,
+        b" are the same in another order, with the same lines\n",
+    )
 }
 
 // The words over the records that are the same and give other lines, from the start of out.

@@ -9,7 +9,8 @@ ghost use Prim.Native.Nat.{_+_, _≤_, _<_};
 ghost use lib.ListN.{length, take, drop};
 ghost use Rattle.base.specs.Choice.{pick};
 ghost use Rattle.comparing.specs.Entries.{entriesOf};
-ghost use Rattle.comparing.specs.Compare.{same, shapeOf, oneMore, runsOf};
+ghost use Rattle.comparing.specs.Same.{same};
+ghost use Rattle.comparing.specs.Compare.{shapeOf, oneMore, runsOf};
 ghost use Rattle.comparing.specs.Inner.{Looked, CountsIn};
 
 // How many pairs there are, how many of the first and of the last ones are the same, and how many give other lines.
@@ -99,7 +100,7 @@ pub(crate) fn look(a: Account, xs: &[u8], b: Account, ys: &[u8]) -> Pair
 }
 
 // One more where it is so.
-fn one_if(b: bool, n: usize) -> usize
+pub(crate) fn one_if(b: bool, n: usize) -> usize
     requires { ⌜ n < 18446744073709551615 ⌝ }
     ensures { λ r. ⌜ r ≡ pick b (n + 1) n ⌝ }
 {

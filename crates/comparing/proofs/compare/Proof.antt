@@ -27,7 +27,9 @@ compare-spec =
     let r = c .before .before .before in
     back-new _ _ _ _ _ _ (r .before .before .count .ensures) (r .before .count2 .ensures) (r .runs .ensures) (c .before .before .least .ensures) _ (c .runs2 .ensures))
     (λ c κs. tt)
+    (λ c κs. let n = c .before .before .before .before .before in (n .before .count .ensures, n .count2 .ensures))
     (λ c.
-    let r = c .before .before .before .before in
-    plan-is _ _ _ _ _ _ (r .before .before .count .ensures) (r .before .count2 .ensures) (r .runs .ensures) (c .before .before .before .least .ensures) _ (c .before .runs2 .ensures) _
-    (c .runs3 .ensures)))
+    let s = c .before .before in
+    let r = s .before .before .before in
+    plan-is _ _ _ _ _ _ (r .before .before .count .ensures) (r .before .count2 .ensures) (r .runs .ensures) (s .before .before .least .ensures) _
+    (s .runs2 .ensures) _ _ (c .before .runs3 .ensures) (c .moved .ensures)))

@@ -1,0 +1,3 @@
+pub mod InOrder
+pub mod AnyOrder
+pub mod Examples
