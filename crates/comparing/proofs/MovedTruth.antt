@@ -15,23 +15,30 @@ use Rattle.base.proofs.Tests.{by-test, and-r}
 use Rattle.account.specs.declared.Account.{Account}
 use Rattle.account.specs.declared.Heading.{Heading}
 use Rattle.account.specs.Sorts.{sortOf}
+use Rattle.account.specs.Line.{totalOf}
 use Rattle.account.specs.Range.{AccountInRange}
 use Rattle.account.specs.Judge.{kindOf, valuesOf, noRecord, NotRefused, Step, accepted, judge}
 use Rattle.account.proofs.Refusals.{judged-passes}
 use Rattle.account.proofs.Keeps.{in-range-none, in-range-judge}
 use Rattle.account.proofs.Details.{judge-accepted, within-range}
 use Rattle.book.specs.Front.{whole, need, front}
+use Rattle.book.specs.State.{noRecordYet}
 use Rattle.book.specs.Run.{Run, book, run}
 use Rattle.book.proofs.FrontLaws.{meaning}
 use Rattle.book.proofs.RecordLaws.{record-whole}
-use Rattle.book.proofs.RunLaws.{book-whole}
+use Rattle.book.proofs.RunLaws.{book-ended, book-whole}
 use Rattle.promises.specs.WholeLines.{headingFrom}
+use Rattle.promises.specs.Subtotals.{subtotalLines}
 use Rattle.promises.specs.SameLine.{headingBefore, lineUnder}
+use Rattle.promises.proofs.Headings.{group-most}
 use Rattle.promises.proofs.SameLine.{heading-is}
 use Rattle.reasons.proofs.FaultLaws.{refused-is}
 use Rattle.orders.specs.InOrder.{inOrder}
 use Rattle.orders.specs.AnyOrder.{Details}
-use Rattle.orders.proofs.Runs.{Takes, Taken, reached, given, taken-first, taken-last, given-append, reached-range, reached-heading}
+use Rattle.orders.proofs.Runs.{Takes, Taken, reached, given, taken-first, taken-last, reached-append, given-append}
+use Rattle.orders.proofs.Runs.{reached-range, reached-heading}
+use Rattle.orders.proofs.Subtotals.{around}
+use Rattle.orders.proofs.AnyOrder.{total-line}
 use Rattle.orders.proofs.Orders.{InTurn, withRecords, lineIn, Same, in-turn, reached-details, given-details, in-order, map-order}
 use Rattle.comparing.specs.Entries.{Entry, recordsIn, entriesAfter, entriesOf}
 use Rattle.comparing.specs.Moved.{sameDetails, LinesMoved}
@@ -45,6 +52,8 @@ use Rattle.comparing.proofs.SameDetails.{same-are-details, some-order}
 record AsTaken (a : Account) (xs : List ℕ) : Type 0 where
   taken : Taken a (recordsIn (entriesAfter a xs))
   lines : book a xs .lines ≡ given a (recordsIn (entriesAfter a xs))
+  closed : book a xs .state .account .stage ≡ 2 → 2 ≤ reached a (recordsIn (entriesAfter a xs)) .stage
+  ended : 2 ≤ reached a (recordsIn (entriesAfter a xs)) .stage → book a xs .state .account ≡ reached a (recordsIn (entriesAfter a xs))
 
 as-taken-one : (a : Account) (xs : List ℕ) (x : Entry) (l : List Entry) → entriesAfter a xs ≡ x ∷ l → First a xs x l
     → AsTaken (judge a (take (need xs) xs) .account) (drop (need xs) xs) → AsTaken a xs
@@ -56,20 +65,28 @@ as-taken-one a xs x l e f i =
     omega (arith, q, f .counted) in
     let q : recordsIn (entriesAfter a xs) ≡ r ∷ recordsIn (entriesAfter (judge a r .account) (drop (need xs) xs)) = rw (e, f .bytes, f .rest) refl in
     let t : Takes a r = record { whole = record-whole xs (need xs) (f .front) refl; early = f .early; passes = judged-passes a r z } in
+    let b = book-whole a xs (f .early) (f .front) in
     record {
       taken = subst (Taken a) (sym q) (t, i .taken);
       lines =
-          ap (λ (r : Run). r .lines) (book-whole a xs (f .early) (f .front))
+          ap (λ (r : Run). r .lines) b
           ∙ ap (λ (ls : List (List ℕ)). judge a r .lines ++ ls) (i .lines) ∙ ap (given a) (sym q);
+      closed = λ c.
+          subst (λ (rs : List (List ℕ)). 2 ≤ reached a rs .stage) (sym q) (i .closed (ap (λ (r : Run). r .state .account .stage) (sym b) ∙ c));
+      ended = λ c.
+          let d = i .ended (subst (λ (rs : List (List ℕ)). 2 ≤ reached a rs .stage) q c) in
+          ap (λ (r : Run). r .state .account) b ∙ d ∙ ap (reached a) (sym q);
     }
 
-as-taken-none : (a : Account) (xs : List ℕ) → entriesAfter a xs ≡ [] → book a xs .lines ≡ [] → AsTaken a xs
+as-taken-none : (a : Account) (xs : List ℕ) → entriesAfter a xs ≡ [] → book a xs .lines ≡ []
+    → (book a xs .state .account .stage ≡ 2 → 2 ≤ a .stage) → AsTaken a xs
 unfolding recordsIn
-as-taken-none a xs e l = record { taken = rw e tt; lines = rw e l }
+as-taken-none a xs e l k =
+    record { taken = rw e tt; lines = rw e l; closed = rw e k; ended = rw e (λ h. ap (λ (r : Run). r .state .account) (book-ended a xs h)) }
 
 as-taken-by : (a : Account) (xs : List ℕ) → AccountInRange a → ((b : Account) (zs : List ℕ) → length zs < length xs → AccountInRange b → AsTaken b zs)
     → Cases a xs → AsTaken a xs
-as-taken-by a xs v ih (none e q l) = as-taken-none a xs e l
+as-taken-by a xs v ih (none e q l k) = as-taken-none a xs e l k
 as-taken-by a xs v ih (some x l e f) =
     let m = meaning xs whole (f .front) in
     let r : List ℕ = take (need xs) xs in
@@ -135,6 +152,8 @@ record GivenMoved (rs ss : List (List ℕ)) : Type 0 where
   all : Details details
   lines : given noRecord rs ≡ first ++ (map (lineUnder heading) details ++ last)
   moved : given noRecord ss ≡ first ++ (inOrder order (map (lineUnder heading) details) ++ last)
+  subtotals : subtotalLines (given noRecord ss) ≡ subtotalLines (given noRecord rs)
+  account : reached noRecord ss ≡ reached noRecord rs
 
 module _ (fs fs′ bs bs′ : List Entry) (rs ss : List (List ℕ))
     (t : Taken noRecord (recordsIn fs ++ (rs ++ recordsIn bs))) (u : Taken noRecord (recordsIn fs′ ++ (ss ++ recordsIn bs′)))
@@ -213,6 +232,28 @@ module _ (fs fs′ bs bs′ : List Entry) (rs ss : List (List ℕ))
       ∙ ap (λ (ls : List (List ℕ)). ls ++ given (reached noRecord (recordsIn fs′)) (ss ++ recordsIn bs′)) (sym (begins .lines))
       ∙ ap (λ (ls : List (List ℕ)). given noRecord x ++ ls) (ap (λ (b : Account). given b (ss ++ recordsIn bs′)) (sym (begins .account)) ∙ after-new)
 
+  -- the lines of details are no subtotals
+  same-subtotals : subtotalLines (given noRecord (recordsIn fs′ ++ (ss ++ recordsIn bs′)))
+      ≡ subtotalLines (given noRecord (x ++ (rs ++ recordsIn bs)))
+  same-subtotals =
+      let h = headingFrom (headingBefore x) in
+      let g : h .group ≤ 65535 = rw heading-here at (group-most a (reached-range x noRecord in-range-none taken-before)) in
+      let ks = given noRecord x in
+      let ls = given (reached a rs) (recordsIn bs) in
+      let m : inOrder order (map l rs) ≡ map l ss = sym (map-order l order rs) ∙ ap (map l) (some-order rs ss e .is) in
+      ap subtotalLines (lines-new ∙ ap (λ (k : List (List ℕ)). ks ++ (k ++ ls)) m)
+      ∙ around ss a h ks ls g turn′
+      ∙ sym (ap subtotalLines lines-old ∙ around rs a h ks ls g turn)
+
+  same-account : reached noRecord (recordsIn fs′ ++ (ss ++ recordsIn bs′)) ≡ reached noRecord (x ++ (rs ++ recordsIn bs))
+  same-account =
+      reached-append (recordsIn fs′) (ss ++ recordsIn bs′) noRecord
+      ∙ ap (λ (b : Account). reached b (ss ++ recordsIn bs′)) (sym (begins .account))
+      ∙ reached-append ss (recordsIn bs′) a
+      ∙ ap (λ (b : Account). reached b (recordsIn bs′)) account-behind
+      ∙ sym (ends .account)
+      ∙ sym (reached-append x (rs ++ recordsIn bs) noRecord ∙ reached-append rs (recordsIn bs) a)
+
   given-moved : GivenMoved (x ++ (rs ++ recordsIn bs)) (recordsIn fs′ ++ (ss ++ recordsIn bs′))
   given-moved =
       record {
@@ -224,6 +265,8 @@ module _ (fs fs′ bs bs′ : List Entry) (rs ss : List (List ℕ))
         all = same-are-details rs ss e;
         lines = lines-old;
         moved = lines-new;
+        subtotals = same-subtotals;
+        account = same-account;
       }
 
 -- ---- the parts, as the plan has them
@@ -310,6 +353,11 @@ moved-true old new e =
     given-moved (take f es) (take f ns) (drop (length es - b) es) (drop (length ns - b) ns) (between f b es) (between f b ns)
     (subst (Taken noRecord) pe (t .taken)) (subst (Taken noRecord) pn (u .taken)) (fronts es ns) (backs es ns)
     (and-r (not (eqb (length es - f - b) 0)) _ e) in
+    let both : reached noRecord (recordsIn ns) ≡ reached noRecord (recordsIn es) =
+    ap (reached noRecord) pn ∙ g .account ∙ sym (ap (reached noRecord) pe) in
+    let same : run noRecordYet old .state .account .stage ≡ 2 → run noRecordYet new .state .account ≡ run noRecordYet old .state .account = λ q.
+    let c = t .closed q in
+    u .ended (subst (λ (d : Account). 2 ≤ d .stage) (sym both) c) ∙ both ∙ sym (t .ended c) in
     record {
       first = g .first;
       heading = g .heading;
@@ -319,4 +367,9 @@ moved-true old new e =
       all = g .all;
       lines = t .lines ∙ ap (given noRecord) pe ∙ g .lines;
       moved = u .lines ∙ ap (given noRecord) pn ∙ g .moved;
+      subtotals =
+          ap subtotalLines (u .lines ∙ ap (given noRecord) pn) ∙ g .subtotals ∙ sym (ap subtotalLines (t .lines ∙ ap (given noRecord) pe));
+      closed = λ q. ap (λ (c : Account). c .stage) (same q) ∙ q;
+      total = λ q.
+          total-line new (ap (λ (c : Account). c .stage) (same q) ∙ q) ∙ ap totalOf (same q) ∙ sym (total-line old q);
     }

@@ -214,7 +214,8 @@ module _ (es ns : List Entry) (n m l : ℕ) (r : Counts) (p : n ≡ length es) (
     pub back-new : s .trailing ≤ m
     back-new = rw g (omega (arith, trailing-right (drop (n - (l - r .leading)) es) (drop (m - (l - r .leading)) ns), length-drop (m - (l - r .leading)) ns, q))
 
-    pub plan-is : (t : Counts) (b : Bool) → t ≡ runsOf (drop (n - s .trailing) es) (drop (m - s .trailing) ns) → b ≡ movedOf (r .leading) (s .trailing) es ns
+    pub plan-is : (t : Counts) (b : Bool) → t ≡ runsOf (drop (n - s .trailing) es) (drop (m - s .trailing) ns)
+        → b ≡ movedOf (r .leading) (s .trailing) es ns
         → record { old = n; new = m; front = r .leading; back = s .trailing; others = t .others; moved = b } ≡ planOf es ns
     unfolding planOf
     plan-is t b h d = rw (d, h, g, f, k, p, q) refl

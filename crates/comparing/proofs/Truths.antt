@@ -196,9 +196,10 @@ pub record First (a : Account) (xs : List ℕ) (x : Entry) (l : List Entry) : Ty
   pub counted : judge a (take (need xs) xs) .account .records ≡ a .records + 1
   pub rest : l ≡ entriesAfter (judge a (take (need xs) xs) .account) (drop (need xs) xs)
 
--- there is none, and rule 2 accepts none; or there is a first
+-- there is none, and rule 2 accepts none and closes nothing; or there is a first
 pub data Cases (a : Account) (xs : List ℕ) : Type 0 where
-  none : entriesAfter a xs ≡ [] → book a xs .state .account .records ≡ a .records → book a xs .lines ≡ [] → Cases a xs
+  none : entriesAfter a xs ≡ [] → book a xs .state .account .records ≡ a .records → book a xs .lines ≡ []
+      → (book a xs .state .account .stage ≡ 2 → 2 ≤ a .stage) → Cases a xs
   some : (x : Entry) (l : List Entry) → entriesAfter a xs ≡ x ∷ l → First a xs x l → Cases a xs
 
 module _ (a : Account) (xs : List ℕ) (v : AccountInRange a) (early : a .stage < 2) (e : front xs ≡ whole) where
@@ -217,6 +218,7 @@ module _ (a : Account) (xs : List ℕ) (v : AccountInRange a) (early : a .stage 
       let b = book-whole a xs early e in
       let d = book-ended (judge a r .account) (drop (need xs) xs) (omega (arith, s .stage)) in
       none (rw (records-whole xs e, after-is, lt-ltb _ _ early, eq-eqb _ _ (s .stage)) refl) (rw (b, d) (s .counted)) (rw (b, d, s .none) refl)
+      (rw (b, d) (λ q. absurd (omega (arith, q, s .stage))))
 
   grown-entry : Grown a r (judge a r) → entriesAfter a xs ≡ record { bytes = r; lines = joined (judge a r .lines) } ∷ entriesAfter (judge a r .account) (drop (need xs) xs)
   unfolding entriesFrom
@@ -233,15 +235,17 @@ cases-at : (a : Account) (xs : List ℕ) → AccountInRange a → a .stage < 2 �
 cases-at a xs v k unfinished e =
     let b = book-unfinished a xs k e in
     none (entries-none a xs (λ z. let q : _≡_ {A = ℕ} 0 1 = cc in absurd (omega arith))) (rw b refl) (rw b refl)
+    (rw b (λ q. absurd (omega (arith, q, k))))
 cases-at a xs v k badLength e =
     let b = book-bad a xs k e in
     none (entries-none a xs (λ z. let q : _≡_ {A = ℕ} 0 1 = cc in absurd (omega arith))) (rw b refl) (rw b refl)
+    (rw b (λ q. absurd (omega (arith, q))))
 cases-at a xs v k whole e = ⊎-elim (stopped a xs v k e) (grown a xs v k e) (judged a (take (need xs) xs) v)
 
 pub cases : (a : Account) (xs : List ℕ) → AccountInRange a → Cases a xs
 cases a xs v =
     ⊎-elim (λ (k : a .stage < 2). cases-at a xs v k (front xs) refl)
-    (λ (k : 2 ≤ a .stage). none (shut a (recordsOf xs) k) (rw (book-ended a xs k) refl) (rw (book-ended a xs k) refl))
+    (λ (k : 2 ≤ a .stage). none (shut a (recordsOf xs) k) (rw (book-ended a xs k) refl) (rw (book-ended a xs k) refl) (λ q. k))
     (lt-or-ge (a .stage) 2)
 
 -- the entries are the records that rule 2 accepts, with its lines
@@ -275,7 +279,7 @@ as-run-none a xs e q l =
     record { grows = omega (arith, q); records = rw (e, z) refl; lines = rw (e, l) refl }
 
 as-run-by : (a : Account) (xs : List ℕ) → AccountInRange a → ((b : Account) (zs : List ℕ) → length zs < length xs → AccountInRange b → AsRun b zs) → Cases a xs → AsRun a xs
-as-run-by a xs v ih (none e q l) = as-run-none a xs e q l
+as-run-by a xs v ih (none e q l z) = as-run-none a xs e q l
 as-run-by a xs v ih (some x l e f) =
     let m = meaning xs whole (f .front) in
     let short : length (drop (need xs) xs) < length xs = rw length-drop (omega (arith, m .0, m .1, m .3)) in
@@ -306,7 +310,7 @@ first-of : (a : Account) (xs : List ℕ) (x : Entry) (l : List Entry) → Accoun
 first-of a xs x l v q = go (cases a xs v)
   where
     go : Cases a xs → First a xs x l
-    go (none e n m) = let z = ap length (sym q ∙ e) in absurd (omega (arith, z))
+    go (none e n m w) = let z = ap length (sym q ∙ e) in absurd (omega (arith, z))
     go (some y k e f) =
         let d : y ∷ k ≡ x ∷ l = sym e ∙ q in
         rw (← head-eq-of-cons-eq d, ← ap (λ (t : List Entry). drop 1 t) d) f

@@ -3,23 +3,30 @@
 use Prim.Native.Nat.{ℕ}
 use mathlib.Core.Path.{_≡_, refl, sym, ap, _∙_, subst}
 use mathlib.Core.List.{List, [], _∷_, _++_, map, append-assoc, append-nil}
+use native.Mathlib.Omega.{arith}
 use Rattle.account.specs.declared.Account.{Account}
 use Rattle.account.specs.declared.Heading.{Heading}
-use Rattle.account.specs.Line.{joined}
+use Rattle.account.specs.Line.{joined, totalOf}
 use Rattle.account.specs.Range.{AccountInRange}
 use Rattle.account.specs.Judge.{noRecord}
 use Rattle.account.proofs.Keeps.{in-range-none}
 use Rattle.account.proofs.Details.{within-range}
+use Rattle.book.specs.declared.State.{State}
 use Rattle.book.specs.WholeRecords.{recordsOf}
 use Rattle.book.specs.State.{noRecordYet}
 use Rattle.book.specs.Run.{Run, then, book, run}
 use Rattle.book.proofs.RunLaws.{book-none}
 use Rattle.promises.specs.SameLine.{headingBefore, lineUnder}
+use Rattle.promises.specs.Totals.{lastOf}
+use Rattle.promises.proofs.StaysInRange.{new-in-range}
+use Rattle.promises.proofs.Headings.{group-most}
+use Rattle.promises.proofs.Totals.{ends-with-total}
 use Rattle.promises.proofs.SameLine.{heading-is}
 use Rattle.orders.specs.InOrder.{inOrder}
 use Rattle.orders.specs.AnyOrder.{Accepted, Details, bookOf, linesOf, InAnyOrder}
 use Rattle.orders.proofs.Runs.{made, Taken, reached, given, taken, taken-first, taken-last, reached-append, joined-append, book-records}
 use Rattle.orders.proofs.Runs.{reached-range, reached-heading, run-records, goes-on, lines-behind}
+use Rattle.orders.proofs.Subtotals.{around}
 use Rattle.orders.proofs.Orders.{InTurn, withRecords, lineIn, in-turn, reached-details, book-details, in-order, map-order}
 
 parts : (before middle behind : List (List ℕ)) → bookOf before middle behind ≡ joined before ++ (joined middle ++ joined behind)
@@ -68,6 +75,11 @@ map-same : (f g : List ℕ → List ℕ) → ((r : List ℕ) → f r ≡ g r) �
 map-same f g h [] = refl
 map-same f g h (r ∷ rs) = rw (h r, map-same f g h rs) refl
 
+-- the last line of a book that closes is the total of the account that it reaches
+pub total-line : (xs : List ℕ) → run noRecordYet xs .state .account .stage ≡ 2
+    → lastOf (run noRecordYet xs .lines) ≡ totalOf (run noRecordYet xs .state .account)
+total-line xs q = ends-with-total noRecordYet xs new-in-range (omega arith) q
+
 -- ---- the theorem
 
 in-any-order : (xs : List ℕ) (before middle behind : List (List ℕ)) (order : List ℕ)
@@ -84,10 +96,21 @@ in-any-order xs before middle behind order ok e t d =
     let two = run-with before tb (inOrder order middle) behind (s .turn) in
     let last = lines-last before tb middle tm i behind tbm in
     let mid = lines-middle before tb middle tm i in
+    let g = group-most c (reached-range before noRecord in-range-none tb) in
+    let ls = book (withRecords c middle) (joined behind) .lines in
+    let k = given noRecord before in
+    let new = bookOf before (inOrder order middle) behind in
+    let shut : run noRecordYet new .state .account .stage ≡ 2 = rw (two, s .account) (rw (e, one) at (ok .closed)) in
+    let shut₀ : run noRecordYet (bookOf before middle behind) .state .account .stage ≡ 2 = rw e at (ok .closed) in
+    let st : run noRecordYet new .state ≡ run noRecordYet (bookOf before middle behind) .state = rw (one, two, s .account) refl in
     rw e
     (record {
-      accepted = record { closed = rw (two, s .account) (rw (e, one) at (ok .closed)); all = rw (two, s .account) (rw (e, one) at (ok .all)) };
-      state = rw (one, two, s .account) refl;
+      accepted = record { closed = shut; all = rw (two, s .account) (rw (e, one) at (ok .all)) };
+      state = st;
+      subtotals =
+          rw (one, two, s .account)
+          (around (inOrder order middle) c (c .heading) k ls g (s .turn) ∙ sym (around middle c (c .heading) k ls g i));
+      total = total-line new shut ∙ ap (λ (s : State). totalOf (s .account)) st ∙ sym (total-line (bookOf before middle behind) shut₀);
       lines = rw (one, lines-before before tb, mid, last) refl;
       each = mid ∙ map-same (lineIn (c .heading)) (lineUnder (headingBefore before)) (line-is before tb) middle;
       same = rw (two, s .account, lines-before before tb, mid, last, map-order (lineIn (c .heading)) order middle) refl;

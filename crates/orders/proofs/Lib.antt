@@ -1,4 +1,5 @@
 pub mod Runs
 pub mod Orders
+pub mod Subtotals
 pub mod AnyOrder
 pub mod Premises

@@ -10,6 +10,8 @@ use Rattle.account.specs.Line.{joined}
 use Rattle.book.specs.State.{noRecordYet}
 use Rattle.book.specs.Run.{run}
 use Rattle.promises.specs.WholeLines.{isDetail}
+use Rattle.promises.specs.Subtotals.{subtotalLines}
+use Rattle.promises.specs.Totals.{lastOf}
 use Rattle.promises.specs.SameLine.{headingBefore, lineUnder}
 use Rattle.orders.specs.InOrder.{inOrder}
 
@@ -36,11 +38,13 @@ pub record InAnyOrder (xs : List ℕ) (before middle behind : List (List ℕ)) (
   -- the second book is accepted too, and leaves the reader in the state in which the first one does
   pub accepted : Accepted (bookOf before (inOrder order middle) behind)
   pub state : run noRecordYet (bookOf before (inOrder order middle) behind) .state ≡ run noRecordYet xs .state
+  -- with the same subtotals and total line
+  pub subtotals : subtotalLines (run noRecordYet (bookOf before (inOrder order middle) behind) .lines) ≡ subtotalLines (run noRecordYet xs .lines)
+  pub total : lastOf (run noRecordYet (bookOf before (inOrder order middle) behind) .lines) ≡ lastOf (run noRecordYet xs .lines)
   -- the lines of the first book: those of the records before, in the middle and behind
   pub lines : run noRecordYet xs .lines ≡ linesOf [] before ++ (linesOf before middle ++ linesOf (before ++ middle) behind)
   -- each record of the middle gives one, under the last heading before the middle
   pub each : linesOf before middle ≡ map (lineUnder (headingBefore before)) middle
-  -- in the second book the records before and behind give the same lines, subtotals and total among them, and the middle's are the old ones in the
-  -- new order
+  -- in the second book the records before and behind give the same lines, and the middle's are the old ones in the new order
   pub same : run noRecordYet (bookOf before (inOrder order middle) behind) .lines
       ≡ linesOf [] before ++ (inOrder order (linesOf before middle) ++ linesOf (before ++ middle) behind)

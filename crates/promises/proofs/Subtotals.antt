@@ -41,7 +41,7 @@ use Rattle.promises.proofs.Headings.{line-mark, total-mark, group-most,
 
 -- ---- lines of kind 16
 
-lines-append : (ls ms : List (List ℕ)) → subtotalLines (ls ++ ms) ≡ subtotalLines ls ++ subtotalLines ms
+pub lines-append : (ls ms : List (List ℕ)) → subtotalLines (ls ++ ms) ≡ subtotalLines ls ++ subtotalLines ms
 unfolding subtotalLines
 lines-append [] ms = refl
 lines-append (l ∷ ls) ms = go (eqb (valAt l 3 1) 16) (lines-append ls ms)
