@@ -1,3 +1,4 @@
+pub mod RowLaws
 pub mod Listed
 pub mod ByKind
 pub mod Answers

@@ -12,13 +12,13 @@ use lib.Dec.{leb}
 use lib.ListN.{length, getD, take}
 use lib.Seq.{take-all, take-length}
 use Rattle.base.proofs.Tests.{and-l, and-r, lt-or-ge}
-use Rattle.codec.specs.Table.{table, fields, size, lengthOf, Of, lastKind, isKind, linesMost}
+use Rattle.codec.specs.Table.{table, fields, size, lengthOf, rowVersion, rowKind, Of, lastRow, linesMost}
 use Rattle.codec.specs.Codec.{be, valuesAt, bytesOf, recordBytes, Fit}
 use Rattle.codec.proofs.BigEndian.{one-byte}
 use Rattle.codec.proofs.Rows.{length-most}
 use Rattle.codec.proofs.Round.{values-back, record-length, record-whole}
 use Rattle.account.specs.declared.Account.{Account}
-use Rattle.account.specs.Judge.{WholeRecord, judge, weigh}
+use Rattle.account.specs.Judge.{WholeRecord, versionOf, kindByte, judge, weigh}
 use Rattle.account.specs.Line.{joined}
 use Rattle.account.specs.Told.{Kind}
 use Rattle.account.proofs.Told.{right-length}
@@ -33,6 +33,7 @@ use Rattle.book.proofs.RecordLaws.{book-one}
 use Rattle.book.proofs.Longest.{longest-top}
 use Rattle.book.proofs.CallLaws.{call-at}
 use Rattle.make_record.specs.Write.{Ready}
+use Rattle.make_record.proofs.RowLaws.{row-back, version-passes, kind-passes}
 
 -- ---- one whole record, read by a state that holds no bytes
 
@@ -66,7 +67,7 @@ module _ (s : State) (y : Ready s) (r : List ℕ) (w : WholeRecord r) where
 
 -- length, version and kind: what stands before the fields
 start : ℕ → List ℕ
-start k = be 2 (lengthOf k) ++ (be 1 1 ++ be 1 k)
+start k = be 2 (lengthOf k) ++ (be 1 (rowVersion k) ++ be 1 (rowKind k))
 
 start-length : (k : ℕ) → length (start k) ≡ 4
 unfolding start be
@@ -90,13 +91,24 @@ each-at p (suc n) e k l h =
     (λ (g : suc n ≤ k). let z : k ≡ suc n = omega arith in rw z (and-l (p (suc n)) (each p n) e))
     (lt-or-ge k (suc n))
 
--- no kind's length is below 4: antt computes it for each
-length-least : (k : ℕ) → 1 ≤ k → k ≤ lastKind → 4 ≤ lengthOf k
+-- no row's length is below 4: antt computes it for each
+length-least : (k : ℕ) → 1 ≤ k → k ≤ lastRow → 4 ≤ lengthOf k
 unfolding table size each
-length-least k l h = leb-true _ _ (each-at (λ n. leb 4 (lengthOf n)) lastKind refl k l h)
+length-least k l h = leb-true _ _ (each-at (λ n. leb 4 (lengthOf n)) lastRow refl k l h)
 
 module _ (k : ℕ) (v : List ℕ) (o : Of k v) where
-  -- it is a whole record of version 1 and its kind
+  -- its version and its kind are the row's
+  pub version-written : versionOf (recordBytes k v) ≡ rowVersion k
+  version-written =
+      let r = recordBytes k v in
+      one-byte r 2 (getD r 2 0) refl ∙ record-whole k v (omega (arith, o .most)) .version-is
+
+  pub kind-written : kindByte (recordBytes k v) ≡ rowKind k
+  kind-written =
+      let r = recordBytes k v in
+      one-byte r 3 (getD r 3 0) refl ∙ record-whole k v (omega (arith, o .most)) .kind-is
+
+  -- it is a whole record of its row
   pub is-kind : Kind k (recordBytes k v)
   is-kind =
       let r = recordBytes k v in
@@ -104,8 +116,9 @@ module _ (k : ℕ) (v : List ℕ) (o : Of k v) where
       let least = length-least k (o .least) (o .most) in
       record {
         whole = record { long = omega (arith, w .complete, w .length-is); low = rw (w .length-is) least; high = rw (w .length-is) (length-most k) };
-        version = one-byte r 2 (getD r 2 0) refl ∙ w .version-is;
-        kind = one-byte r 3 (getD r 3 0) refl ∙ w .kind-is;
+        version = rw (version-written, kind-written) (version-passes k);
+        listed = rw kind-written (kind-passes k (o .least) (o .most));
+        kind = rw (version-written, kind-written) (row-back k);
       }
 
   -- values that fit their bytes, read again
@@ -113,11 +126,8 @@ module _ (k : ℕ) (v : List ℕ) (o : Of k v) where
   values-read f =
       rw (start-then k v) (rw (start-length k, append-nil (bytesOf (fields k) v 0)) at (values-back (fields k) v (start k) [] f (o .count)))
 
-  is-one : isKind k ≡ true
-  is-one = rw (le-leb _ _ (o .least), le-leb _ _ (o .most))
-
   -- the record does what its values do
   pub judge-is : (a : Account) → Fit (fields k) v 0 → judge a (recordBytes k v) ≡ weigh a k v
   judge-is a f =
-      right-length a k (recordBytes k v) (lengthOf k + 2) is-kind is-one refl (omega (arith, record-length k v))
+      right-length a k (recordBytes k v) (lengthOf k + 2) is-kind refl (omega (arith, record-length k v))
       ∙ ap (weigh a k) (values-read f)

@@ -12,14 +12,14 @@ use lib.Dec.{ltb}
 use lib.ListN.{length, getD}
 use Rattle.base.proofs.Tests.{and-l, and-r}
 use Rattle.codec.specs.declared.Field.{Field}
-use Rattle.codec.specs.Table.{table, fields, Of}
+use Rattle.codec.specs.Table.{table, fields}
 use Rattle.codec.specs.Codec.{bytesHold, firstBad}
 use Rattle.codec.proofs.Within.{none, Good, too-high}
 use Rattle.account.specs.declared.Account.{Account}
 use Rattle.account.specs.Judge.{first, inPlace, weigh, refused}
 use Rattle.book.specs.declared.State.{State}
 use Rattle.make_record.specs.declared.Answer.the-variants.{Refused}
-use Rattle.make_record.specs.Write.{next, write, Ready}
+use Rattle.make_record.specs.Write.{rowFor, next, write, Ready, OfKind}
 use Rattle.make_record.proofs.Answers.{by-reader}
 
 -- ---- the table, field by field: antt computes the test
@@ -55,18 +55,18 @@ field-at (f ∷ fs) e (suc j) h = field-at fs (and-r (holds f) (row-holds fs) e)
 pub highest-fits : (k j : ℕ) → j < length (fields k) → getD (fields k) j none .2 < bytesHold (getD (fields k) j none .0)
 highest-fits k j h = field-at (fields k) (row-at table checked k) j h
 
--- ---- a value too big for its bytes, the values before it being in their ranges
+-- ---- a value of the row k too big for its bytes, the values before it being in their ranges
 
 module _ (k : ℕ) (v : List ℕ) (j : ℕ) (h : j < length (fields k)) (before : Good j (fields k) v 0) (big : bytesHold (getD (fields k) j none .0) ≤ getD v j 0) where
   -- It is the first out of its range, at its position, counted from 1.
   pub too-big : firstBad (fields k) v 0 ≡ suc j
   too-big = sym (rw zero-add at (too-high j (fields k) v 0 before h (rw zero-add (omega (arith, highest-fits k j h, big)))))
 
-  -- Where neither 5 nor 6 comes first, the writer refuses it by 7, with its position, whatever the buffer's size.
-  pub too-big-is-seven : (s : State) (n : ℕ) → Ready s → Of k v → s .account .records < 4096 → inPlace (s .account) k ≡ true
-      → write s k v n .answer ≡ Refused (record { code = 7; accepted = s .account .records; field = suc j })
+  -- Where neither 5 nor 6 comes first, the writer refuses values of its kind by 7, with its position, whatever the buffer's size.
+  pub too-big-is-seven : (kind : ℕ) → k ≡ rowFor kind (length v) → (s : State) (n : ℕ) → Ready s → OfKind kind k v → s .account .records < 4096
+      → inPlace (s .account) k ≡ true → write s kind v n .answer ≡ Refused (record { code = 7; accepted = s .account .records; field = suc j })
   unfolding weigh first
-  too-big-is-seven s n y o r p =
+  too-big-is-seven kind row s n y o r p =
       let q : suc j ≡ 0 → ⊥ = λ e. omega arith in
       let e : weigh (s .account) k v ≡ record { account = refused (s .account) 7 (suc j); lines = [] } = rw (lt-leb _ _ r, p, too-big, ne-eqb _ _ q) in
-      rw (by-reader s k v n y o _ (sym (ap (λ a. a .account) e)) refl)
+      rw (← row, by-reader s kind k v n y o _ (sym (ap (λ a. a .account) e)) refl)

@@ -1,9 +1,9 @@
 -- Document 02, W1: "given a record's field values in order, and a state, it writes the record and hands back the reader's next state, or gives
 -- the number the reader would give, writes nothing and keeps the state".
-use Prim.Native.Nat.{ℕ, _+_, _<_}
+use Prim.Native.Nat.{ℕ, _+_, _≤_, _<_}
 use mathlib.Core.Path.{_≡_}
 use mathlib.Core.List.{List, [], _∷_, _++_}
-use mathlib.Core.Bool.{Bool, _||_, not}
+use mathlib.Core.Bool.{Bool, _&&_, _||_, not}
 use lib.ListN.{length, drop}
 use lib.Dec.{ltb, eqb}
 use Rattle.base.specs.Choice.{pick}
@@ -33,13 +33,17 @@ pub record Write : Type 0 where
 abbrev pub refusalBy : ℕ → ℕ → Refusal
 refusalBy code records = record { code = code; accepted = records; field = 0 }
 
--- the reader's account after values v of kind k
-abbrev pub next : State → ℕ → List ℕ → Account
-next s k v = weigh (s .account) k v .account
+-- the row of the table that so many values of kind k are of: four of a farm record are version 2's, any other count version 1's
+abbrev pub rowFor : ℕ → ℕ → ℕ
+rowFor k count = pick (eqb k 1 && eqb count 4) 11 k
 
--- the refusals of values v of kind k, for a buffer of room bytes, in the order they are tried
-unfoldable pub refusals : State → ℕ → List ℕ → ℕ → List (Bool × Refusal)
-refusals s k v room =
+-- the reader's account after values v of a row
+abbrev pub next : State → ℕ → List ℕ → Account
+next s row v = weigh (s .account) row v .account
+
+-- the refusals of values v of kind k, which are of this row, for a buffer of room bytes, in the order they are tried
+unfoldable pub refusals : State → ℕ → ℕ → List ℕ → ℕ → List (Bool × Refusal)
+refusals s k row v room =
     -- 13: the state is outside the ranges
     (not (inRange s), refusalBy 13 0)
     -- a refused state gives its own number
@@ -49,11 +53,11 @@ refusals s k v room =
     -- 3: no such kind
     ∷ (ltb k 1 || ltb lastKind k, refusalBy 3 (s .account .records))
     -- 4: a wrong count of values
-    ∷ (not (eqb (length v) (length (fields k))), refusalBy 4 (s .account .records))
+    ∷ (not (eqb (length v) (length (fields row))), refusalBy 4 (s .account .records))
     -- 5 to 12 as the reader, which would be refused with this record; a value too big for its bytes is out of its range, and so 7
-    ∷ (eqb (next s k v .stage) 3, next s k v .refusal)
+    ∷ (eqb (next s row v .stage) 3, next s row v .refusal)
     -- 16: the buffer is short
-    ∷ (ltb room (2 + lengthOf k), refusalBy 16 (s .account .records))
+    ∷ (ltb room (2 + lengthOf row), refusalBy 16 (s .account .records))
     ∷ []
 
 -- by the first test that holds; where none does, the record is written
@@ -67,15 +71,19 @@ refusing s r = record { state = s; bytes = []; answer = Refused r }
 
 -- the record, and the reader's next state, which holds no bytes
 abbrev pub writing : State → ℕ → List ℕ → Write
-writing s k v = record { state = holding (next s k v) []; bytes = recordBytes k v; answer = Wrote }
+writing s row v = record { state = holding (next s row v) []; bytes = recordBytes row v; answer = Wrote }
 
 abbrev pub byAnswer : Answer → State → ℕ → List ℕ → Write
-byAnswer Wrote s k v = writing s k v
-byAnswer (Refused r) s k v = refusing s r
+byAnswer Wrote s row v = writing s row v
+byAnswer (Refused r) s row v = refusing s r
 
--- what writing values v of kind k after the state s gives, for a buffer of room bytes
-unfoldable pub write : State → ℕ → List ℕ → ℕ → Write
-write s k v room = byAnswer (answerOf (refusals s k v room)) s k v
+-- what writing values v of kind k and of this row after the state s gives, for a buffer of room bytes
+unfoldable pub writeRow : State → ℕ → ℕ → List ℕ → ℕ → Write
+writeRow s k row v room = byAnswer (answerOf (refusals s k row v room)) s row v
+
+-- the row goes by the kind and the count of values
+abbrev pub write : State → ℕ → List ℕ → ℕ → Write
+write s k v room = writeRow s k (rowFor k (length v)) v room
 
 -- the state, the count of bytes written, and the answer
 abbrev pub writtenOf : Write → Written
@@ -92,6 +100,12 @@ pub record Ready (s : State) : Type 0 where
   pub range : InRange s
   pub early : s .account .stage < 2
   pub none : s .count ≡ 0
+
+-- v are values of kind k, as many as the fields of their row
+pub record OfKind (k row : ℕ) (v : List ℕ) : Type 0 where
+  pub least : 1 ≤ k
+  pub most : k ≤ lastKind
+  pub count : length v ≡ length (fields row)
 
 -- what the reader says by the account that it reaches
 abbrev pub saying : Account → Answer

@@ -1,4 +1,4 @@
-// The kinds, each by its number: what its values do, and its record.
+// The rows of the table, each by its number: what its values do, and its record.
 use account::Account;
 use account::Judged;
 ghost use mathlib.Core.Path.{_≡_};
@@ -67,11 +67,11 @@ fn twelve_values(v: &[u64]) -> [u64; 12]
 }
 
 // What a record with these values does to the reader's account: LINES_MOST bytes hold any record's lines.
-pub(crate) fn weighed(a: Account, kind: u64, v: &[u64]) -> Judged
-    requires { ⌜ AccountInRange a × (a .stage < 2) × Of kind (now v) ⌝ }
-    ensures { λ j. ⌜ Tells (weigh a kind (now (v .entry))) j ⌝ }
+pub(crate) fn weighed(a: Account, row: u64, v: &[u64]) -> Judged
+    requires { ⌜ AccountInRange a × (a .stage < 2) × Of row (now v) ⌝ }
+    ensures { λ j. ⌜ Tells (weigh a row (now (v .entry))) j ⌝ }
 {
-    match kind {
+    match row {
         1 => rules::farm::weigh(a, three_values(v), codec::LINES_MOST),
         2 => rules::heading::weigh(a, three_values(v), codec::LINES_MOST),
         3 => rules::enteric::weigh(a, three_values(v), codec::LINES_MOST),
@@ -81,16 +81,17 @@ pub(crate) fn weighed(a: Account, kind: u64, v: &[u64]) -> Judged
         7 => rules::soil::weigh(a, one_value(v), codec::LINES_MOST),
         8 => rules::close::weigh(a, one_value(v), codec::LINES_MOST),
         9 => rules::tillage::weigh(a, five_values(v), codec::LINES_MOST),
-        _ => rules::grazing::weigh(a, four_values(v), codec::LINES_MOST),
+        10 => rules::grazing::weigh(a, four_values(v), codec::LINES_MOST),
+        _ => rules::farm_factors::weigh(a, four_values(v), codec::LINES_MOST),
     }
 }
 
 // The record at the start of out.
-pub(crate) fn put(out: &mut [u8], kind: u64, v: &[u64])
-    requires { ⌜ (2 + lengthOf kind ≤ length (now out)) × (firstBad (fields kind) (now v) 0 ≡ 0) × Of kind (now v) ⌝ }
-    ensures { λ _. ⌜ now (out .exit) ≡ sets (now (out .entry)) 0 (recordBytes kind (now (v .entry))) ⌝ }
+pub(crate) fn put(out: &mut [u8], row: u64, v: &[u64])
+    requires { ⌜ (2 + lengthOf row ≤ length (now out)) × (firstBad (fields row) (now v) 0 ≡ 0) × Of row (now v) ⌝ }
+    ensures { λ _. ⌜ now (out .exit) ≡ sets (now (out .entry)) 0 (recordBytes row (now (v .entry))) ⌝ }
 {
-    match kind {
+    match row {
         1 => codec::farm::write(out, 0, three_values(v)),
         2 => codec::heading::write(out, 0, three_values(v)),
         3 => codec::enteric::write(out, 0, three_values(v)),
@@ -100,6 +101,7 @@ pub(crate) fn put(out: &mut [u8], kind: u64, v: &[u64])
         7 => codec::soil::write(out, 0, one_value(v)),
         8 => codec::close::write(out, 0, one_value(v)),
         9 => codec::tillage::write(out, 0, five_values(v)),
-        _ => codec::grazing::write(out, 0, four_values(v)),
+        10 => codec::grazing::write(out, 0, four_values(v)),
+        _ => codec::farm_factors::write(out, 0, four_values(v)),
     }
 }

@@ -10,7 +10,7 @@ ghost use mathlib.Core.Path.{_≡_};
 ghost use Prim.Native.Nat.{_≤_};
 ghost use lib.ListN.{length};
 ghost use Rattle.book.specs.State.{holding};
-ghost use Rattle.make_record.specs.Write.{refusalBy, refusing, write, writtenOf, laid};
+ghost use Rattle.make_record.specs.Write.{refusalBy, refusing, rowFor, write, writtenOf, laid};
 
 // The writer's answer. A refusal goes with its number, the records accepted before it, and the field.
 pub enum Answer {
@@ -61,6 +61,16 @@ fn outside(state: State) -> Written
     refused(state, refusal)
 }
 
+// The row of the table that so many values of the kind are of.
+fn row_for(kind: u64, count: usize) -> u64
+    ensures { λ r. ⌜ r ≡ rowFor kind count ⌝ }
+{
+    if (kind == 1) & (count == 4) {
+        return codec::LAST_ROW;
+    }
+    kind
+}
+
 // What writing the values into a buffer of that many bytes gives, but for the bytes.
 fn answered(state: State, kind: u64, values: &[u64], room: usize) -> Written
     ensures { λ r. ⌜ r ≡ writtenOf (write state kind (now (values .entry)) room) ⌝ }
@@ -79,16 +89,17 @@ fn answered(state: State, kind: u64, values: &[u64], room: usize) -> Written
     if (kind < 1) | (LAST_KIND < kind) {
         return refused_by(state, 3);
     }
-    if values.len() != values_of(kind) {
+    let row = row_for(kind, values.len());
+    if values.len() != values_of(row) {
         return refused_by(state, 4);
     }
-    let j = kinds::weighed(a, kind, values);
+    let j = kinds::weighed(a, row, values);
     let next = j.account;
     if next.stage == 3 {
         let readers = next.refusal;
         return refused(state, readers);
     }
-    let bytes = bytes_of(kind);
+    let bytes = bytes_of(row);
     if room < bytes {
         return refused_by(state, 16);
     }
@@ -111,7 +122,7 @@ pub fn write(state: State, kind: u64, values: &[u64], out: &mut [u8]) -> Written
 {
     let w = answered(state, kind, values, out.len());
     if w.written != 0 {
-        kinds::put(out, kind, values);
+        kinds::put(out, row_for(kind, values.len()), values);
     }
     w
 }

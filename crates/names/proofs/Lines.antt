@@ -12,9 +12,9 @@ use borrow.Author.Tests.{eqb-true, eqb-false}
 use Rattle.base.proofs.Tests.{by-test}
 use Rattle.bytes.specs.Bytes.{indexOf, indexAfter}
 use Rattle.typed_words.specs.Words.{nthPart}
-use Rattle.codec.specs.Table.{table, fields}
+use Rattle.codec.specs.Table.{lastKind, table, fields}
 use Rattle.printing.specs.Ascii.{ascii}
-use Rattle.names.specs.Names.{lineOf, noKind, kindName, namesFrom, decimalsTable, decimalsOf, decimalsAt}
+use Rattle.names.specs.Names.{lineOf, noRow, kindName, namesFrom, decimalsTable, decimalsOf, decimalsAt}
 
 pub line-past : (last k : ℕ) (text : List ℕ) → last < k → nthPart 10 last text ≡ lineOf last k text
 line-past last k text h = let e : min k last ≡ last = omega arith in rw e
@@ -24,13 +24,13 @@ line-within last k text h = let e : min k last ≡ k = omega arith in rw e
 
 -- ---- the names of all kinds, one after the other
 
-pub names-one : (k : ℕ) → k < noKind → namesFrom (noKind - k) k ≡ (ascii ", " ++ kindName k) ++ namesFrom (noKind - (k + 1)) (k + 1)
+pub names-one : (k : ℕ) → k ≤ lastKind → namesFrom (suc lastKind - k) k ≡ (ascii ", " ++ kindName k) ++ namesFrom (suc lastKind - (k + 1)) (k + 1)
 unfolding namesFrom
-names-one k h = let e : noKind - k ≡ suc (noKind - (k + 1)) = omega arith in rw (e, add-one) refl
+names-one k h = let e : suc lastKind - k ≡ suc (suc lastKind - (k + 1)) = omega arith in rw (e, add-one) refl
 
-pub names-none : (k : ℕ) → noKind ≤ k → namesFrom (noKind - k) k ≡ []
+pub names-none : (k : ℕ) → lastKind < k → namesFrom (suc lastKind - k) k ≡ []
 unfolding namesFrom
-names-none k h = let e : noKind - k ≡ 0 = omega arith in rw e refl
+names-none k h = let e : suc lastKind - k ≡ 0 = omega arith in rw e refl
 
 -- every number below n passes the test
 unfoldable pub allBelow : ℕ → (ℕ → Bool) → Bool
@@ -63,9 +63,9 @@ small (b ∷ s) t (suc i) = small s (and-r (leb b 53) (upTo5 s) t) i
 abbrev smallLine : ℕ → Bool
 smallLine k = upTo5 (nthPart 10 k decimalsTable)
 
-small-lines : T (allBelow (suc noKind) smallLine)
+small-lines : T (allBelow (suc noRow) smallLine)
 unfolding allBelow upTo5 nthPart indexOf indexAfter decimalsTable
 small-lines = tt
 
 pub few-decimals : (k i : ℕ) → decimalsAt k i ≤ 5
-few-decimals k i = small (decimalsOf k) (at-below (suc noKind) smallLine small-lines (min k noKind) (omega arith)) i
+few-decimals k i = small (decimalsOf k) (at-below (suc noRow) smallLine small-lines (min k noRow) (omega arith)) i

@@ -18,7 +18,7 @@ use Rattle.typed_words.specs.Words.{nthPart, nthWord, leadingOf}
 use Rattle.typed_words.specs.Amounts.{aWhole, numberFrom, amountOf}
 use Rattle.codec.specs.declared.Field.{Field}
 use Rattle.codec.specs.Table.{field, table, fields}
-use Rattle.names.specs.Names.{noKind, fieldTable, fieldNames, expectedTable, expectedTexts, expected, decimalsTable, decimalsOf, decimalsAt}
+use Rattle.names.specs.Names.{noRow, fieldTable, fieldNames, expectedTable, expectedTexts, expected, decimalsTable, decimalsOf, decimalsAt}
 use Rattle.names.proofs.Lines.{allBelow, at-below}
 
 -- word n of what is expected of a field, as a number with the field's decimals
@@ -48,7 +48,7 @@ rangeTold k i = isWhole (told k i 0) (fieldAt k i .1) && isWhole (told k i 2) (f
 abbrev kindTold : ℕ → Bool
 kindTold k = allBelow (length (fields k)) (rangeTold k)
 
-all-told : T (allBelow noKind kindTold)
+all-told : T (allBelow noRow kindTold)
 unfolding allBelow isWhole amountOf numberFrom nthPart nthWord leadingOf indexOf indexAfter table expectedTable decimalsTable
 all-told = tt
 
@@ -56,10 +56,10 @@ pub ranges-true : (k i : ℕ) → i < length (fields k) → (told k i 0 ≡ aWho
 ranges-true k i h =
     let low = isWhole (told k i 0) (fieldAt k i .1) in
     let high = isWhole (told k i 2) (fieldAt k i .2) in
-    by-test (ltb k noKind)
-    (λ e. let t = at-below (length (fields k)) (rangeTold k) (at-below noKind kindTold all-told k (ltb-true k noKind e)) i h in
+    by-test (ltb k noRow)
+    (λ e. let t = at-below (length (fields k)) (rangeTold k) (at-below noRow kindTold all-told k (ltb-true k noRow e)) i h in
     (is-whole (told k i 0) (fieldAt k i .1) (and-l low high t), is-whole (told k i 2) (fieldAt k i .2) (and-r low high t)))
-    (λ e. absurd (omega (arith, ap length (no-fields k (ltb-false k noKind e)))))
+    (λ e. absurd (omega (arith, ap length (no-fields k (ltb-false k noRow e)))))
 
 -- how many times sep stands in s
 unfoldable pub timesIn : ℕ → List ℕ → ℕ
@@ -76,15 +76,15 @@ countTold k =
     eqb (pieces 44 (nthPart 10 k fieldTable)) (length (fields k))
     && (eqb (pieces 59 (nthPart 10 k expectedTable)) (length (fields k)) && eqb (length (nthPart 10 k decimalsTable)) (length (fields k)))
 
-all-counted : T (allBelow (suc noKind) countTold)
+all-counted : T (allBelow (suc noRow) countTold)
 unfolding allBelow pieces timesIn nthPart indexOf indexAfter table fieldTable expectedTable decimalsTable
 all-counted = tt
 
-same-fields : (k : ℕ) → fields (min k noKind) ≡ fields k
+same-fields : (k : ℕ) → fields (min k noRow) ≡ fields k
 same-fields k =
-    by-test (ltb k noKind)
-    (λ e. let h : k < noKind = ltb-true k noKind e in let m : min k noKind ≡ k = omega arith in rw m)
-    (λ e. let h : noKind ≤ k = ltb-false k noKind e in no-fields (min k noKind) (omega arith) ∙ sym (no-fields k h))
+    by-test (ltb k noRow)
+    (λ e. let h : k < noRow = ltb-true k noRow e in let m : min k noRow ≡ k = omega arith in rw m)
+    (λ e. let h : noRow ≤ k = ltb-false k noRow e in no-fields (min k noRow) (omega arith) ∙ sym (no-fields k h))
 
 pub record Counted (k : ℕ) : Type 0 where
   pub names : pieces 44 (fieldNames k) ≡ length (fields k)
@@ -93,8 +93,8 @@ pub record Counted (k : ℕ) : Type 0 where
 
 pub counts-true : (k : ℕ) → Counted k
 counts-true k =
-    let t = at-below (suc noKind) countTold all-counted (min k noKind) (omega arith) in
-    let n = length (fields (min k noKind)) in
+    let t = at-below (suc noRow) countTold all-counted (min k noRow) (omega arith) in
+    let n = length (fields (min k noRow)) in
     let names = eqb (pieces 44 (fieldNames k)) n in
     let texts = eqb (pieces 59 (expectedTexts k)) n in
     let digits = eqb (length (decimalsOf k)) n in

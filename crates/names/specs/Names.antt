@@ -5,7 +5,7 @@ use mathlib.Core.List.{List, [], _∷_, _++_}
 use lib.ListN.{getD, take}
 use lib.Dec.{leb}
 use Rattle.base.specs.Choice.{pick}
-use Rattle.codec.specs.Table.{lastKind}
+use Rattle.codec.specs.Table.{lastKind, lastRow}
 use Rattle.typed_words.specs.Words.{nthPart}
 use Rattle.printing.specs.Ascii.{ascii}
 
@@ -13,17 +13,17 @@ use Rattle.printing.specs.Ascii.{ascii}
 abbrev pub lineOf : ℕ → ℕ → List ℕ → List ℕ
 lineOf last k text = nthPart 10 (min k last) text
 
--- ---- the kinds: a line for each, from 0; no other has fields
+-- ---- the kinds: a line for each row of the table, from 0, the farm record of version 2 behind the kinds; no other has fields
 
--- the line of what is no kind
-abbrev pub noKind : ℕ
-noKind = suc lastKind
+-- the line of what is no row
+abbrev pub noRow : ℕ
+noRow = suc lastRow
 
 unfoldable pub kindTable : List ℕ
-kindTable = ascii "record\nfarm\nheading\nenteric\ncattle\npig\nenergy\nsoil\nclose\ntillage\ngrazing\nrecord"
+kindTable = ascii "record\nfarm\nheading\nenteric\ncattle\npig\nenergy\nsoil\nclose\ntillage\ngrazing\nfarm\nrecord"
 
 abbrev pub kindName : ℕ → List ℕ
-kindName k = lineOf noKind k kindTable
+kindName k = lineOf noRow k kindTable
 
 -- the names of n kinds from k on, with a comma before each
 unfoldable pub namesFrom : ℕ → ℕ → List ℕ
@@ -47,10 +47,11 @@ fieldTable =
     ++ ascii " area\n"
     ++ ascii " records before it\n"
     ++ ascii " zone, texture, change, years, area\n"
-    ++ ascii " region, column, live weight, fraction"
+    ++ ascii " region, column, live weight, fraction\n"
+    ++ ascii " farm number, year, CH4 factor, N2O factor"
 
 abbrev pub fieldNames : ℕ → List ℕ
-fieldNames k = lineOf noKind k fieldTable
+fieldNames k = lineOf noRow k fieldTable
 
 -- the name of field i, counted from 0
 abbrev pub fieldName : ℕ → ℕ → List ℕ
@@ -71,20 +72,21 @@ expectedTable =
     ++ ascii " 0 to 100000.00 ha\n"
     ++ ascii " 0 to 65535\n"
     ++ ascii " 1 to 9; 1 to 3 (coarse, medium, fine); 1 to 6; 1 to 100; 0 to 100000.00 ha\n"
-    ++ ascii " 1 to 7; 1 to 3 (cows, heifers, calves); 0 to 2000 kg; 0 to 100.00 per cent"
+    ++ ascii " 1 to 7; 1 to 3 (cows, heifers, calves); 0 to 2000 kg; 0 to 100.00 per cent\n"
+    ++ ascii " 0 to 4294967295; 1900 to 2200; 1 to 1000; 1 to 1000"
 
 abbrev pub expectedTexts : ℕ → List ℕ
-expectedTexts k = lineOf noKind k expectedTable
+expectedTexts k = lineOf noRow k expectedTable
 
 abbrev pub expected : ℕ → ℕ → List ℕ
 expected k i = nthPart 59 i (expectedTexts k)
 
 -- how many decimals the fields of a kind have: a digit for each
 unfoldable pub decimalsTable : List ℕ
-decimalsTable = ascii "\n000\n000\n022\n022220222\n024332353535\n010\n2\n0\n00002\n0002"
+decimalsTable = ascii "\n000\n000\n022\n022220222\n024332353535\n010\n2\n0\n00002\n0002\n0000"
 
 abbrev pub decimalsOf : ℕ → List ℕ
-decimalsOf k = lineOf noKind k decimalsTable
+decimalsOf k = lineOf noRow k decimalsTable
 
 -- 0 where there is no such field
 abbrev pub decimalsAt : ℕ → ℕ → ℕ
@@ -104,7 +106,7 @@ unfoldable pub sentenceTable : List ℕ
 sentenceTable =
     ascii "closed\n"
     ++ ascii "a length that no record has: it is 4 to 26\n"
-    ++ ascii "the version is not 1\n"
+    ++ ascii "the version is not 1, nor 2 of a farm record\n"
     ++ ascii "no such kind of record: kinds are 1 to 10\n"
     ++ ascii "a wrong length or count of values\n"
     ++ ascii "the book has 4096 records, and no more go in\n"

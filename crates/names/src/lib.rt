@@ -14,11 +14,11 @@ ghost use Rattle.typed_words.specs.Words.{sameText, lowered};
 ghost use Rattle.names.specs.Names.{lineOf, kindName, kindNames, fieldNames, fieldName, expected, decimalsAt};
 ghost use Rattle.names.specs.Names.{className, sentence, printedByte, shown};
 
-// The line of what is no kind.
-const NO_KIND: u64 = codec::LAST_KIND + 1;
+// The line of what is no row of the book's table.
+const NO_ROW: u64 = codec::LAST_ROW + 1;
 
-// The names of the kinds, a line for each.
-const KINDS: [u8; 79] = *b"record
+// The names of the kinds, a line for each, and one for the farm record of version 2.
+const KINDS: [u8; 84] = *b"record
 farm
 heading
 enteric
@@ -29,6 +29,7 @@ soil
 close
 tillage
 grazing
+farm
 record";
 
 // The line k of a text, counted from 0; from the last on all are the same.
@@ -41,19 +42,19 @@ fn line_of(text: &[u8], last: u64, k: u64) -> &[u8]
     part(text, b'\n', k as usize)
 }
 
-// The kind's name; a kind that the book has not is a record.
+// The name of the row's kind; what is no row of the book's is a record.
 pub fn say_kind(out: &mut [u8], at: usize, kind: u64) -> usize
     requires { ⌜ at ≤ length (now out) ⌝ }
     ensures { λ r. ⌜ Said (now (out .entry)) (now (out .exit)) at (kindName kind) r ⌝ }
 {
-    say(out, at, line_of(&KINDS, NO_KIND, kind))
+    say(out, at, line_of(&KINDS, NO_ROW, kind))
 }
 
 // Whether the word is the kind's name, capitals or not.
 pub fn is_kind_name(word: &[u8], kind: u64) -> bool
     ensures { λ r. ⌜ r ≡ sameText (lowered (now (word .entry))) (kindName kind) ⌝ }
 {
-    is_name(word, line_of(&KINDS, NO_KIND, kind))
+    is_name(word, line_of(&KINDS, NO_ROW, kind))
 }
 
 fn say_next(out: &mut [u8], at: usize, kind: u64) -> usize
@@ -71,7 +72,7 @@ pub fn say_kinds(out: &mut [u8], at: usize) -> usize
 {
     let mut end = say_kind(out, at, 1);
     let mut kind = 2;
-    while kind < NO_KIND {
+    while kind <= codec::LAST_KIND {
         end = say_next(out, end, kind);
         kind += 1;
     }
@@ -94,8 +95,9 @@ fn say_names(out: &mut [u8], at: usize, kind: u64, all: bool, i: usize) -> usize
  area
  records before it
  zone, texture, change, years, area
- region, column, live weight, fraction",
-        NO_KIND,
+ region, column, live weight, fraction
+ farm number, year, CH4 factor, N2O factor",
+        NO_ROW,
         kind,
     );
     if all {
@@ -137,8 +139,9 @@ pub fn say_expected(out: &mut [u8], at: usize, kind: u64, i: usize) -> usize
  0 to 100000.00 ha
  0 to 65535
  1 to 9; 1 to 3 (coarse, medium, fine); 1 to 6; 1 to 100; 0 to 100000.00 ha
- 1 to 7; 1 to 3 (cows, heifers, calves); 0 to 2000 kg; 0 to 100.00 per cent",
-        NO_KIND,
+ 1 to 7; 1 to 3 (cows, heifers, calves); 0 to 2000 kg; 0 to 100.00 per cent
+ 0 to 4294967295; 1900 to 2200; 1 to 1000; 1 to 1000",
+        NO_ROW,
         kind,
     );
     say(out, at, part(texts, b';', i))
@@ -174,8 +177,9 @@ pub fn decimals(kind: u64, i: usize) -> usize
 2
 0
 00002
-0002",
-        NO_KIND,
+0002
+0000",
+        NO_ROW,
         kind,
     );
     digit_at(digits, i)
@@ -204,7 +208,7 @@ pub fn say_sentence(out: &mut [u8], at: usize, code: u64) -> usize
     let words = line_of(
         b"closed
 a length that no record has: it is 4 to 26
-the version is not 1
+the version is not 1, nor 2 of a farm record
 no such kind of record: kinds are 1 to 10
 a wrong length or count of values
 the book has 4096 records, and no more go in

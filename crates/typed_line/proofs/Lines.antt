@@ -3,7 +3,7 @@
 use Prim.Native.Nat.{ℕ, suc, _+_, _-_, _≤_, _<_}
 use mathlib.Core.Path.{_≡_, refl, sym, ap, _∙_}
 use mathlib.Core.List.{List, [], _∷_, _++_, append-nil}
-use mathlib.Core.Bool.{Bool, true, false, _&&_}
+use mathlib.Core.Bool.{Bool, true, false, _&&_, not}
 use native.Mathlib.Omega.{arith}
 use native.Mathlib.Numerals.{add-one}
 use mathlib.Core.Logic.{⊎-elim}
@@ -24,7 +24,7 @@ use Rattle.make_record.specs.Write.{write, writtenOf, laid}
 use Rattle.typed_line.specs.declared.Values.{Values}
 use Rattle.typed_line.specs.declared.Entry.{Entry}
 use Rattle.typed_line.specs.declared.Said.the-variants.{Nothing, Record, Wrong}
-use Rattle.typed_line.specs.Line.{namedFrom, kindOf, Read, nothingMore, wrongAt, with, valueAt, valuesFrom, padded, listed, entry, noRecord, byKind, lineOf, completedOf, valuesIn, writeEntry}
+use Rattle.typed_line.specs.Line.{namedFrom, kindOf, rowOfLine, Read, nothingMore, wrongAt, with, valueAt, valuesFrom, padded, listed, entry, noRecord, byKind, lineOf, completedOf, valuesIn, writeEntry}
 
 -- ---- a word among the names of the kinds
 
@@ -57,6 +57,23 @@ module _ (w : List ℕ) {n : ℕ} (e : n ≡ namedFrom lastKind 0 (lowered w)) w
   pub by-name : (n ≡ 0 → ⊥) → record { good = true; value = n } ≡ kindOf w
   unfolding kindOf
   by-name h = rw (← e, ne-eqb _ _ h)
+
+-- ---- the row of a line
+
+module _ (kind : ℕ) (line : List ℕ) where
+  pub no-row : lastKind < kind → 0 ≡ rowOfLine kind line
+  unfolding rowOfLine
+  no-row h = rw (lt-ltb _ _ h)
+
+  -- w and x are its fourth and its fifth word behind the kind
+  module _ (h : kind ≤ lastKind) {w x : List ℕ} (e : w ≡ nthWord 4 line) (f : x ≡ nthWord 5 line) where
+    pub row-second : eqb kind 1 && (not (eqb (length w) 0) && eqb (length x) 0) ≡ true → 11 ≡ rowOfLine kind line
+    unfolding rowOfLine
+    row-second t = rw (le-ltb _ _ h, ← e, ← f, t)
+
+    pub row-kind : eqb kind 1 && (not (eqb (length w) 0) && eqb (length x) 0) ≡ false → kind ≡ rowOfLine kind line
+    unfolding rowOfLine
+    row-kind t = rw (le-ltb _ _ h, ← e, ← f, t)
 
 -- ---- the values, one after the other
 
@@ -190,15 +207,18 @@ module _ (text : List ℕ) where
       pub wrong-kind : kind .good ≡ false → noRecord (Wrong 0 1) ≡ lineOf text
       wrong-kind b = sym (by-kind ∙ rw b)
 
-      module _ (good : kind .good ≡ true) {v : Values} (f : v ≡ listed (valuesFrom 512 0 (kind .value) text)) where
-        wrong-is : v .wrong ≡ valuesFrom 512 0 (kind .value) text .wrong
-        wrong-is = ap (λ (x : Values). x .wrong) f
+      module _ (good : kind .good ≡ true) {v : Values} {row : ℕ} (l : row ≡ rowOfLine (kind .value) text) (f : v ≡ listed (valuesFrom 512 0 row text)) where
+        read-so : v ≡ listed (valuesFrom 512 0 (rowOfLine (kind .value) text) text)
+        read-so = rw l at f
+
+        wrong-is : v .wrong ≡ valuesFrom 512 0 (rowOfLine (kind .value) text) text .wrong
+        wrong-is = ap (λ (x : Values). x .wrong) read-so
 
         pub wrong-value : (v .wrong ≡ 0 → ⊥) → noRecord (Wrong (kind .value) (v .wrong)) ≡ lineOf text
         wrong-value n = sym (by-kind ∙ rw (good, ← wrong-is, ne-eqb _ _ n))
 
         pub says-record : v .wrong ≡ 0 → record { said = Record; entry = record { kind = kind .value; values = v .values; count = v .count } } ≡ lineOf text
-        says-record z = sym (by-kind ∙ rw (good, ← wrong-is, eq-eqb _ _ z, f))
+        says-record z = sym (by-kind ∙ rw (good, ← wrong-is, eq-eqb _ _ z, read-so))
 
 -- ---- an entry, completed and written
 

@@ -1,6 +1,7 @@
--- One answer: read_line and write_entry ask nothing of their callers, and two answers that meet a contract are equal. The contracts are those of
--- the source itself: Learnt is what a caller learns from a function's `ensures`, Asked what its `requires` ask.
+-- One answer: read_line, row_of_line and write_entry ask nothing of their callers, and two answers that meet a contract are equal. The contracts are
+-- those of the source itself: Learnt is what a caller learns from a function's `ensures`, Asked what its `requires` ask.
 -- Assumes nothing.
+use Prim.Native.Nat.{ℕ}
 use mathlib.Core.Path.{_≡_, sym, _∙_}
 use contract.Lifetimes.{Lfts}
 use borrow.Fn.Kinds.{Dens, endedOf}
@@ -10,11 +11,16 @@ use Rattle.make_record.specs.declared.Written.{Written}
 use Rattle.typed_line.specs.declared.Line.{Line}
 use Rattle.typed_line.proofs.read_line.Kinds as line
 use Rattle.typed_line.proofs.read_line.Reads as line-contract
+use Rattle.typed_line.proofs.row_of_line.Kinds as row
+use Rattle.typed_line.proofs.row_of_line.Reads as row-contract
 use Rattle.typed_line.proofs.write_entry.Kinds as entry
 use Rattle.typed_line.proofs.write_entry.Reads as entry-contract
 
 pub read-line-asks-nothing : (κs : Lfts 1) (args : Dens κs line.ps) → line-contract.Asked κs args
 read-line-asks-nothing κs args = tt
+
+pub row-of-line-asks-nothing : (κs : Lfts 1) (args : Dens κs row.ps) → row-contract.Asked κs args
+row-of-line-asks-nothing κs args = tt
 
 pub write-entry-asks-nothing : (κs : Lfts 1) (args : Dens κs entry.ps) → entry-contract.Asked κs args
 write-entry-asks-nothing κs args = tt
@@ -23,6 +29,11 @@ write-entry-asks-nothing κs args = tt
 pub one-line : (κs : Lfts 1) (args : Dens κs line.ps) (f g : Line) (e e′ : AtExit (endedOf 1 line.ps line.r) κs)
     → line-contract.Learnt κs args f e → line-contract.Learnt κs args g e′ → f ≡ g
 one-line κs args f g e e′ p q = p ∙ sym q
+
+-- Two rows that meet row_of_line's contract are equal.
+pub one-row : (κs : Lfts 1) (args : Dens κs row.ps) (f g : ℕ) (e e′ : AtExit (endedOf 1 row.ps row.r) κs)
+    → row-contract.Learnt κs args f e → row-contract.Learnt κs args g e′ → f ≡ g
+one-row κs args f g e e′ p q = p ∙ sym q
 
 -- Two answers that meet write_entry's contract are equal: all of Written, and the buffer at the end (the third parameter, out).
 pub one-entry : (κs : Lfts 1) (args : Dens κs entry.ps) (f g : Written) (e e′ : AtExit (endedOf 1 entry.ps entry.r) κs)

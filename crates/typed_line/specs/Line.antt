@@ -1,10 +1,10 @@
 -- Document 02, W1: "Advisers now type a book into one program". One record a line: the kind's name or number, then its values in the order of
 -- document 01 with blanks between; a line with no word says nothing. What stands behind a # is gone before a line comes here.
 use Prim.Native.Nat.{ℕ, zero, suc, _-_}
-use mathlib.Core.Bool.{true, _&&_}
+use mathlib.Core.Bool.{Bool, true, _&&_, not}
 use mathlib.Core.List.{List, [], _∷_, _++_}
 use lib.ListN.{length, take, replicate}
-use lib.Dec.{eqb, leb}
+use lib.Dec.{eqb, leb, ltb}
 use Rattle.base.specs.Choice.{pick}
 use Rattle.codec.specs.Table.{lastKind}
 use Rattle.typed_words.specs.declared.Whole.{Whole}
@@ -30,6 +30,17 @@ namedFrom (suc n) k w = pick (sameText w (kindName (suc k))) (suc k) (namedFrom 
 unfoldable pub kindOf : List ℕ → Whole
 kindOf w = pick (eqb (namedFrom lastKind 0 (lowered w)) 0) (amountOf 0 w) (record { good = true; value = namedFrom lastKind 0 (lowered w) })
 
+-- ---- the row of the table
+
+-- exactly four words stand behind the first
+abbrev pub fourWords : List ℕ → Bool
+fourWords line = not (eqb (length (nthWord 4 line)) 0) && eqb (length (nthWord 5 line)) 0
+
+-- the row that a line of some kind is read by: a farm line with four words behind its kind is one of version 2. A number that is no kind has the row 0,
+-- which has no fields
+unfoldable pub rowOfLine : ℕ → List ℕ → ℕ
+rowOfLine kind line = pick (ltb lastKind kind) 0 (pick (eqb kind 1 && fourWords line) 11 kind)
+
 -- ---- the values
 
 -- the values read, and the place of the first word that is no whole number, counted from 1; 0 where each is one
@@ -46,17 +57,17 @@ wrongAt place = record { values = []; wrong = place }
 abbrev pub with : ℕ → Read → Read
 with v r = record { values = v ∷ r .values; wrong = r .wrong }
 
--- a word as the value of a kind's field i, counted from 0: digits alone are the book's unit, a number with a point the unit that people say
+-- a word as the value of a row's field i, counted from 0: digits alone are the book's unit, a number with a point the unit that people say
 abbrev pub valueAt : ℕ → ℕ → List ℕ → Whole
-valueAt kind i word = amountOf (decimalsAt kind i) word
+valueAt row i word = amountOf (decimalsAt row i) word
 
--- at most n values of a kind, from field i on: the words behind the kind's
+-- at most n values of a row, from field i on: the words behind the kind's
 unfoldable pub valuesFrom : ℕ → ℕ → ℕ → List ℕ → Read
-valuesFrom zero i kind line = nothingMore
-valuesFrom (suc n) i kind line =
+valuesFrom zero i row line = nothingMore
+valuesFrom (suc n) i row line =
     pick (eqb (length (nthWord (suc i) line)) 0) nothingMore
-    (pick (valueAt kind i (nthWord (suc i) line) .good)
-    (with (valueAt kind i (nthWord (suc i) line) .value) (valuesFrom n (suc i) kind line))
+    (pick (valueAt row i (nthWord (suc i) line) .good)
+    (with (valueAt row i (nthWord (suc i) line) .value) (valuesFrom n (suc i) row line))
     (wrongAt (suc (suc i))))
 
 -- the first 13, zeros behind
@@ -79,7 +90,7 @@ abbrev pub byValues : ℕ → Read → Line
 byValues kind r = pick (eqb (r .wrong) 0) (record { said = Record; entry = entry kind (r .values) }) (noRecord (Wrong kind (r .wrong)))
 
 abbrev pub byKind : Whole → List ℕ → Line
-byKind kind text = pick (kind .good) (byValues (kind .value) (valuesFrom 512 0 (kind .value) text)) (noRecord (Wrong 0 1))
+byKind kind text = pick (kind .good) (byValues (kind .value) (valuesFrom 512 0 (rowOfLine (kind .value) text) text)) (noRecord (Wrong 0 1))
 
 -- what a line says that has no comment: a line of 1,024 bytes or more is not read; the others have no more than 512 words
 unfoldable pub lineOf : List ℕ → Line

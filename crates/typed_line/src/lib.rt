@@ -8,7 +8,7 @@ ghost use lib.ListN.{length};
 ghost use Rattle.codec.specs.Table.{lastKind};
 ghost use Rattle.typed_words.specs.Words.{lowered};
 ghost use Rattle.make_record.specs.Write.{writtenOf, laid};
-ghost use Rattle.typed_line.specs.Line.{namedFrom, kindOf, valuesFrom, listed, noRecord, lineOf, completedOf, writeEntry};
+ghost use Rattle.typed_line.specs.Line.{namedFrom, kindOf, rowOfLine, valuesFrom, listed, noRecord, lineOf, completedOf, writeEntry};
 
 // How many values are typed and the first 13 of them, zeros behind; the place of a word that is no number, counted from 1, or 0.
 struct Values {
@@ -65,9 +65,24 @@ fn read_kind(word: &[u8]) -> Whole
     }
 }
 
+// The row of the table that a line of the kind is read by.
+pub fn row_of_line(kind: u64, line: &[u8]) -> u64
+    ensures { λ r. ⌜ r ≡ rowOfLine kind (now (line .entry)) ⌝ }
+{
+    if codec::LAST_KIND < kind {
+        return 0;
+    }
+    let fourth = typed_words::word(line, 4);
+    let fifth = typed_words::word(line, 5);
+    if (kind == 1) & ((fourth.len() != 0) & (fifth.len() == 0)) {
+        return codec::LAST_ROW;
+    }
+    kind
+}
+
 // The words behind the kind, as numbers: a line has no more than 512 words.
-fn read_values(line: &[u8], kind: u64) -> Values
-    ensures { λ r. ⌜ r ≡ listed (valuesFrom 512 0 kind (now (line .entry))) ⌝ }
+fn read_values(line: &[u8], row: u64) -> Values
+    ensures { λ r. ⌜ r ≡ listed (valuesFrom 512 0 row (now (line .entry))) ⌝ }
 {
     let mut values = [0u64; 13];
     let mut count = 0;
@@ -80,7 +95,7 @@ fn read_values(line: &[u8], kind: u64) -> Values
                 wrong: 0,
             };
         }
-        let number = typed_words::read_amount(word, names::decimals(kind, count));
+        let number = typed_words::read_amount(word, names::decimals(row, count));
         if !number.good {
             return Values {
                 values: values,
@@ -129,7 +144,8 @@ pub fn read_line(text: &[u8]) -> Line
     if !kind.good {
         return without(Said::Wrong(0, 1));
     }
-    let v = read_values(text, kind.value);
+    let row = row_of_line(kind.value, text);
+    let v = read_values(text, row);
     if v.wrong != 0 {
         return without(Said::Wrong(kind.value, v.wrong));
     }

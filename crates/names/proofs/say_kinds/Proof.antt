@@ -1,12 +1,13 @@
 -- One name behind another. Assumes nothing.
-use Prim.Native.Nat.{ℕ, _-_, _≤_}
+use Prim.Native.Nat.{ℕ, suc, _-_, _≤_}
 use mathlib.Core.Path.{_≡_, refl, _∙_}
 use mathlib.Core.List.{List}
 use native.Mathlib.Omega.{arith}
 use lib.ListN.{length}
+use Rattle.codec.specs.Table.{lastKind}
 use Rattle.printing.specs.Said.{Said}
 use Rattle.printing.proofs.Sayings.{_⟫_, said-none}
-use Rattle.names.specs.Names.{noKind, namesFrom, kindNames}
+use Rattle.names.specs.Names.{namesFrom, kindNames}
 use Rattle.names.proofs.Lines.{names-one, names-none}
 use borrow.Author.Needs.{needs}
 use Rattle.names.proofs.say_kinds.Statement.{statement}
@@ -16,13 +17,13 @@ use Rattle.names.proofs.say_kinds.Tie as tie
 record SoFar (out₀ : List ℕ) (end₀ : ℕ) (out : List ℕ) (end kind : ℕ) : Type 0 where
   same : length out ≡ length out₀
   inside : end ≤ length out
-  rest : (zs : List ℕ) (q : ℕ) → Said out zs end (namesFrom (noKind - kind) kind) q → Said out₀ zs end₀ (namesFrom (noKind - 2) 2) q
+  rest : (zs : List ℕ) (q : ℕ) → Said out zs end (namesFrom (suc lastKind - kind) kind) q → Said out₀ zs end₀ (namesFrom (suc lastKind - 2) 2) q
 
 abbrev Inv-loop : tie.InvT-loop
 Inv-loop out₀ at end₀ kind₀ out end kind = SoFar out₀ end₀ out end kind
 
 abbrev μ-loop : tie.MeasureT-loop
-μ-loop out₀ at end₀ kind₀ out end kind = noKind - kind
+μ-loop out₀ at end₀ kind₀ out end kind = suc lastKind - kind
 
 pub say-kinds-spec : {M : Type 1} → statement M
 unfolding kindNames

@@ -14,18 +14,20 @@ no-kind c =
 
 no-value : tie.Need-returns-4
 no-value c =
-    let kind = c .before .before .before .before in
+    let row = c .before .before .before .before in
+    let kind = row .before in
     let front = kind .before .before .before in
     c .without4 .ensures
     ∙ wrong-value _ (front .before .before .if1 .left) (front .before .word .ensures) (front .if2 .left) (kind .before .before .read-kind .ensures) (not-false _ (kind .if3 .left))
-    (c .before .before .before .read-values .ensures) (c .before .if4 .taken)
+    (row .row-of-line .ensures) (c .before .before .before .read-values .ensures) (c .before .if4 .taken)
 
 a-record : tie.Need-returns-5
 a-record c =
-    let kind = c .before .before .before .before in
+    let row = c .before .before .before .before in
+    let kind = row .before in
     let front = kind .before .before .before in
     says-record _ (front .before .before .if1 .left) (front .before .word .ensures) (front .if2 .left) (kind .before .before .read-kind .ensures) (not-false _ (kind .if3 .left))
-    (c .before .before .before .read-values .ensures) (c .before .if4 .left)
+    (row .row-of-line .ensures) (c .before .before .before .read-values .ensures) (c .before .if4 .left)
 
 pub read-line-spec : {M : Type 1} → statement M
 read-line-spec =
@@ -39,6 +41,7 @@ read-line-spec =
     (λ c κs. search needs)
     (λ c κs. search needs)
     no-kind
+    (λ c κs. search needs)
     (λ c κs. search needs)
     (λ c κs. search needs)
     no-value

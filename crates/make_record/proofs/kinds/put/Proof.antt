@@ -1,18 +1,18 @@
 -- What the kind's own function stores. Assumes nothing.
 use mathlib.Core.Path.{_≡_, refl}
 use native.Mathlib.Omega.{arith}
-use Rattle.codec.proofs.EachKind.{last-kind}
+use Rattle.codec.proofs.EachKind.{last-row}
 use Rattle.codec.specs.Table.{table, size}
 use Rattle.make_record.proofs.ByKind.{counted, fitting, stored}
 use Rattle.make_record.proofs.kinds.put.Statement.{statement}
 use Rattle.make_record.proofs.kinds.put.Tie as tie
 
-ten : (c : tie.At-match-rest) → c .before .before .before .args .kind ≡ 10
-ten c =
+eleven : (c : tie.At-match-rest) → c .before .before .before .args .row ≡ 11
+eleven c =
     let r = c .match .rest in
     let o = c .before .before .before .pre .2 in
     let s = r .0 .0 .0 .0 .0 in
-    last-kind _ (o .least) (o .most) (s .0 .0 .0 .1) (s .0 .0 .1) (s .0 .1) (s .1) (r .0 .0 .0 .0 .1) (r .0 .0 .0 .1) (r .0 .0 .1) (r .0 .1) (r .1)
+    last-row _ (o .least) (o .most) (s .0 .0 .0 .0 .1) (s .0 .0 .0 .1) (s .0 .0 .1) (s .0 .1) (s .1) (r .0 .0 .0 .0 .1) (r .0 .0 .0 .1) (r .0 .0 .1) (r .0 .1) (r .1)
 
 pub put-spec : {M : Type 1} → statement M
 unfolding table size
@@ -37,8 +37,10 @@ put-spec =
     (λ c κs. fitting 8 (c .before .before .match .keys8) (c .one-value2 .ensures) (c .before .before .before .before .before .pre .0) (c .before .before .before .before .before .pre .1))
     (λ c κs. counted 9 (c .before .match .keys9) 5 refl (c .before .before .before .before .pre .2))
     (λ c κs. fitting 9 (c .before .before .match .keys9) (c .five-values .ensures) (c .before .before .before .before .before .pre .0) (c .before .before .before .before .before .pre .1))
-    (λ c κs. counted 10 (ten (c .before)) 4 refl (c .before .before .before .before .pre .2))
-    (λ c κs. fitting 10 (ten (c .before .before)) (c .four-values .ensures) (c .before .before .before .before .before .pre .0) (c .before .before .before .before .before .pre .1))
+    (λ c κs. counted 10 (c .before .match .keys10) 4 refl (c .before .before .before .before .pre .2))
+    (λ c κs. fitting 10 (c .before .before .match .keys10) (c .four-values .ensures) (c .before .before .before .before .before .pre .0) (c .before .before .before .before .before .pre .1))
+    (λ c κs. counted 11 (eleven (c .before)) 4 refl (c .before .before .before .before .pre .2))
+    (λ c κs. fitting 11 (eleven (c .before .before)) (c .four-values2 .ensures) (c .before .before .before .before .before .pre .0) (c .before .before .before .before .before .pre .1))
     (λ c. omega arith)
     (λ c. stored 1 (c .before .before .before .before .before .match .keys1) (c .before .before .before .three-values .ensures) _ (c .before .before .write .ensures))
     (λ c. omega arith)
@@ -58,4 +60,6 @@ put-spec =
     (λ c. omega arith)
     (λ c. stored 9 (c .before .before .before .before .before .match .keys9) (c .before .before .before .five-values .ensures) _ (c .before .before .write9 .ensures))
     (λ c. omega arith)
-    (λ c. stored 10 (ten (c .before .before .before .before .before)) (c .before .before .before .four-values .ensures) _ (c .before .before .write10 .ensures)))
+    (λ c. stored 10 (c .before .before .before .before .before .match .keys10) (c .before .before .before .four-values .ensures) _ (c .before .before .write10 .ensures))
+    (λ c. omega arith)
+    (λ c. stored 11 (eleven (c .before .before .before .before .before)) (c .before .before .before .four-values2 .ensures) _ (c .before .before .write11 .ensures)))

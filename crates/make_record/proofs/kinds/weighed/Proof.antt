@@ -1,17 +1,17 @@
 -- What the kind's own function tells. Assumes nothing.
 use mathlib.Core.Path.{_≡_, refl}
-use Rattle.codec.proofs.EachKind.{last-kind}
+use Rattle.codec.proofs.EachKind.{last-row}
 use Rattle.codec.specs.Table.{table}
 use Rattle.make_record.proofs.ByKind.{counted, told}
 use Rattle.make_record.proofs.kinds.weighed.Statement.{statement}
 use Rattle.make_record.proofs.kinds.weighed.Tie as tie
 
-ten : (c : tie.At-match-rest) → c .before .before .args .kind ≡ 10
-ten c =
+eleven : (c : tie.At-match-rest) → c .before .before .args .row ≡ 11
+eleven c =
     let r = c .match .rest in
     let o = c .before .before .pre .2 in
     let s = r .0 .0 .0 .0 .0 in
-    last-kind _ (o .least) (o .most) (s .0 .0 .0 .1) (s .0 .0 .1) (s .0 .1) (s .1) (r .0 .0 .0 .0 .1) (r .0 .0 .0 .1) (r .0 .0 .1) (r .0 .1) (r .1)
+    last-row _ (o .least) (o .most) (s .0 .0 .0 .0 .1) (s .0 .0 .0 .1) (s .0 .0 .1) (s .0 .1) (s .1) (r .0 .0 .0 .0 .1) (r .0 .0 .0 .1) (r .0 .0 .1) (r .0 .1) (r .1)
 
 pub weighed-spec : {M : Type 1} → statement M
 unfolding table
@@ -36,7 +36,9 @@ weighed-spec =
     (λ c κs. (c .before .before .before .pre .0, c .before .before .before .pre .1))
     (λ c κs. counted 9 (c .match .keys9) 5 refl (c .before .before .pre .2))
     (λ c κs. (c .before .before .before .pre .0, c .before .before .before .pre .1))
-    (λ c κs. counted 10 (ten c) 4 refl (c .before .before .pre .2))
+    (λ c κs. counted 10 (c .match .keys10) 4 refl (c .before .before .pre .2))
+    (λ c κs. (c .before .before .before .pre .0, c .before .before .before .pre .1))
+    (λ c κs. counted 11 (eleven c) 4 refl (c .before .before .pre .2))
     (λ c κs. (c .before .before .before .pre .0, c .before .before .before .pre .1))
     (λ c. told 1 (c .before .before .match .keys1) (c .before .three-values .ensures) _ (c .weigh .ensures))
     (λ c. told 2 (c .before .before .match .keys2) (c .before .three-values2 .ensures) _ (c .weigh2 .ensures))
@@ -47,4 +49,5 @@ weighed-spec =
     (λ c. told 7 (c .before .before .match .keys7) (c .before .one-value .ensures) _ (c .weigh7 .ensures))
     (λ c. told 8 (c .before .before .match .keys8) (c .before .one-value2 .ensures) _ (c .weigh8 .ensures))
     (λ c. told 9 (c .before .before .match .keys9) (c .before .five-values .ensures) _ (c .weigh9 .ensures))
-    (λ c. told 10 (ten (c .before .before)) (c .before .four-values .ensures) _ (c .weigh10 .ensures)))
+    (λ c. told 10 (c .before .before .match .keys10) (c .before .four-values .ensures) _ (c .weigh10 .ensures))
+    (λ c. told 11 (eleven (c .before .before)) (c .before .four-values2 .ensures) _ (c .weigh11 .ensures)))
