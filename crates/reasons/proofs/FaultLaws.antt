@@ -11,17 +11,17 @@ use lib.Dec.{ltb, leb, eqb}
 use lib.ListN.{length, getD}
 use Rattle.base.specs.Choice.{pick}
 use Rattle.base.proofs.Tests.{and-l, and-r, of-choice, no-bool, not-false, not-true}
-use Rattle.codec.specs.Table.{table, fields, lengthOf, linesMost, isKind}
+use Rattle.codec.specs.Table.{table, fields, lengthOf, linesMost, isRow}
 use Rattle.codec.specs.Codec.{firstBad}
 use Rattle.codec.proofs.Within.{Within, ranges, bad-position}
 use Rattle.account.specs.declared.Account.{Account}
 use Rattle.account.specs.declared.Judged.{Judged}
 use Rattle.account.specs.Sorts.{sortOf}
-use Rattle.account.specs.Judge.{WholeRecord, kindOf, valuesOf, first, refusals, refused, NotRefused, Step, accepted, judge}
+use Rattle.account.specs.Judge.{WholeRecord, versionOf, kindByte, kindOf, valuesOf, first, refusals, refused, NotRefused, Step, accepted, judge}
 use Rattle.account.specs.Told.{TellsIn}
 use Rattle.account.specs.Compared.{badField, sharesOf, partsOf, grazedWith}
 use Rattle.account.proofs.Told.{tells-fit, lines-short}
-use Rattle.codec.proofs.EachKind.{kind-least, kind-most, each-kind}
+use Rattle.codec.proofs.EachKind.{row-least, row-most, row-of-kind, each-row}
 use Rattle.account.proofs.Sorts.{by-sort}
 use Rattle.account.proofs.Refusals.{none-refuses, refused-by, number-most, judged-passes}
 use Rattle.reasons.specs.Inner.{Sized, Parted, Faulty}
@@ -120,22 +120,22 @@ faulty-told {a} {r} e b w h s = rw (e, b) (faulty a r h (rw e at s) w)
 
 -- ---- what a number says of the record
 
-fields-few : (k : ℕ) → isKind k ≡ true → length (fields k) ≤ 12
+fields-few : (k : ℕ) → isRow k ≡ true → length (fields k) ≤ 12
 unfolding table
 fields-few =
-    each-kind (λ (k : ℕ). length (fields k) ≤ 12) (omega arith) (omega arith) (omega arith) (omega arith) (omega arith) (omega arith) (omega arith)
-    (omega arith) (omega arith) (omega arith)
+    each-row (λ (k : ℕ). length (fields k) ≤ 12) (omega arith) (omega arith) (omega arith) (omega arith) (omega arith) (omega arith) (omega arith)
+    (omega arith) (omega arith) (omega arith) (omega arith)
 
 module _ {a : Account} {r : List ℕ} {code field : ℕ} (f : Faulty a r code field) where
-  -- from 4 on its kind is one of the book's, from 5 on its length is the kind's
-  pub kind-in : 4 ≤ code → isKind (kindOf r) ≡ true
-  kind-in h = not-false _ (f .broken .kind .0 (omega arith))
+  -- from 4 on it has a row of the table, from 5 on its length is the row's
+  pub row-in : 4 ≤ code → isRow (kindOf r) ≡ true
+  row-in h = row-of-kind (versionOf r) (kindByte r) (not-false _ (f .broken .kind .0 (omega arith)))
 
   pub sized : 5 ≤ code → Sized r
   sized h =
-      let k = kind-in (omega arith) in
+      let k = row-in (omega arith) in
       let l = eqb-true _ _ (not-false _ (f .broken .long .0 (omega arith))) in
-      record { least = kind-least (kindOf r) k; most = kind-most (kindOf r) k; long = f .whole .long ∙ ap (λ (n : ℕ). n + 2) l }
+      record { least = row-least (kindOf r) k; most = row-most (kindOf r) k; long = f .whole .long ∙ ap (λ (n : ℕ). n + 2) l }
 
   -- the position of a field out of its range
   pub position-is : code ≡ 7 → (field ≡ badField (kindOf r) (valuesOf r)) × (1 ≤ field) × (field ≤ 12)
@@ -143,7 +143,7 @@ module _ {a : Account} {r : List ℕ} {code field : ℕ} (f : Faulty a r code fi
       let p : field ≡ badField (kindOf r) (valuesOf r) = f .position ∙ rw e refl in
       let n : badField (kindOf r) (valuesOf r) ≡ 0 → ⊥ = eqb-false _ _ (not-true _ (f .broken .values .inRange .1 (sym e))) in
       let m = bad-position (fields (kindOf r)) (valuesOf r) 0 in
-      (p, omega (arith, p, n), omega (arith, p, m, fields-few (kindOf r) (kind-in (omega arith))))
+      (p, omega (arith, p, n), omega (arith, p, m, fields-few (kindOf r) (row-in (omega arith))))
 
   -- from 8 on each value is in its range
   pub in-range : 8 ≤ code → (i : ℕ) → i < length (fields (kindOf r)) → Within (getD (fields (kindOf r)) i (0, 0, 0)) (getD (valuesOf r) (0 + i) 0)

@@ -1,4 +1,4 @@
--- The ranges of document 01's table as the code has them, a row for each kind and a column for each field, held to the table by one computed test.
+-- The ranges of document 01's table as the code has them, a row for each row of it and a column for each field, held to the table by one computed test.
 -- Assumes nothing.
 use Prim.Native.Nat.{ℕ, zero, suc, _-_, _≤_, _<_}
 use mathlib.Core.Path.{_≡_, refl, ap}
@@ -10,7 +10,7 @@ use mathlib.Core.Logic.{⊎-elim}
 use lib.ListN.{getD}
 use lib.Dec.{eqb}
 use Rattle.base.proofs.Tests.{and-l, and-r, lt-or-ge}
-use Rattle.codec.specs.Table.{field, table, fields, lastKind}
+use Rattle.codec.specs.Table.{field, table, fields, lastRow}
 use Rattle.account.specs.Compared.{rangeOf}
 
 -- the lowest value of each field; 0 where there is no field
@@ -27,6 +27,7 @@ lowestValues =
     ∷ (0 ∷ 0 ∷ 0 ∷ 0 ∷ 0 ∷ 0 ∷ 0 ∷ 0 ∷ 0 ∷ 0 ∷ 0 ∷ 0 ∷ [])
     ∷ (1 ∷ 1 ∷ 1 ∷ 1 ∷ 0 ∷ 0 ∷ 0 ∷ 0 ∷ 0 ∷ 0 ∷ 0 ∷ 0 ∷ [])
     ∷ (1 ∷ 1 ∷ 0 ∷ 0 ∷ 0 ∷ 0 ∷ 0 ∷ 0 ∷ 0 ∷ 0 ∷ 0 ∷ 0 ∷ [])
+    ∷ (0 ∷ 1900 ∷ 1 ∷ 1 ∷ 0 ∷ 0 ∷ 0 ∷ 0 ∷ 0 ∷ 0 ∷ 0 ∷ 0 ∷ [])
     ∷ []
 
 -- the highest value of each field; 0 where there is no field
@@ -43,6 +44,7 @@ highestValues =
     ∷ (65535 ∷ 0 ∷ 0 ∷ 0 ∷ 0 ∷ 0 ∷ 0 ∷ 0 ∷ 0 ∷ 0 ∷ 0 ∷ 0 ∷ [])
     ∷ (9 ∷ 3 ∷ 6 ∷ 100 ∷ 10000000 ∷ 0 ∷ 0 ∷ 0 ∷ 0 ∷ 0 ∷ 0 ∷ 0 ∷ [])
     ∷ (7 ∷ 3 ∷ 2000 ∷ 10000 ∷ 0 ∷ 0 ∷ 0 ∷ 0 ∷ 0 ∷ 0 ∷ 0 ∷ 0 ∷ [])
+    ∷ (4294967295 ∷ 2200 ∷ 1000 ∷ 1000 ∷ 0 ∷ 0 ∷ 0 ∷ 0 ∷ 0 ∷ 0 ∷ 0 ∷ 0 ∷ [])
     ∷ []
 
 -- ---- one test of all of them
@@ -66,13 +68,13 @@ sameAt k i =
     eqb (getD (getD lowestValues k []) i 0) (getD (fields k) i (field 0 0 0) .1)
     && eqb (getD (getD highestValues k []) i 0) (getD (fields k) i (field 0 0 0) .2)
 
-all-same : each (λ k. each (sameAt k) 12) (suc lastKind) ≡ true
+all-same : each (λ k. each (sameAt k) 12) (suc lastRow) ≡ true
 unfolding each sameAt lowestValues highestValues table
 all-same = refl
 
-module _ (k i : ℕ) (h : k < suc lastKind) (g : i < 12) where
+module _ (k i : ℕ) (h : k < suc lastRow) (g : i < 12) where
   same-at : sameAt k i ≡ true
-  same-at = each-at (sameAt k) 12 (each-at (λ k. each (sameAt k) 12) (suc lastKind) all-same k h) i g
+  same-at = each-at (sameAt k) 12 (each-at (λ k. each (sameAt k) 12) (suc lastRow) all-same k h) i g
 
   pub lowest-is : getD (getD lowestValues k []) i 0 ≡ getD (fields k) i (field 0 0 0) .1
   unfolding sameAt

@@ -18,7 +18,7 @@ use Rattle.codec.proofs.BigEndian.{one-byte}
 use Rattle.codec.proofs.Within.{Within, ranges}
 use Rattle.account.specs.declared.Account.{Account}
 use Rattle.account.specs.declared.Days.{Days}
-use Rattle.account.specs.Judge.{kindOf, versionOf, valuesOf}
+use Rattle.account.specs.Judge.{versionOf, kindByte, kindOf, valuesOf}
 use Rattle.account.specs.Compared.{Compared, noNumbers, numbers, outside, badField, rangeOf, valueAt, daysWith, valuesCompared, compared}
 use Rattle.book.specs.Front.{Front, unfinished, badLength, whole, front, bad}
 use Rattle.book.proofs.FrontLaws.{length-take-two}
@@ -26,7 +26,7 @@ use Rattle.reasons.specs.declared.Reason.{Reason}
 use Rattle.reasons.specs.declared.compared.Numbers.{Numbers}
 use Rattle.reasons.specs.Why.{reason}
 use Rattle.reasons.specs.declared.Verdict.the-variants.{Missing, NextLength, Refused}
-use Rattle.reasons.specs.Inner.{told, Sized, Parted, partsTold, unread}
+use Rattle.reasons.specs.Inner.{told, Sized, Parted, partsTold, versionTold, unread}
 
 -- ---- one value, by its kind
 
@@ -99,14 +99,21 @@ module _ (a : Account) (k : ℕ) (v : List ℕ) {c : ℕ} {n : Numbers} where
 
 -- ---- and of the record
 
+module _ (r : List ℕ) {x : ℕ} (p : x ≡ valAt r 2 1) {n : Numbers} where
+  pub farm-version : kindByte r ≡ 1 → n ≡ told (outside 1 2 x) → n ≡ versionTold r
+  farm-version k t = t ∙ rw (p, sym (one-byte r 2 (versionOf r) refl), eq-eqb _ _ k) refl
+
+  pub other-version : (kindByte r ≡ 1 → ⊥) → n ≡ told (numbers x 1) → n ≡ versionTold r
+  other-version k t = t ∙ rw (p, sym (one-byte r 2 (versionOf r) refl), ne-eqb _ _ k) refl
+
 module _ (a : Account) (r : List ℕ) {c : ℕ} {n : Numbers} where
-  pub by-two : {x : ℕ} → c ≡ 2 → x ≡ valAt r 2 1 → n ≡ told (numbers x 1) → n ≡ told (compared c a r)
+  pub by-two : c ≡ 2 → n ≡ versionTold r → n ≡ told (compared c a r)
   unfolding compared
-  by-two e p t = t ∙ rw (e, p, sym (one-byte r 2 (versionOf r) refl)) refl
+  by-two e t = t ∙ rw e refl
 
   pub by-three : {x : ℕ} → c ≡ 3 → x ≡ valAt r 3 1 → n ≡ told (outside 1 lastKind x) → n ≡ told (compared c a r)
   unfolding compared
-  by-three e p t = t ∙ rw (e, p, sym (one-byte r 3 (kindOf r) refl)) refl
+  by-three e p t = t ∙ rw (e, p, sym (one-byte r 3 (kindByte r) refl)) refl
 
   pub by-four : {x y : ℕ} → c ≡ 4 → x ≡ valAt r 0 2 → y ≡ lengthOf (kindOf r) → n ≡ told (numbers x y) → n ≡ told (compared c a r)
   unfolding compared
@@ -124,13 +131,14 @@ past-four h p q s = omega (arith, p, q, s)
 -- ---- a length that no record has
 
 pub broken-told : (a : Account) (at : ℕ) (rest : List ℕ) {x : ℕ} {n : Numbers} → 2 ≤ length rest → x ≡ valAt rest 0 2 → n ≡ told (outside 4 26 x)
-    → _≡_ {A = Reason} (record { code = 1; number = a .records; first = at; last = at + 1; field = 0; kind = 0; some = n .some; value = n .value; limit = n .limit })
+    → _≡_ {A = Reason} (record { code = 1; number = a .records; first = at; last = at + 1; field = 0; kind = 0; row = 0; some = n .some; value = n .value; limit = n .limit })
     (reason 1 (a .records) 0 at a (take 2 rest))
 unfolding compared
 broken-told a at rest h p t =
     let l : at + length (take 2 rest) - 1 ≡ at + 1 = omega (arith, length-take-le 2 rest h) in
-    let z : kindOf (take 2 rest) ≡ 0 = List·getD-eq-default (take 2 rest) 0 (omega (arith, length-take-le 2 rest h)) in
-    rw (l, z, length-take-two rest 2 (omega arith), t, p) refl
+    let y : versionOf (take 2 rest) ≡ 0 = List·getD-eq-default (take 2 rest) 0 (omega (arith, length-take-le 2 rest h)) in
+    let z : kindByte (take 2 rest) ≡ 0 = List·getD-eq-default (take 2 rest) 0 (omega (arith, length-take-le 2 rest h)) in
+    rw (l, y, z, length-take-two rest 2 (omega arith), t, p) refl
 
 -- ---- no whole record
 

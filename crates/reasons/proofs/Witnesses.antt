@@ -18,8 +18,16 @@ use Rattle.reasons.specs.declared.Verdict.{Verdict}
 use Rattle.reasons.specs.declared.Verdict.the-variants.{Accepted, Missing, NextLength, Refused}
 use Rattle.reasons.specs.Why.{whyBy, whyOf}
 
+-- a farm record of that version, with the length of version 1
+abbrev shortFarm : ℕ → List ℕ
+shortFarm version = 0 ∷ 9 ∷ version ∷ 1 ∷ 0 ∷ 0 ∷ 0 ∷ 7 ∷ 7 ∷ 218 ∷ 1 ∷ []
+
 abbrev farm : List ℕ
-farm = 0 ∷ 9 ∷ 1 ∷ 1 ∷ 0 ∷ 0 ∷ 0 ∷ 7 ∷ 7 ∷ 218 ∷ 1 ∷ []
+farm = shortFarm 1
+
+-- one of version 2, with those bytes of its factors
+abbrev factors : ℕ → ℕ → ℕ → ℕ → List ℕ
+factors ch4 ch4′ n2o n2o′ = 0 ∷ 12 ∷ 2 ∷ 1 ∷ 0 ∷ 0 ∷ 0 ∷ 7 ∷ 7 ∷ 218 ∷ ch4 ∷ ch4′ ∷ n2o ∷ n2o′ ∷ []
 
 -- a heading of that version, kind byte, group and class
 abbrev heading : ℕ → ℕ → ℕ → ℕ → List ℕ
@@ -44,14 +52,22 @@ close count = 0 ∷ 4 ∷ 1 ∷ 8 ∷ 0 ∷ count ∷ []
 abbrev headed : List (List ℕ) → List ℕ
 headed rs = joined (farm ∷ heading 1 2 12 1 ∷ rs)
 
--- refused by that number, in the record with that number, whose bytes and field are those, of that kind, comparing those numbers
+-- refused by that number, in the record with that number, whose bytes and field are those, of that kind and row, comparing those numbers
+abbrev toldOf : ℕ → ℕ → ℕ → ℕ → ℕ → ℕ → ℕ → ℕ → ℕ → Verdict
+toldOf code number from to field kind row value limit =
+    Refused (record { code = code; number = number; first = from; last = to; field = field; kind = kind; row = row; some = true; value = value; limit = limit })
+
+-- the same, the kind being the row
 abbrev told : ℕ → ℕ → ℕ → ℕ → ℕ → ℕ → ℕ → ℕ → Verdict
-told code number from to field kind value limit =
-    Refused (record { code = code; number = number; first = from; last = to; field = field; kind = kind; some = true; value = value; limit = limit })
+told code number from to field kind value limit = toldOf code number from to field kind kind value limit
 
 pub right-accepted : whyOf (joined (farm ∷ close 1 ∷ [])) ≡ Accepted
 unfolding whyOf whyBy run book bookBy front valAt first judge accepted sortOf table size valuesAt firstBad inPlace
 right-accepted = refl
+
+pub factors-accepted : whyOf (joined (factors 0 21 1 54 ∷ close 1 ∷ [])) ≡ Accepted
+unfolding whyOf whyBy run book bookBy front valAt first judge accepted sortOf table size valuesAt firstBad inPlace
+factors-accepted = refl
 
 pub cut-missing : whyOf (farm ++ (0 ∷ 4 ∷ 1 ∷ [])) ≡ Missing 3
 unfolding whyOf whyBy run book bookBy front valAt first judge accepted sortOf table size valuesAt firstBad inPlace
@@ -65,9 +81,16 @@ pub broken-1 : (whyOf (farm ++ (0 ∷ 3 ∷ [])) ≡ told 1 1 11 12 0 0 3 4) × 
 unfolding whyOf whyBy run book bookBy front valAt first judge accepted sortOf table size valuesAt firstBad inPlace recordsOf recordsBy compared
 broken-1 = (refl, refl)
 
-pub broken-2 : whyOf (joined (farm ∷ heading 3 2 12 1 ∷ [])) ≡ told 2 1 11 19 0 2 3 1
+-- a version of 3; and of a heading one of 2
+pub broken-2 : (whyOf (joined (farm ∷ heading 3 2 12 1 ∷ [])) ≡ told 2 1 11 19 0 2 3 1)
+    × (whyOf (joined (farm ∷ heading 2 2 12 1 ∷ [])) ≡ told 2 1 11 19 0 2 2 1)
 unfolding whyOf whyBy run book bookBy front valAt first judge accepted sortOf table size valuesAt firstBad inPlace recordsOf recordsBy compared
-broken-2 = refl
+broken-2 = (refl, refl)
+
+-- that of a farm record is below 1 or above 2
+pub broken-2-farm : (whyOf (shortFarm 0) ≡ told 2 0 0 10 0 1 0 1) × (whyOf (shortFarm 3) ≡ told 2 0 0 10 0 1 3 2)
+unfolding whyOf whyBy run book bookBy front valAt first judge accepted sortOf table size valuesAt firstBad inPlace recordsOf recordsBy compared
+broken-2-farm = (refl, refl)
 
 pub broken-3 : (whyOf (joined (farm ∷ heading 1 0 12 1 ∷ [])) ≡ told 3 1 11 19 0 0 0 1)
     × (whyOf (joined (farm ∷ heading 1 11 12 1 ∷ [])) ≡ told 3 1 11 19 0 11 11 10)
@@ -78,6 +101,11 @@ pub broken-4 : whyOf (joined (farm ∷ heading 1 3 12 1 ∷ [])) ≡ told 4 1 11
 unfolding whyOf whyBy run book bookBy front valAt first judge accepted sortOf table size valuesAt firstBad inPlace recordsOf recordsBy compared
 broken-4 = refl
 
+-- version 2 with the length of version 1
+pub broken-4-farm : whyOf (shortFarm 2) ≡ toldOf 4 0 0 10 0 1 11 9 12
+unfolding whyOf whyBy run book bookBy front valAt first judge accepted sortOf table size valuesAt firstBad inPlace recordsOf recordsBy compared
+broken-4-farm = refl
+
 -- below and above a range, a ration's days, a heading's class, the change and the years of a change of tillage, and the region of grazing
 pub broken-7 : (whyOf (headed (ration 0 ∷ [])) ≡ told 7 2 20 31 1 3 0 1)
     × (whyOf (joined (farm ∷ heading 1 2 12 9 ∷ [])) ≡ told 7 1 11 19 2 2 9 4)
@@ -87,6 +115,15 @@ pub broken-7 : (whyOf (headed (ration 0 ∷ [])) ≡ told 7 2 20 31 1 3 0 1)
 unfolding whyOf whyBy run book bookBy front valAt first judge accepted sortOf table size valuesAt firstBad inPlace recordsOf recordsBy compared
     valuesCompared
 broken-7 = (refl, refl, refl, refl, refl)
+
+-- a CH4 factor of 0 and one of 1001, an N2O factor of 0 and one of 1001
+pub broken-7-farm : (whyOf (factors 0 0 1 54) ≡ toldOf 7 0 0 13 3 1 11 0 1)
+    × (whyOf (factors 3 233 1 54) ≡ toldOf 7 0 0 13 3 1 11 1001 1000)
+    × (whyOf (factors 0 21 0 0) ≡ toldOf 7 0 0 13 4 1 11 0 1)
+    × (whyOf (factors 0 21 3 233) ≡ toldOf 7 0 0 13 4 1 11 1001 1000)
+unfolding whyOf whyBy run book bookBy front valAt first judge accepted sortOf table size valuesAt firstBad inPlace recordsOf recordsBy compared
+    valuesCompared
+broken-7-farm = (refl, refl, refl, refl)
 
 pub broken-8 : whyOf (headed (heading 1 2 12 1 ∷ [])) ≡ told 8 2 20 28 0 2 12 12
 unfolding whyOf whyBy run book bookBy front valAt first judge accepted sortOf table size valuesAt firstBad inPlace recordsOf recordsBy compared
@@ -105,7 +142,7 @@ broken-12 = refl
 
 -- no numbers: out of its place
 pub broken-6 : whyOf (joined (farm ∷ ration 31 ∷ []))
-    ≡ Refused (record { code = 6; number = 1; first = 11; last = 22; field = 0; kind = 3; some = false; value = 0; limit = 0 })
+    ≡ Refused (record { code = 6; number = 1; first = 11; last = 22; field = 0; kind = 3; row = 3; some = false; value = 0; limit = 0 })
 unfolding whyOf whyBy run book bookBy front valAt first judge accepted sortOf table size valuesAt firstBad inPlace recordsOf recordsBy compared
     valuesCompared
 broken-6 = refl
@@ -127,7 +164,7 @@ unfolding whyOf whyBy run book bookBy front valAt first judge accepted sortOf ta
 broken-10-grazed = refl
 
 pub broken-11 : whyOf (headed (cattle 1 1 ∷ []))
-    ≡ Refused (record { code = 11; number = 2; first = 20; last = 41; field = 0; kind = 4; some = false; value = 0; limit = 0 })
+    ≡ Refused (record { code = 11; number = 2; first = 20; last = 41; field = 0; kind = 4; row = 4; some = false; value = 0; limit = 0 })
 unfolding whyOf whyBy run book bookBy front valAt first judge accepted sortOf table size valuesAt firstBad inPlace recordsOf recordsBy compared
     valuesCompared belowZero
 broken-11 = refl

@@ -7,11 +7,11 @@ use mathlib.Core.Logic.{_⊎_}
 use lib.ListN.{length, take}
 use lib.Dec.{eqb}
 use Rattle.base.specs.Choice.{pick}
-use Rattle.codec.specs.Table.{lastKind, lengthOf}
+use Rattle.codec.specs.Table.{lastRow, lengthOf}
 use Rattle.account.specs.declared.Account.{Account}
 use Rattle.account.specs.declared.Days.{Days}
-use Rattle.account.specs.Judge.{WholeRecord, kindOf, valuesOf, RefusedBy}
-use Rattle.account.specs.Compared.{Compared, numbers, badField, sharesOf, partsOf, grazedWith}
+use Rattle.account.specs.Judge.{WholeRecord, versionOf, kindByte, kindOf, valuesOf, RefusedBy}
+use Rattle.account.specs.Compared.{Compared, numbers, outside, badField, sharesOf, partsOf, grazedWith}
 use Rattle.book.specs.Front.{Front, unfinished, badLength, whole}
 use Rattle.reasons.specs.declared.Verdict.{Verdict}
 use Rattle.reasons.specs.declared.Verdict.the-variants.{Accepted, Missing, NextLength, Refused}
@@ -22,10 +22,10 @@ use Rattle.reasons.specs.Why.{reason, unfinishedBy}
 abbrev pub told : Compared → Numbers
 told x = record { some = x .some; value = x .value; limit = x .limit }
 
--- r is a record whose kind is one of the book's, with the length of its kind
+-- r is a record of a row of the table, with the length of its row
 pub record Sized (r : List ℕ) : Type 0 where
   pub least : 1 ≤ kindOf r
-  pub most : kindOf r ≤ lastKind
+  pub most : kindOf r ≤ lastRow
   pub long : length r ≡ lengthOf (kindOf r) + 2
 
 -- a kind whose shares, parts or fractions are compared
@@ -35,6 +35,10 @@ Parted k = (k ≡ 4) ⊎ ((k ≡ 5) ⊎ (k ≡ 10))
 -- what is compared of them, with the fraction grazed before
 abbrev pub partsTold : ℕ → ℕ → List ℕ → Numbers
 partsTold g k v = told (pick (eqb k 4) (numbers (sharesOf v) 10000) (pick (eqb k 5) (numbers (partsOf v) 1000) (numbers (grazedWith g v) 10000)))
+
+-- what is compared of a version: that of a farm record is 1 or 2, any other is 1
+abbrev pub versionTold : List ℕ → Numbers
+versionTold r = told (pick (eqb (kindByte r) 1) (outside 1 2 (versionOf r)) (numbers (versionOf r) 1))
 
 -- the whole record r is refused by the number code, with that field
 pub record Faulty (a : Account) (r : List ℕ) (code field : ℕ) : Type 0 where

@@ -2,7 +2,7 @@
 -- Assumes nothing.
 use Prim.Native.Nat.{ℕ, _-_}
 use mathlib.Core.List.{List, [], _++_}
-use mathlib.Core.Bool.{Bool, true, false, _&&_, _||_}
+use mathlib.Core.Bool.{Bool, true, false, _&&_, _||_, not}
 use lib.Dec.{ltb, eqb}
 use Rattle.base.specs.Choice.{pick}
 use Rattle.codec.specs.Table.{isKind}
@@ -51,22 +51,22 @@ unfoldable pub whereText : ℕ → ℕ → ℕ → ℕ → List ℕ
 whereText number kind first last =
     ascii "record " ++ (decimal number ++ (nameText kind ++ (ascii ", bytes " ++ (decimal first ++ (ascii " to " ++ decimal last)))))
 
--- what the value is of, by the number of the rule; a pig's parts and the grazed fractions have lines of their own
+-- what the value is of, by the number of the rule and the row; a pig's parts and the grazed fractions have lines of their own
 unfoldable pub subjectTable : List ℕ
 subjectTable =
     ascii "\n the length\n the version\n the kind\n the length\n\n\n\n the group\n the sum of days with this record\n the sum of the shares\n\n"
     ++ ascii " the count\n the sum of the volatilised and leached parts\n the sum of fractions with this record"
 
 abbrev pub subjectLine : ℕ → ℕ → ℕ
-subjectLine code kind = pick (eqb code 10 && eqb kind 5) 13 (pick (eqb code 10 && eqb kind 10) 14 code)
+subjectLine code row = pick (eqb code 10 && eqb row 5) 13 (pick (eqb code 10 && eqb row 10) 14 code)
 
 abbrev pub subjectText : ℕ → ℕ → ℕ → List ℕ
-subjectText code kind field =
-    pick (eqb code 7) (fieldName kind (field - 1)) (nthPart 10 (subjectLine code kind) subjectTable)
+subjectText code row field =
+    pick (eqb code 7) (fieldName row (field - 1)) (nthPart 10 (subjectLine code row) subjectTable)
 
--- how the value has to stand to the limit
+-- how the value has to stand to the limit: the version of a farm record has two ends, any other one value
 abbrev pub exactly : ℕ → ℕ → Bool
-exactly code kind = eqb code 2 || eqb code 4 || eqb code 12 || (eqb code 10 && eqb kind 4)
+exactly code kind = (eqb code 2 && not (eqb kind 1)) || eqb code 4 || eqb code 12 || (eqb code 10 && eqb kind 4)
 
 abbrev pub relationText : ℕ → ℕ → ℕ → ℕ → List ℕ
 relationText code kind value limit =
@@ -76,7 +76,7 @@ relationText code kind value limit =
 
 unfoldable pub comparedText : Reason → List ℕ
 comparedText w =
-    subjectText (w .code) (w .kind) (w .field)
+    subjectText (w .code) (w .row) (w .field)
     ++ (ascii " is "
     ++ (decimal (w .value) ++ (ascii "; it must be " ++ (relationText (w .code) (w .kind) (w .value) (w .limit) ++ decimal (w .limit)))))
 

@@ -8,7 +8,7 @@ use lib.Dec.{ltb, eqb}
 use Rattle.base.specs.Choice.{pick}
 use Rattle.account.specs.declared.Account.{Account}
 use Rattle.account.specs.declared.Refusal.{Refusal}
-use Rattle.account.specs.Judge.{kindOf}
+use Rattle.account.specs.Judge.{kindByte, kindOf}
 use Rattle.account.specs.Line.{joined}
 use Rattle.account.specs.Compared.{Compared, compared}
 use Rattle.book.specs.declared.State.{State}
@@ -35,7 +35,8 @@ reason code number field first a r =
       first = first;
       last = first + length r - 1;
       field = field;
-      kind = kindOf r;
+      kind = kindByte r;
+      row = kindOf r;
       some = compared code a r .some;
       value = compared code a r .value;
       limit = compared code a r .limit;

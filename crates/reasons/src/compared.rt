@@ -6,14 +6,16 @@ use account::Account;
 use account::Days;
 use codec::LAST_KIND;
 use codec::kinds::bytes_of;
+use codec::kinds::row_of;
 use codec::numbers::be8;
 use codec::numbers::be16;
 ghost use mathlib.Core.Path.{_≡_};
 ghost use Prim.Native.Nat.{_≤_};
-ghost use Rattle.codec.specs.Table.{lengthOf, lastKind};
+ghost use lib.ListN.{length};
+ghost use Rattle.codec.specs.Table.{lengthOf, lastRow};
 ghost use Rattle.account.specs.Judge.{kindOf, valuesOf};
 ghost use Rattle.account.specs.Compared.{noNumbers, numbers, outside, badField, rangeOf, valueAt, daysWith, valuesCompared, compared};
-ghost use Rattle.reasons.specs.Inner.{told, Sized, Parted, partsTold, Faulty};
+ghost use Rattle.reasons.specs.Inner.{told, Sized, Parted, partsTold, versionTold, Faulty};
 
 // The two numbers that are compared, where there are any.
 pub(crate) struct Numbers {
@@ -52,21 +54,33 @@ pub(crate) fn outside(lowest: u64, highest: u64, value: u64) -> Numbers
     both(value, highest)
 }
 
-// The length of a record of that kind.
-fn length_of(kind: u8) -> u64
-    requires { ⌜ (1 ≤ kind) × (kind ≤ lastKind) ⌝ }
-    ensures { λ r. ⌜ r ≡ lengthOf kind ⌝ }
+// The version, which is 1 or 2 of a farm record and 1 of any other.
+fn version(r: &[u8]) -> Numbers
+    requires { ⌜ 4 ≤ length (now r) ⌝ }
+    ensures { λ n. ⌜ n ≡ versionTold (now (r .entry)) ⌝ }
 {
-    (bytes_of(kind as u64) - 2) as u64
+    let version = be8(r, 2);
+    if r[3] == 1 {
+        return outside(1, 2, version);
+    }
+    both(version, 1)
+}
+
+// The length of a record of that row.
+fn length_of(row: u8) -> u64
+    requires { ⌜ (1 ≤ row) × (row ≤ lastRow) ⌝ }
+    ensures { λ r. ⌜ r ≡ lengthOf row ⌝ }
+{
+    (bytes_of(row as u64) - 2) as u64
 }
 
 // The value of the field at that position, and the end of its range that it crossed.
-fn out_of_range(r: &[u8], kind: u8, position: u8) -> Numbers
-    requires { ⌜ Sized (now r) × (kind ≡ kindOf (now r)) × (1 ≤ position) × (position ≤ 12) ⌝ }
-    ensures { λ n. ⌜ n ≡ told (outside (rangeOf kind position .1) (rangeOf kind position .2) (valueAt (valuesOf (now (r .entry))) position)) ⌝ }
+fn out_of_range(r: &[u8], row: u8, position: u8) -> Numbers
+    requires { ⌜ Sized (now r) × (row ≡ kindOf (now r)) × (1 ≤ position) × (position ≤ 12) ⌝ }
+    ensures { λ n. ⌜ n ≡ told (outside (rangeOf row position .1) (rangeOf row position .2) (valueAt (valuesOf (now (r .entry))) position)) ⌝ }
 {
-    let value = value_at(r, kind, position as usize - 1);
-    outside(lowest(kind, position), highest(kind, position), value)
+    let value = value_at(r, row, position as usize - 1);
+    outside(lowest(row, position), highest(row, position), value)
 }
 
 // The days of a kind, 3, 4 or 5, with so many more.
@@ -105,15 +119,15 @@ fn of_values(a: Account, r: &[u8], code: u8, field: u8) -> Numbers
     requires { ⌜ Faulty a (now r) code field × (5 ≤ code) ⌝ }
     ensures { λ n. ⌜ n ≡ told (valuesCompared code a (kindOf (now (r .entry))) (valuesOf (now (r .entry)))) ⌝ }
 {
-    let kind = r[3];
+    let row = row_of(r[2], r[3]);
     let heading = a.heading;
     let days = a.days;
-    let first = value_at(r, kind, 0);
+    let first = value_at(r, row, 0);
     match code {
-        7 => out_of_range(r, kind, field),
+        7 => out_of_range(r, row, field),
         8 => both(first, heading.group as u64),
-        9 => both(days_with(days, kind, first), 366),
-        10 => together(a.grazed, r, kind),
+        9 => both(days_with(days, row, first), 366),
+        10 => together(a.grazed, r, row),
         12 => both(first, a.records as u64),
         _ => none(),
     }
@@ -125,9 +139,9 @@ pub(crate) fn compared(a: Account, r: &[u8], code: u8, field: u8) -> Numbers
     ensures { λ n. ⌜ n ≡ told (compared code a (now (r .entry))) ⌝ }
 {
     match code {
-        2 => both(be8(r, 2), 1),
+        2 => version(r),
         3 => outside(1, LAST_KIND, be8(r, 3)),
-        4 => both(be16(r, 0), length_of(r[3])),
+        4 => both(be16(r, 0), length_of(row_of(r[2], r[3]))),
         _ => of_values(a, r, code, field),
     }
 }

@@ -11,6 +11,7 @@ use base::rest_of;
 use book::front::ready;
 use codec::LENGTH_MOST;
 use codec::LINES_MOST;
+use codec::kinds::row_of;
 use codec::numbers::be16;
 use rules::judge;
 ghost use mathlib.Core.Path.{_≡_};
@@ -23,7 +24,7 @@ ghost use Rattle.reasons.specs.Why.{reason, whyOf};
 ghost use Rattle.reasons.specs.Inner.{Faulty, unread, ended};
 
 // Why a record is refused: the rule's number, the record's number and its first and last byte, all from 0; the field from 1, with 7 alone; the kind byte;
-// and the value and the limit, where there are any.
+// the row of the table by which its fields are named; and the value and the limit, where there are any.
 pub struct Reason {
     pub code: u8,
     pub number: u16,
@@ -31,6 +32,7 @@ pub struct Reason {
     pub last: usize,
     pub field: u8,
     pub kind: u8,
+    pub row: u8,
     pub some: bool,
     pub value: u64,
     pub limit: u64,
@@ -58,6 +60,7 @@ fn broken_length(a: Account, at: usize, rest: &[u8]) -> Reason
         last: at + 1,
         field: 0,
         kind: 0,
+        row: 0,
         some: numbers.some,
         value: numbers.value,
         limit: numbers.limit,
@@ -86,6 +89,7 @@ fn broken(a: Account, at: usize, r: &[u8], code: u8, field: u8) -> Reason
 {
     let numbers = compared(a, r, code, field);
     let number = a.records;
+    let row = row_of(r[2], r[3]);
     Reason {
         code: code,
         number: number,
@@ -93,6 +97,7 @@ fn broken(a: Account, at: usize, r: &[u8], code: u8, field: u8) -> Reason
         last: at + r.len() - 1,
         field: field,
         kind: r[3],
+        row: row,
         some: numbers.some,
         value: numbers.value,
         limit: numbers.limit,

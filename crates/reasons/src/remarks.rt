@@ -110,25 +110,25 @@ fn say_where(out: &mut [u8], number: u64, kind: u64, first: u64, last: u64) -> u
 }
 
 // Which line of the subjects: a pig's parts and the grazed fractions have their own.
-fn subject(code: u64, kind: u64) -> usize
-    ensures { λ r. ⌜ r ≡ subjectLine code kind ⌝ }
+fn subject(code: u64, row: u64) -> usize
+    ensures { λ r. ⌜ r ≡ subjectLine code row ⌝ }
 {
-    if (code == 10) & (kind == 5) {
+    if (code == 10) & (row == 5) {
         return 13;
     }
-    if (code == 10) & (kind == 10) {
+    if (code == 10) & (row == 10) {
         return 14;
     }
     code as usize
 }
 
 // What the value is of.
-fn say_subject(out: &mut [u8], at: usize, code: u64, kind: u64, field: usize) -> usize
+fn say_subject(out: &mut [u8], at: usize, code: u64, row: u64, field: usize) -> usize
     requires { ⌜ at ≤ length (now out) ⌝ }
-    ensures { λ r. ⌜ Said (now (out .entry)) (now (out .exit)) at (subjectText code kind field) r ⌝ }
+    ensures { λ r. ⌜ Said (now (out .entry)) (now (out .exit)) at (subjectText code row field) r ⌝ }
 {
     if code == 7 {
-        return say_field(out, at, kind, less_one(field));
+        return say_field(out, at, row, less_one(field));
     }
     let words = part(
         b"
@@ -147,7 +147,7 @@ fn say_subject(out: &mut [u8], at: usize, code: u64, kind: u64, field: usize) ->
  the sum of the volatilised and leached parts
  the sum of fractions with this record",
         b'\n',
-        subject(code, kind),
+        subject(code, row),
     );
     say(out, at, words)
 }
@@ -161,7 +161,7 @@ fn less_one(n: usize) -> usize
 fn is_exact(code: u64, kind: u64) -> bool
     ensures { λ r. ⌜ r ≡ exactly code kind ⌝ }
 {
-    (code == 2) | (code == 4) | (code == 12) | ((code == 10) & (kind == 4))
+    ((code == 2) & (kind != 1)) | (code == 4) | (code == 12) | ((code == 10) & (kind == 4))
 }
 
 // How the value has to stand to the limit.
@@ -185,7 +185,7 @@ fn say_compared(out: &mut [u8], at: usize, w: Reason) -> usize
     requires { ⌜ at ≤ length (now out) ⌝ }
     ensures { λ r. ⌜ Said (now (out .entry)) (now (out .exit)) at (comparedText w) r ⌝ }
 {
-    let a = say_subject(out, at, w.code as u64, w.kind as u64, w.field as usize);
+    let a = say_subject(out, at, w.code as u64, w.row as u64, w.field as usize);
     let b = say(out, a, b" is ");
     let c = say_number(out, b, w.value);
     let d = say(out, c, b"; it must be ");

@@ -1,14 +1,14 @@
-// A field's value and its range, by kind and position: the ranges are those of the codec's table.
+// A field's value and its range, by row and position: the ranges are those of the codec's table.
 ghost use mathlib.Core.Path.{_≡_};
 ghost use Prim.Native.Nat.{_-_, _≤_};
 ghost use lib.ListN.{length, getD};
-ghost use Rattle.codec.specs.Table.{lastKind};
+ghost use Rattle.codec.specs.Table.{lastRow};
 ghost use Rattle.account.specs.Judge.{kindOf, valuesOf};
 ghost use Rattle.account.specs.Compared.{rangeOf, valueAt};
 ghost use Rattle.reasons.specs.Inner.{Sized};
 
-// The lowest and the highest value: a row for each kind, a column for each field.
-const LOWEST: [[u64; 12]; 11] = [
+// The lowest and the highest value: a row for each kind and one for the farm record of version 2, a column for each field.
+const LOWEST: [[u64; 12]; 12] = [
     [0, 0, 0, 0, 0, 0, 0, 0, 0, 0, 0, 0],
     [0, 1900, 1, 0, 0, 0, 0, 0, 0, 0, 0, 0],
     [1, 1, 0, 0, 0, 0, 0, 0, 0, 0, 0, 0],
@@ -20,9 +20,10 @@ const LOWEST: [[u64; 12]; 11] = [
     [0, 0, 0, 0, 0, 0, 0, 0, 0, 0, 0, 0],
     [1, 1, 1, 1, 0, 0, 0, 0, 0, 0, 0, 0],
     [1, 1, 0, 0, 0, 0, 0, 0, 0, 0, 0, 0],
+    [0, 1900, 1, 1, 0, 0, 0, 0, 0, 0, 0, 0],
 ];
 
-const HIGHEST: [[u64; 12]; 11] = [
+const HIGHEST: [[u64; 12]; 12] = [
     [0, 0, 0, 0, 0, 0, 0, 0, 0, 0, 0, 0],
     [4294967295, 2200, 2, 0, 0, 0, 0, 0, 0, 0, 0, 0],
     [65535, 4, 20000, 0, 0, 0, 0, 0, 0, 0, 0, 0],
@@ -60,22 +61,23 @@ const HIGHEST: [[u64; 12]; 11] = [
     [65535, 0, 0, 0, 0, 0, 0, 0, 0, 0, 0, 0],
     [9, 3, 6, 100, 10000000, 0, 0, 0, 0, 0, 0, 0],
     [7, 3, 2000, 10000, 0, 0, 0, 0, 0, 0, 0, 0],
+    [4294967295, 2200, 1000, 1000, 0, 0, 0, 0, 0, 0, 0, 0],
 ];
 
 // The lowest value of the field at that position, counted from 1.
-pub(crate) fn lowest(kind: u8, position: u8) -> u64
-    requires { ⌜ (kind ≤ lastKind) × (1 ≤ position) × (position ≤ 12) ⌝ }
-    ensures { λ r. ⌜ r ≡ rangeOf kind position .1 ⌝ }
+pub(crate) fn lowest(row: u8, position: u8) -> u64
+    requires { ⌜ (row ≤ lastRow) × (1 ≤ position) × (position ≤ 12) ⌝ }
+    ensures { λ r. ⌜ r ≡ rangeOf row position .1 ⌝ }
 {
-    LOWEST[kind as usize][position as usize - 1]
+    LOWEST[row as usize][position as usize - 1]
 }
 
 // The highest.
-pub(crate) fn highest(kind: u8, position: u8) -> u64
-    requires { ⌜ (kind ≤ lastKind) × (1 ≤ position) × (position ≤ 12) ⌝ }
-    ensures { λ r. ⌜ r ≡ rangeOf kind position .2 ⌝ }
+pub(crate) fn highest(row: u8, position: u8) -> u64
+    requires { ⌜ (row ≤ lastRow) × (1 ≤ position) × (position ≤ 12) ⌝ }
+    ensures { λ r. ⌜ r ≡ rangeOf row position .2 ⌝ }
 {
-    HIGHEST[kind as usize][position as usize - 1]
+    HIGHEST[row as usize][position as usize - 1]
 }
 
 fn one_at(v: [u64; 1], i: usize) -> u64
@@ -114,12 +116,12 @@ fn twelve_at(v: [u64; 12], i: usize) -> u64
     if i < 12 { v[i] } else { 0 }
 }
 
-// The value i, counted from 0, of a record of that kind.
-pub(crate) fn value_at(r: &[u8], kind: u8, i: usize) -> u64
-    requires { ⌜ Sized (now r) × (kind ≡ kindOf (now r)) ⌝ }
+// The value i, counted from 0, of a record of that row.
+pub(crate) fn value_at(r: &[u8], row: u8, i: usize) -> u64
+    requires { ⌜ Sized (now r) × (row ≡ kindOf (now r)) ⌝ }
     ensures { λ n. ⌜ n ≡ getD (valuesOf (now (r .entry))) i 0 ⌝ }
 {
-    match kind {
+    match row {
         1 => three_at(codec::farm::read(r, 4), i),
         2 => three_at(codec::heading::read(r, 4), i),
         3 => three_at(codec::enteric::read(r, 4), i),
@@ -129,6 +131,7 @@ pub(crate) fn value_at(r: &[u8], kind: u8, i: usize) -> u64
         7 => one_at(codec::soil::read(r, 4), i),
         8 => one_at(codec::close::read(r, 4), i),
         9 => five_at(codec::tillage::read(r, 4), i),
-        _ => four_at(codec::grazing::read(r, 4), i),
+        10 => four_at(codec::grazing::read(r, 4), i),
+        _ => four_at(codec::farm_factors::read(r, 4), i),
     }
 }

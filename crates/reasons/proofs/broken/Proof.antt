@@ -8,7 +8,10 @@ broken-spec =
     tie.close
     (tie.spec
     (λ c κs. search needs)
-    (λ c. search needs)
-    (λ c. let w = c .before .before .pre .0 .whole in omega (arith, w .long, w .low))
     (λ c. let w = c .before .before .before .pre .0 .whole in omega (arith, w .long, w .low))
-    (λ c. rw (c .before .compared .ensures)))
+    (λ c. let w = c .before .before .before .before .pre .0 .whole in omega (arith, w .long, w .low))
+    (λ c κs. tt)
+    (λ c. search needs)
+    (λ c. let w = c .before .before .before .before .before .pre .0 .whole in omega (arith, w .long, w .low))
+    (λ c. let w = c .before .before .before .before .before .before .pre .0 .whole in omega (arith, w .long, w .low))
+    (λ c. rw (c .before .before .before .before .compared .ensures, c .before .row-of .ensures)))

@@ -40,16 +40,15 @@ together-spec =
     let s = t .before .before .before in
     parts-told (valuesOf (s .args .r .now)) (s .args .grazed) (t .before .if1 .left) (t .if2 .taken) (v .before .value-at4 .ensures)
     (v .value-at5 .ensures) (c .both2 .ensures))
-    (λ c. search needs)
     (λ c κs. search needs)
     (λ c.
-    let t = c .before .before in
+    let t = c .before in
     let s = t .before .before .before in
     let m = fraction-small (valuesOf (s .args .r .now)) (last-part (s .pre .3) (t .before .if1 .left) (t .if2 .left)) (s .pre .2) in
     omega (arith, c .value-at6 .ensures, m))
     (λ c κs. tt)
     (λ c.
     let v = c .before in
-    let t = v .before .before in
+    let t = v .before in
     let s = t .before .before .before in
     fractions-told (valuesOf (s .args .r .now)) (s .args .grazed) (t .before .if1 .left) (t .if2 .left) (v .value-at6 .ensures) (c .both3 .ensures)))

@@ -2,20 +2,21 @@ use mathlib.Core.Path.{_≡_, refl}
 use Prim.Native.Nat.{_≤_}
 use native.Mathlib.Omega.{arith}
 use borrow.Author.Needs.{needs}
-use Rattle.codec.specs.Table.{table, size, lastKind}
-use Rattle.codec.proofs.EachKind.{last-kind}
+use Rattle.codec.specs.Table.{table, size, lastRow}
+use Rattle.codec.proofs.EachKind.{last-row}
 use Rattle.reasons.proofs.ValueLaws.{long-by, value-by}
 use Rattle.reasons.proofs.values.value_at.Statement.{statement}
 use Rattle.reasons.proofs.values.value_at.Tie as tie
 
-ten : (c : tie.At-match-rest) → c .before .before .args .kind ≡ 10
-ten c =
+eleven : (c : tie.At-match-rest) → c .before .before .args .row ≡ 11
+eleven c =
     let r = c .match .rest in
     let p = c .before .before .pre in
-    let least : 1 ≤ c .before .before .args .kind = omega (arith, p .1, p .0 .least) in
-    let most : c .before .before .args .kind ≤ lastKind = omega (arith, p .1, p .0 .most) in
+    let least : 1 ≤ c .before .before .args .row = omega (arith, p .1, p .0 .least) in
+    let most : c .before .before .args .row ≤ lastRow = omega (arith, p .1, p .0 .most) in
     let s = r .0 .0 .0 .0 .0 in
-    last-kind _ least most (s .0 .0 .0 .1) (s .0 .0 .1) (s .0 .1) (s .1) (r .0 .0 .0 .0 .1) (r .0 .0 .0 .1) (r .0 .0 .1) (r .0 .1) (r .1)
+    last-row _ least most (s .0 .0 .0 .0 .1) (s .0 .0 .0 .1) (s .0 .0 .1) (s .0 .1) (s .1) (r .0 .0 .0 .0 .1) (r .0 .0 .0 .1) (r .0 .0 .1) (r .0 .1)
+    (r .1)
 
 pub value-at-spec : {M : Type 1} → statement M
 unfolding table size
@@ -40,7 +41,9 @@ value-at-spec =
     (λ c κs. tt)
     (λ c κs. let s = c .before .before in omega (arith, long-by 9 (c .match .keys9) (s .args .r .now) (s .pre .1) 11 refl (s .pre .0)))
     (λ c κs. tt)
-    (λ c κs. let s = c .before .before in omega (arith, long-by 10 (ten c) (s .args .r .now) (s .pre .1) 8 refl (s .pre .0)))
+    (λ c κs. let s = c .before .before in omega (arith, long-by 10 (c .match .keys10) (s .args .r .now) (s .pre .1) 8 refl (s .pre .0)))
+    (λ c κs. tt)
+    (λ c κs. let s = c .before .before in omega (arith, long-by 11 (eleven c) (s .args .r .now) (s .pre .1) 12 refl (s .pre .0)))
     (λ c κs. tt)
     (λ c.
     let m = c .before .before in
@@ -81,4 +84,8 @@ value-at-spec =
     (λ c.
     let m = c .before .before in
     let s = m .before .before in
-    value-by 10 (ten m) (s .args .r .now) (s .pre .1) (s .args .i) (c .before .read10 .ensures) (c .four-at .ensures)))
+    value-by 10 (m .match .keys10) (s .args .r .now) (s .pre .1) (s .args .i) (c .before .read10 .ensures) (c .four-at .ensures))
+    (λ c.
+    let m = c .before .before in
+    let s = m .before .before in
+    value-by 11 (eleven m) (s .args .r .now) (s .pre .1) (s .args .i) (c .before .read11 .ensures) (c .four-at2 .ensures)))
