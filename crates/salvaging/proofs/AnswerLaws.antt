@@ -12,7 +12,7 @@ use lib.Seq.{sets, sets-eq, length-sets}
 use lib.Dec.{ltb, eqb}
 use Rattle.base.proofs.Tests.{or-l, or-r}
 use Rattle.codec.specs.Codec.{be}
-use Rattle.account.specs.Judge.{kindOf}
+use Rattle.account.specs.Judge.{kindByte}
 use Rattle.salvaging.specs.declared.Reading.{Reading}
 use Rattle.salvaging.specs.declared.passes.Sizes.{Sizes}
 use Rattle.salvaging.specs.declared.Salvaged.{Salvaged}
@@ -34,7 +34,7 @@ farmed-none : Farmed []
 unfolding farmAmong
 farmed-none = refl
 
-farmed-some : (r : List ℕ) (rs : List (List ℕ)) → kindOf r ≡ 1 → Farmed (r ∷ rs)
+farmed-some : (r : List ℕ) (rs : List (List ℕ)) → kindByte r ≡ 1 → Farmed (r ∷ rs)
 unfolding farmAmong
 farmed-some r rs k = rw (k, ne-eqb (length (r ∷ rs)) 0 (λ e. omega arith))
 

@@ -26,17 +26,20 @@ unfolding table size
 close-kind v =
     let r = recordBytes 8 v in
     let w = record-whole 8 v (omega arith) in
+    let first-version : getD r 2 0 ≡ 1 = one-byte r 2 (getD r 2 0) refl ∙ w .version-is in
+    let eight : getD r 3 0 ≡ 8 = one-byte r 3 (getD r 3 0) refl ∙ w .kind-is in
     record {
       whole = record { long = omega (arith, w .complete, w .length-is); low = omega (arith, w .length-is); high = omega (arith, w .length-is) };
-      version = one-byte r 2 (getD r 2 0) refl ∙ w .version-is;
-      kind = one-byte r 3 (getD r 3 0) refl ∙ w .kind-is;
+      version = rw first-version refl;
+      listed = rw eight refl;
+      kind = rw first-version eight;
     }
 
 -- it does what its value does
 close-weighs : (a : Account) (n : ℕ) → n ≤ 4096 → judge a (recordBytes 8 (n ∷ [])) ≡ weigh a 8 (n ∷ [])
 unfolding table
 close-weighs a n h =
-    right-length a 8 (recordBytes 8 (n ∷ [])) (lengthOf 8 + 2) (close-kind (n ∷ [])) refl refl (omega (arith, record-length 8 (n ∷ [])))
+    right-length a 8 (recordBytes 8 (n ∷ [])) (lengthOf 8 + 2) (close-kind (n ∷ [])) refl (omega (arith, record-length 8 (n ∷ [])))
     ∙ ap (weigh a 8) (record-back 8 (n ∷ []) (any-count n h) refl)
 
 -- with the right count, after one record at least, it closes the book

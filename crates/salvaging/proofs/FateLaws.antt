@@ -15,14 +15,15 @@ use Rattle.codec.specs.Table.{lengthOf}
 use Rattle.codec.specs.Codec.{valAt}
 use Rattle.account.specs.declared.Account.{Account}
 use Rattle.account.specs.Range.{AccountInRange}
-use Rattle.account.specs.Sorts.{opens, heads, ofGroup, ofFarm, closes, sortOf}
-use Rattle.account.specs.Judge.{versionOf, kindOf, valuesOf, closed, headingServes, inPlace, first, refusals, Step, accepted, judge}
+use Rattle.account.specs.Sorts.{opens, heads, ofGroup, ofFarm, closes, isFarm, sortOf}
+use Rattle.account.specs.Judge.{versionOf, kindByte, kindOf, valuesOf, closed, headingServes, inPlace, first, refusals, Step, accepted, judge}
 use Rattle.account.proofs.Sorts.{by-sort}
 use Rattle.account.proofs.Refusals.{not-refused}
 use Rattle.account.proofs.Keeps.{in-range-judge}
 use Rattle.salvaging.specs.declared.Reading.{Reading}
 use Rattle.salvaging.specs.Salvage.{wouldGet, oneOf, ofGroupKind, drops, droppedBy, ends, after}
 use Rattle.salvaging.specs.Inner.{Open}
+use Rattle.salvaging.proofs.KindLaws.{row-eight, farm-row}
 
 -- ---- the number that a record would get
 
@@ -35,7 +36,7 @@ pub record Grown (a : Account) (k : ℕ) (j : Step) : Type 0 where
 -- only kind 8 closes
 closes-eight : (k : ℕ) → sortOf k ≡ closes → k ≡ 8
 unfolding sortOf
-closes-eight k e = go (eqb k 1) (eqb k 2) (eqb k 3 || (eqb k 4 || (eqb k 5 || eqb k 10))) (eqb k 8) refl e
+closes-eight k e = go (isFarm k) (eqb k 2) (eqb k 3 || (eqb k 4 || (eqb k 5 || eqb k 10))) (eqb k 8) refl e
   where
     go : (a b c d : Bool) → eqb k 8 ≡ d → pick a opens (pick b heads (pick c ofGroup (pick d closes ofFarm))) ≡ closes → k ≡ 8
     go true b c d q e = let z : _≡_ {A = ℕ} 0 1 = cc in absurd (omega arith)
@@ -77,9 +78,16 @@ right-count a r e k =
     let t = not-refused a r e .values .count in
     eqb-true _ _ (not-false _ (and-no (eqb (kindOf r) 8) (not (eqb (getD (valuesOf r) 0 0) (a .records))) t (eq-eqb _ _ k)))
 
--- version and length are right
-pub right-version : (a : Account) (r : List ℕ) → wouldGet a r ≡ 0 → versionOf r ≡ 1
-right-version a r e = eqb-true _ _ (not-false _ (not-refused a r e .version))
+-- the version of a close and the length are right
+pub right-version : (a : Account) (r : List ℕ) → wouldGet a r ≡ 0 → kindByte r ≡ 8 → versionOf r ≡ 1
+right-version a r e k =
+    let t : eqb (versionOf r) 1 || (eqb (versionOf r) 2 && eqb (kindByte r) 1) ≡ true = not-false _ (not-refused a r e .version) in
+    eqb-true _ _ (go (eqb (versionOf r) 1) (eqb (versionOf r) 2) (rw k at t))
+  where
+    go : (x y : Bool) → x || (y && false) ≡ true → x ≡ true
+    go true y p = refl
+    go false true p = p
+    go false false p = p
 
 pub right-size : (a : Account) (r : List ℕ) → wouldGet a r ≡ 0 → valAt r 0 2 ≡ lengthOf (kindOf r)
 right-size a r e = eqb-true _ _ (not-false _ (not-refused a r e .long))
@@ -95,14 +103,14 @@ unfolding accepted sortOf
 closes-book a r e k = rw (accepts a r e, k)
 
 -- the first record is a farm record
-pub first-farm : (a : Account) (r : List ℕ) → wouldGet a r ≡ 0 → a .records ≡ 0 → kindOf r ≡ 1
+pub first-farm : (a : Account) (r : List ℕ) → wouldGet a r ≡ 0 → a .records ≡ 0 → kindByte r ≡ 1
 unfolding inPlace
-first-farm a r e z = go (eqb (kindOf r) 1) refl (not-false _ (not-refused a r e .values .place))
+first-farm a r e z =
+    farm-row (versionOf r) (kindByte r) (not-false _ (not-refused a r e .kind)) (go (isFarm (kindOf r)) (not-false _ (not-refused a r e .values .place)))
   where
-    go : (b : Bool) → eqb (kindOf r) 1 ≡ b
-        → pick b (eqb (a .records) 0) (headingServes (a .heading .class) (kindOf r) && not (eqb (a .records) 0)) ≡ true → kindOf r ≡ 1
-    go true k p = eqb-true _ _ k
-    go false k p = no-bool ((ap (λ (n : ℕ). not (eqb n 0)) (sym z)) ∙ and-r (headingServes (a .heading .class) (kindOf r)) _ p)
+    go : (b : Bool) → pick b (eqb (a .records) 0) (headingServes (a .heading .class) (kindOf r) && not (eqb (a .records) 0)) ≡ true → b ≡ true
+    go true p = refl
+    go false p = no-bool ((ap (λ (n : ℕ). not (eqb n 0)) (sym z)) ∙ and-r (headingServes (a .heading .class) (kindOf r)) _ p)
 
 -- ---- the number that drops a record
 
@@ -133,10 +141,10 @@ none-drops c k lost (inr z) e = go (oneOf 2 4 c) (lost && ofGroupKind k) (oneOf 
 
 module _ (s : Reading) (r : List ℕ) where
   -- a kept record would get no number: 5 and 12 alone drop nothing, and they do not come
-  pub kept-right : droppedBy s r ≡ 0 → (kindOf r ≡ 8 → ⊥) → s .account .records < 4096 → wouldGet (s .account) r ≡ 0
+  pub kept-right : droppedBy s r ≡ 0 → (kindByte r ≡ 8 → ⊥) → s .account .records < 4096 → wouldGet (s .account) r ≡ 0
   unfolding droppedBy
   kept-right e k h =
-      none-drops (wouldGet (s .account) r) (kindOf r) (s .lost)
+      none-drops (wouldGet (s .account) r) (kindByte r) (s .lost)
       (first-is Dropping (refusals (s .account) r) (inl refl) (
         λ z. inr refl,
         (
@@ -159,7 +167,7 @@ module _ (s : Reading) (r : List ℕ) where
                           λ z. inr refl,
                           (
                             λ z. inr refl,
-                            (λ z. absurd (k (eqb-true _ _ (and-l (eqb (kindOf r) 8) _ z))), tt),
+                            (λ z. absurd (k (row-eight (versionOf r) (kindByte r) (eqb-true _ _ (and-l (eqb (kindOf r) 8) _ z)))), tt),
                           ),
                         ),
                       ),
@@ -182,7 +190,7 @@ module _ (s : Reading) (r : List ℕ) where
     pub few : s .account .records < 4095
     few = leb-false _ _ (or-l _ _ e)
 
-    pub no-close : droppedBy s r ≡ 0 → kindOf r ≡ 8 → ⊥
+    pub no-close : droppedBy s r ≡ 0 → kindByte r ≡ 8 → ⊥
     no-close d k = let z : false ≡ true = sym (or-r (leb 4095 (s .account .records)) _ e) ∙ rw (d, k) in let o : _≡_ {A = ℕ} 0 1 = cc in omega arith
 
     pub gets-none : droppedBy s r ≡ 0 → wouldGet (s .account) r ≡ 0
@@ -210,7 +218,7 @@ module _ (s : Reading) (r : List ℕ) where
               let z = eqb-true _ _ d in
               record {
                 range = in-range-judge (s .account) r (o .range) (o .early);
-                early = grows (s .account) r (gets-none z) .early (no-close z) (o .early);
+                early = grows (s .account) r (gets-none z) .early (λ k. no-close z (row-eight (versionOf r) (kindByte r) k)) (o .early);
               }
           go false d = record { range = o .range; early = o .early }
 

@@ -13,7 +13,7 @@ use Rattle.base.specs.Choice.{pick}
 use Rattle.base.proofs.Tests.{and-l, no-bool}
 use Rattle.codec.specs.Codec.{recordBytes}
 use Rattle.account.specs.Sorts.{sortOf}
-use Rattle.account.specs.Judge.{WholeRecord, kindOf, first}
+use Rattle.account.specs.Judge.{WholeRecord, versionOf, kindByte, first}
 use Rattle.account.specs.Line.{joined}
 use Rattle.book.specs.Front.{whole, need}
 use Rattle.book.proofs.FrontLaws.{front-none, length-append-two}
@@ -24,6 +24,7 @@ use Rattle.salvaging.specs.declared.Lengths.{Lengths}
 use Rattle.salvaging.specs.declared.Salvaged.the-variants.{Saved}
 use Rattle.salvaging.specs.Salvage.{wouldGet, oneOf, ofGroupKind, drops, droppedBy, after, start, Found, found, bookOf, salvageOf, foundIn}
 use Rattle.salvaging.specs.Promised.{readBy, unlisted, Under, underHeadings, details}
+use Rattle.salvaging.proofs.KindLaws.{row-eight}
 use Rattle.salvaging.proofs.TurnLaws.{by-records}
 use Rattle.salvaging.proofs.CloseLaws.{close-kind}
 use Rattle.salvaging.proofs.SalvagedAccepted.{AllWhole, all-whole, record-front, saved-so}
@@ -41,9 +42,9 @@ none-lost c k lost e d = go lost (oneOf 2 4 c) refl (oneOf 6 11 c) (rw d at e)
     go true true p b″ e = let h = leb-true 2 c (and-l (leb 2 c) (leb c 4) p) in absurd (omega arith)
     go true false p b″ e = absurd (omega arith)
 
-not-lost : (s : Reading) (r : List ℕ) → droppedBy s r ≡ 0 → ofGroupKind (kindOf r) ≡ true → s .lost ≡ false
+not-lost : (s : Reading) (r : List ℕ) → droppedBy s r ≡ 0 → ofGroupKind (kindByte r) ≡ true → s .lost ≡ false
 unfolding droppedBy
-not-lost s r = none-lost (wouldGet (s .account) r) (kindOf r) (s .lost)
+not-lost s r = none-lost (wouldGet (s .account) r) (kindByte r) (s .lost)
 
 -- the same details, under the same headings
 same-details : (b : Bool) (u u′ : Under) (us us′ : List Under) → (b ≡ true → u ≡ u′) → us ≡ us′ → pick b (u ∷ us) us ≡ pick b (u′ ∷ us′) us′
@@ -68,11 +69,11 @@ module _ (s : Reading) (r : List ℕ) (rs : List (List ℕ)) (f : Found) (ih : K
       record {
         from = from-less (s .number) (f .dropped) (ih .from);
         same = λ h h′ p.
-            let others = underHeadings (pick (eqb (kindOf r) 2) r h) (take (readBy f) rs) in
+            let others = underHeadings (pick (eqb (kindByte r) 2) r h) (take (readBy f) rs) in
             rw (m, unlisted-kept (record { detail = r; heading = h }) others (s .number) (f .dropped) (ih .from))
-            (same-details (ofGroupKind (kindOf r)) (record { detail = r; heading = h′ }) (record { detail = r; heading = h }) _ _
+            (same-details (ofGroupKind (kindByte r)) (record { detail = r; heading = h′ }) (record { detail = r; heading = h }) _ _
             (λ k. ap (λ (x : List ℕ). record { detail = r; heading = x }) (sym (p (not-lost s r d k))))
-            (ih .same (pick (eqb (kindOf r) 2) r h) (pick (eqb (kindOf r) 2) r h′) (next h h′ p (eqb (kindOf r) 2))));
+            (ih .same (pick (eqb (kindByte r) 2) r h) (pick (eqb (kindByte r) 2) r h′) (next h h′ p (eqb (kindByte r) 2))));
       }
     where
       next : (h h′ : List ℕ) → (s .lost ≡ false → h ≡ h′) → (b : Bool) → pick b (not (eqb (droppedBy s r) 0)) (s .lost) ≡ false
@@ -88,9 +89,9 @@ module _ (s : Reading) (r : List ℕ) (rs : List (List ℕ)) (f : Found) (ih : K
       record {
         from = omega arith;
         same = λ h h′ p.
-            let others = underHeadings (pick (eqb (kindOf r) 2) r h) (take (readBy f) rs) in
+            let others = underHeadings (pick (eqb (kindByte r) 2) r h) (take (readBy f) rs) in
             rw (m, unlisted-listed (record { detail = r; heading = h }) others (s .number) (droppedBy s r) (f .dropped))
-            (ih .same (pick (eqb (kindOf r) 2) r h) h′ (next h h′ p (eqb (kindOf r) 2)));
+            (ih .same (pick (eqb (kindByte r) 2) r h) h′ (next h h′ p (eqb (kindByte r) 2)));
       }
     where
       next : (h h′ : List ℕ) → (s .lost ≡ false → h ≡ h′) → (b : Bool) → pick b (not (eqb (droppedBy s r) 0)) (s .lost) ≡ false → pick b r h ≡ h′
@@ -121,11 +122,11 @@ unfolding recordsOf recordsBy
 records-none = rw front-none
 
 -- a record behind them that is no detail adds none
-details-last : (rs : List (List ℕ)) (h c : List ℕ) → ofGroupKind (kindOf c) ≡ false
+details-last : (rs : List (List ℕ)) (h c : List ℕ) → ofGroupKind (kindByte c) ≡ false
     → details (underHeadings h (rs ++ (c ∷ []))) ≡ details (underHeadings h rs)
 unfolding underHeadings details
 details-last [] h c e = rw e
-details-last (r ∷ rs) h c e = rw (details-last rs (pick (eqb (kindOf r) 2) r h) c e)
+details-last (r ∷ rs) h c e = rw (details-last rs (pick (eqb (kindByte r) 2) r h) c e)
 
 clean-details : (rs : List (List ℕ)) → AllWhole rs → details (underHeadings [] (recordsOf (bookOf rs))) ≡ details (underHeadings [] rs)
 unfolding sortOf
@@ -133,7 +134,7 @@ clean-details rs w =
     let c = recordBytes 8 (length rs ∷ []) in
     let k = close-kind (length rs ∷ []) in
     let one : recordsOf c ≡ c ∷ [] = rw (append-nil, records-none) at (records-first c [] (k .whole)) in
-    rw (records-joined rs c w, one) (details-last rs [] c (rw (k .kind)))
+    rw (records-joined rs c w, one) (details-last rs [] c (rw (row-eight (versionOf c) (kindByte c) (k .kind))))
 
 -- ---- the promise
 

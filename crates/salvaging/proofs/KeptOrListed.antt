@@ -11,7 +11,7 @@ use lib.Dec.{eqb}
 use lib.ListN.{length, take}
 use Rattle.base.specs.Choice.{pick}
 use Rattle.base.proofs.Tests.{and-l, and-r, or-left}
-use Rattle.account.specs.Judge.{kindOf, noRecord, first}
+use Rattle.account.specs.Judge.{kindByte, noRecord, first}
 use Rattle.book.specs.WholeRecords.{recordsOf}
 use Rattle.salvaging.specs.declared.Reading.{Reading}
 use Rattle.salvaging.specs.Salvage.{wouldGet, oneOf, ofGroupKind, droppedBy, ends, after, start, Entry, Found, nothing, found, foundIn}
@@ -82,13 +82,13 @@ reason : (s : Reading) (r : List ℕ) → (droppedBy s r ≡ 0 → ⊥) → Reas
 unfolding droppedBy first
 reason s r n =
     let c = wouldGet (s .account) r in
-    go c (oneOf 2 4 c) refl (s .lost && ofGroupKind (kindOf r)) refl (oneOf 6 11 c) refl n
+    go c (oneOf 2 4 c) refl (s .lost && ofGroupKind (kindByte r)) refl (oneOf 6 11 c) refl n
   where
-    go : (c : ℕ) (b : Bool) → oneOf 2 4 c ≡ b → (b′ : Bool) → s .lost && ofGroupKind (kindOf r) ≡ b′ → (b″ : Bool) → oneOf 6 11 c ≡ b″
+    go : (c : ℕ) (b : Bool) → oneOf 2 4 c ≡ b → (b′ : Bool) → s .lost && ofGroupKind (kindByte r) ≡ b′ → (b″ : Bool) → oneOf 6 11 c ≡ b″
         → (pick b c (pick b′ 6 (pick b″ c 0)) ≡ 0 → ⊥)
         → ((c ≡ pick b c (pick b′ 6 (pick b″ c 0)))
         × (oneOf 2 4 (pick b c (pick b′ 6 (pick b″ c 0))) || oneOf 6 11 (pick b c (pick b′ 6 (pick b″ c 0))) ≡ true))
-        ⊎ ((pick b c (pick b′ 6 (pick b″ c 0)) ≡ 6) × (s .lost ≡ true) × (ofGroupKind (kindOf r) ≡ true))
+        ⊎ ((pick b c (pick b′ 6 (pick b″ c 0)) ≡ 6) × (s .lost ≡ true) × (ofGroupKind (kindByte r) ≡ true))
     go c true p b′ p′ b″ p″ n = inl (refl, rw p)
     go c false p true p′ b″ p″ n = inr (refl, and-l (s .lost) _ p′, and-r (s .lost) _ p′)
     go c false p false p′ true p″ n = inl (refl, or-left (oneOf 2 4 c) _ (λ z. p″))
@@ -99,7 +99,7 @@ pass : (s : Reading) (r : List ℕ) (rs : List (List ℕ)) (es : List Entry) →
     → Reasons (after s r .account) (after s r .lost) (s .number + 1) rs es → Reasons (s .account) (s .lost) (s .number) (r ∷ rs) es
 pass s r rs [] e d h q = tt
 pass s r rs (x ∷ es) e d h q =
-    let l : after s r .lost ≡ pick (eqb (kindOf r) 2) false (s .lost) = rw d in
+    let l : after s r .lost ≡ pick (eqb (kindByte r) 2) false (s .lost) = rw d in
     (λ z. absurd (omega (arith, z)), λ z. rw (← kept-account s r e d, ← l) q)
 
 reasons : (s : Reading) (rs : List (List ℕ))
@@ -108,7 +108,7 @@ reasons =
     by-records (λ s rs f. From (s .number) (f .dropped) × Reasons (s .account) (s .lost) (s .number) rs (f .dropped)) (λ s rs. (tt, tt))
     (λ s r rs f e d ih. (from-less (s .number) (f .dropped) (ih .0), pass s r rs (f .dropped) e d (ih .0) (ih .1)))
     (λ s r rs f e n ih.
-    let l : after s r .lost ≡ pick (eqb (kindOf r) 2) true (s .lost) = rw (ne-eqb _ _ n) in
+    let l : after s r .lost ≡ pick (eqb (kindByte r) 2) true (s .lost) = rw (ne-eqb _ _ n) in
     (omega arith, (λ z. (reason s r n, rw (← dropped-account s r e n, ← l) (ih .1)), λ z. absurd (z refl))))
 
 -- ---- the promise

@@ -23,7 +23,7 @@ use Rattle.codec.specs.Table.{table, size}
 use Rattle.codec.specs.Codec.{bytesHold, valAt, be, bytesOf, recordBytes, Bytes}
 use Rattle.codec.proofs.BigEndian.{valAt-lt, valAt-be, be-length}
 use Rattle.account.specs.declared.Account.{Account}
-use Rattle.account.specs.Judge.{kindOf, first, refusals}
+use Rattle.account.specs.Judge.{kindByte, first, refusals}
 use Rattle.account.specs.Line.{joined}
 use Rattle.account.proofs.Refusals.{number-most}
 use Rattle.book.specs.Front.{Front, unfinished, badLength, whole, need, front}
@@ -65,7 +65,7 @@ drops-most c k lost h =
 
 dropped-most : (s : Reading) (r : List ℕ) → droppedBy s r < 256
 unfolding droppedBy
-dropped-most s r = drops-most (wouldGet (s .account) r) (kindOf r) (s .lost) (would-get-most (s .account) r)
+dropped-most s r = drops-most (wouldGet (s .account) r) (kindByte r) (s .lost) (would-get-most (s .account) r)
 
 all-fit : (s : Reading) (rs : List (List ℕ)) → s .number + length rs < 2 ^ 64 → AllFit (found s rs .dropped)
 all-fit =

@@ -14,7 +14,7 @@ use Rattle.base.proofs.Tests.{or-left, or-right, lt-or-ge}
 use Rattle.codec.specs.Table.{linesMost}
 use Rattle.account.specs.declared.Account.{Account}
 use Rattle.account.specs.declared.Judged.{Judged}
-use Rattle.account.specs.Judge.{Step, kindOf, first, judge}
+use Rattle.account.specs.Judge.{Step, kindByte, first, judge}
 use Rattle.account.specs.Told.{TellsIn}
 use Rattle.account.proofs.Told.{tells-fit, lines-short}
 use Rattle.book.specs.Front.{Front, unfinished, badLength, whole, front}
@@ -34,7 +34,7 @@ use Rattle.salvaging.proofs.FateLaws.{code-is, open-after, records-afte
 pub told-account : {a : Account} {s : Step} {j : Judged} → TellsIn linesMost a s j → j .account ≡ s .account
 told-account t = tells-fit t (lines-short t) .account
 
-module _ (s : Reading) (r : List ℕ) (code kind : ℕ) (k : kind ≡ kindOf r) where
+module _ (s : Reading) (r : List ℕ) (code kind : ℕ) (k : kind ≡ kindByte r) where
   pub code-told : (j : Judged) → Open s → TellsIn linesMost (s .account) (judge (s .account) r) j
       → code ≡ first (drops (j .account .refusal .code) kind (s .lost)) → code ≡ droppedBy s r
   unfolding droppedBy

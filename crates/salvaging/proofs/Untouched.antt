@@ -18,7 +18,7 @@ use Rattle.codec.specs.Codec.{valuesAt, recordBytes, Bytes}
 use Rattle.codec.proofs.BigEndian.{one-byte}
 use Rattle.codec.proofs.Round.{record-again}
 use Rattle.account.specs.declared.Account.{Account}
-use Rattle.account.specs.Judge.{WholeRecord, kindOf, noRecord, closed, judge}
+use Rattle.account.specs.Judge.{WholeRecord, versionOf, kindByte, kindOf, noRecord, closed, judge}
 use Rattle.book.specs.Front.{Front, unfinished, badLength, whole, need, front}
 use Rattle.book.specs.State.{noRecordYet}
 use Rattle.book.specs.Run.{Run, run}
@@ -32,6 +32,7 @@ use Rattle.salvaging.specs.declared.Reading.{Reading}
 use Rattle.salvaging.specs.Salvage.{Found, nothing, with, wouldGet, droppedBy, ends, after, start, found, bookOf, listOf, farmAmong, saving}
 use Rattle.salvaging.specs.Salvage.{answering, salvageOf, foundIn}
 use Rattle.salvaging.specs.Inner.{Open, bookFrom}
+use Rattle.salvaging.proofs.KindLaws.{row-eight, eight-row}
 use Rattle.salvaging.proofs.FateLaws.{grows, refuses, closes-book, below-4096, first-farm, right-count, right-version, right-size, right-kept}
 use Rattle.salvaging.proofs.FateLaws.{open-after, records-after}
 use Rattle.salvaging.proofs.TurnLaws.{found-ends, found-goes}
@@ -82,16 +83,17 @@ never-closed a xs h n d = let b = begins a xs h d in omega (arith, below-4096 a 
 -- ---- its close
 
 -- the close that is written is the one that was there
-same-close : (a : Account) (r : List ℕ) → Bytes r → WholeRecord r → wouldGet a r ≡ 0 → kindOf r ≡ 8 → recordBytes 8 (a .records ∷ []) ≡ r
+same-close : (a : Account) (r : List ℕ) → Bytes r → WholeRecord r → wouldGet a r ≡ 0 → kindByte r ≡ 8 → recordBytes 8 (a .records ∷ []) ≡ r
 unfolding table valuesAt
 same-close a r b w e k =
-    let size : _ ≡ lengthOf 8 = rw k at (right-size a r e) in
-    let v = rw k at (right-count a r e k) in
+    let q : kindOf r ≡ 8 = eight-row (versionOf r) (kindByte r) k in
+    let size : _ ≡ lengthOf 8 = rw q at (right-size a r e) in
+    let v = rw q at (right-count a r e q) in
     let again = record-again 8 r (record {
       bytes = b;
       complete = omega (arith, w .long, size);
       length-is = size;
-      version-is = sym (one-byte r 2 (getD r 2 0) refl) ∙ right-version a r e;
+      version-is = sym (one-byte r 2 (getD r 2 0) refl) ∙ right-version a r e k;
       kind-is = sym (one-byte r 3 (getD r 3 0) refl) ∙ k;
     }) in
     rw v at again
@@ -123,10 +125,11 @@ module _ (s : Reading) (xs : List ℕ) (o : Open s) (l : s .lost ≡ false) (b :
   is-kept = right-kept s (leading xs) (b .gets) l
 
   -- the close
-  at-close : Bytes xs → kindOf (leading xs) ≡ 8 → Same s xs
+  at-close : Bytes xs → kindByte (leading xs) ≡ 8 → Same s xs
   at-close y k =
+      let q : kindOf (leading xs) ≡ 8 = eight-row (versionOf (leading xs)) (kindByte (leading xs)) k in
       let d : rest xs ≡ [] =
-      rw (closes-book (s .account) (leading xs) (b .gets) k, book-ended (closed (s .account)) (rest xs) (omega arith)) at (b .behind .left) in
+      rw (closes-book (s .account) (leading xs) (b .gets) q, book-ended (closed (s .account)) (rest xs) (omega arith)) at (b .behind .left) in
       let t : leading xs ≡ xs = sym (append-nil (leading xs)) ∙ ap (λ (z : List ℕ). leading xs ++ z) (sym d) ∙ take-append-drop (need xs) xs in
       let e : ends s (leading xs) ≡ true = or-left (leb 4095 (s .account .records)) _ (λ z. rw (k, is-kept)) in
       let n : foundIn s xs ≡ nothing = rw (records-whole xs (b .is-whole)) (found-ends s (leading xs) (recordsOf (rest xs)) e) in
@@ -135,18 +138,19 @@ module _ (s : Reading) (xs : List ℕ) (o : Open s) (l : s .lost ≡ false) (b :
       record { book = rw (n, z) (c ∙ t); list = rw n }
 
   -- another record
-  module _ (k : kindOf (leading xs) ≡ 8 → ⊥) where
+  module _ (k : kindByte (leading xs) ≡ 8 → ⊥) where
     few : s .account .records < 4095
     few =
         let g = grows (s .account) (leading xs) (b .gets) in
         ⊎-elim (λ (h : s .account .records < 4095). h)
         (λ (h : 4095 ≤ s .account .records).
         let j = judge (s .account) (leading xs) .account in
-        absurd (never-closed j (rest xs) (g .early k (o .early)) (omega (arith, g .records, h)) (b .behind)))
+        let early = g .early (λ z. k (row-eight (versionOf (leading xs)) (kindByte (leading xs)) z)) (o .early) in
+        absurd (never-closed j (rest xs) early (omega (arith, g .records, h)) (b .behind)))
         (lt-or-ge (s .account .records) 4095)
 
     goes : ends s (leading xs) ≡ false
-    goes = rw (lt-leb 4095 (s .account .records) few, ne-eqb (kindOf (leading xs)) 8 k)
+    goes = rw (lt-leb 4095 (s .account .records) few, ne-eqb (kindByte (leading xs)) 8 k)
 
     found-so : foundIn s xs ≡ with (droppedBy s (leading xs)) (s .number) (leading xs) (foundIn (after s (leading xs)) (rest xs))
     found-so = rw (records-whole xs (b .is-whole)) (found-goes s (leading xs) (recordsOf (rest xs)) goes)
@@ -159,7 +163,7 @@ module _ (s : Reading) (xs : List ℕ) (o : Open s) (l : s .lost ≡ false) (b :
     at-other ih =
         let c = droppedBy s (leading xs) in
         let f = foundIn (after s (leading xs)) (rest xs) in
-        let lost : after s (leading xs) .lost ≡ false = rw (is-kept, l) (no-loss (eqb (kindOf (leading xs)) 2)) in
+        let lost : after s (leading xs) .lost ≡ false = rw (is-kept, l) (no-loss (eqb (kindByte (leading xs)) 2)) in
         let a : after s (leading xs) .account ≡ judge (s .account) (leading xs) .account = rw is-kept in
         let m = ih (open-after s (leading xs) goes o) lost (rw a (b .behind)) in
         let p : pick (eqb c 0) (leading xs) [] ≡ leading xs = rw is-kept in
@@ -179,10 +183,10 @@ same (suc n) s xs h o l y d =
     let b = begins (s .account) xs (o .early) d in
     let m = meaning xs whole (b .is-whole) in
     let short : length (rest xs) < n = rw length-drop (omega arith) in
-    ⊎-elim (λ (k : kindOf (leading xs) ≡ 8). at-close s xs o l b y k)
-    (λ (k : kindOf (leading xs) ≡ 8 → ⊥).
+    ⊎-elim (λ (k : kindByte (leading xs) ≡ 8). at-close s xs o l b y k)
+    (λ (k : kindByte (leading xs) ≡ 8 → ⊥).
     at-other s xs o l b k (λ o′ l′ d′. same n (after s (leading xs)) (rest xs) short o′ l′ (bytes-drop (need xs) xs y) d′))
-    (equal-or (kindOf (leading xs)) 8)
+    (equal-or (kindByte (leading xs)) 8)
 
 -- ---- the promise
 

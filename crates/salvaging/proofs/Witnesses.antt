@@ -80,6 +80,19 @@ unfolding salvageOf answering found recordsOf recordsBy front valAt droppedBy fi
     farmAmong
 no-farm-19 = refl
 
+-- ---- farm records of version 2
+
+-- one with those bytes of its CH4 factor
+abbrev factors : ℕ → ℕ → List ℕ
+factors ch4 ch4′ = 0 ∷ 12 ∷ 2 ∷ 1 ∷ 0 ∷ 0 ∷ 0 ∷ 7 ∷ 7 ∷ 218 ∷ ch4 ∷ ch4′ ∷ 1 ∷ 54 ∷ []
+
+-- a factor of 1001 is dropped by 7, the farm record behind it is kept, and a second one is out of its place
+pub factors-saved : salvageOf (joined (factors 3 233 ∷ factors 0 21 ∷ farm ∷ close 1 ∷ [])) 20 18
+    ≡ saving (joined (factors 0 21 ∷ close 1 ∷ [])) (joined (entry 0 7 ∷ entry 2 6 ∷ []))
+unfolding salvageOf answering found recordsOf recordsBy front valAt droppedBy first judge accepted sortOf table size valuesAt firstBad inPlace
+    listOf farmAmong be bytesOf recordBytes
+factors-saved = refl
+
 -- ---- a right book
 
 abbrev right : List ℕ

@@ -9,7 +9,7 @@ use lib.ListN.{length}
 use lib.Dec.{eqb}
 use Rattle.base.specs.Choice.{pick}
 use Rattle.account.specs.declared.Account.{Account}
-use Rattle.account.specs.Judge.{kindOf, judge}
+use Rattle.account.specs.Judge.{kindByte, judge}
 use Rattle.salvaging.specs.Salvage.{wouldGet, oneOf, ofGroupKind, Entry, Found}
 
 -- ---- kept or listed
@@ -28,7 +28,7 @@ unlisted (e ∷ es) n (x ∷ xs) = pick (eqb (e .number) n) (unlisted es (n + 1)
 -- a record of kind byte 3, 4, 5 or 10, and the last record of kind byte 2 before it is listed
 abbrev pub Reason : Account → Bool → List ℕ → ℕ → Type 0
 Reason a lost r c =
-    ((wouldGet a r ≡ c) × (oneOf 2 4 c || oneOf 6 11 c ≡ true)) ⊎ ((c ≡ 6) × (lost ≡ true) × (ofGroupKind (kindOf r) ≡ true))
+    ((wouldGet a r ≡ c) × (oneOf 2 4 c || oneOf 6 11 c ≡ true)) ⊎ ((c ≡ 6) × (lost ≡ true) × (ofGroupKind (kindByte r) ≡ true))
 
 -- each entry of the list has its reason: the records rs, numbered from n, are gone through; one that is listed has a reason, any other is
 -- accepted into the account; lost: the last record of kind byte 2 is listed. A number with no record has none.
@@ -36,8 +36,8 @@ abbrev pub Reasons : Account → Bool → ℕ → List (List ℕ) → List Entry
 Reasons a lost n rs [] = Unit {0}
 Reasons a lost n [] (e ∷ es) = ⊥
 Reasons a lost n (r ∷ rs) (e ∷ es) =
-    (e .number ≡ n → Reason a lost r (e .code) × Reasons a (pick (eqb (kindOf r) 2) true lost) (n + 1) rs es)
-    × ((e .number ≡ n → ⊥) → Reasons (judge a r .account) (pick (eqb (kindOf r) 2) false lost) (n + 1) rs (e ∷ es))
+    (e .number ≡ n → Reason a lost r (e .code) × Reasons a (pick (eqb (kindByte r) 2) true lost) (n + 1) rs es)
+    × ((e .number ≡ n → ⊥) → Reasons (judge a r .account) (pick (eqb (kindByte r) 2) false lost) (n + 1) rs (e ∷ es))
 
 -- ---- headings
 
@@ -49,9 +49,9 @@ pub record Under : Type 0 where
 -- each of rs with the last record of kind byte 2 before it, h where there is none among them
 unfoldable pub underHeadings : List ℕ → List (List ℕ) → List Under
 underHeadings h [] = []
-underHeadings h (r ∷ rs) = record { detail = r; heading = h } ∷ underHeadings (pick (eqb (kindOf r) 2) r h) rs
+underHeadings h (r ∷ rs) = record { detail = r; heading = h } ∷ underHeadings (pick (eqb (kindByte r) 2) r h) rs
 
 -- those of kinds 3 to 5 and 10
 unfoldable pub details : List Under → List Under
 details [] = []
-details (u ∷ us) = pick (ofGroupKind (kindOf (u .detail))) (u ∷ details us) (details us)
+details (u ∷ us) = pick (ofGroupKind (kindByte (u .detail))) (u ∷ details us) (details us)

@@ -10,7 +10,7 @@ use Rattle.base.specs.Choice.{pick}
 use Rattle.codec.specs.Codec.{be, recordBytes}
 use Rattle.account.specs.declared.Account.{Account}
 use Rattle.account.specs.Sorts.{sortOf, bySort}
-use Rattle.account.specs.Judge.{kindOf, noRecord, first, refusals, judge}
+use Rattle.account.specs.Judge.{kindByte, noRecord, first, refusals, judge}
 use Rattle.account.specs.Line.{joined}
 use Rattle.book.specs.WholeRecords.{recordsOf}
 use Rattle.salvaging.specs.declared.Reading.{Reading}
@@ -45,11 +45,11 @@ drops c k lost =
 
 -- the number with which r is dropped, 0 where it is not
 unfoldable pub droppedBy : Reading → List ℕ → ℕ
-droppedBy s r = first (drops (wouldGet (s .account) r) (kindOf r) (s .lost))
+droppedBy s r = first (drops (wouldGet (s .account) r) (kindByte r) (s .lost))
 
 -- "a close that none of these drops, .., or 4,095 kept records end the reading"
 abbrev pub ends : Reading → List ℕ → Bool
-ends s r = leb 4095 (s .account .records) || (eqb (kindOf r) 8 && eqb (droppedBy s r) 0)
+ends s r = leb 4095 (s .account .records) || (eqb (kindByte r) 8 && eqb (droppedBy s r) 0)
 
 -- ---- the reading
 
@@ -62,7 +62,7 @@ abbrev pub after : Reading → List ℕ → Reading
 after s r =
     record {
       account = pick (eqb (droppedBy s r) 0) (judge (s .account) r .account) (s .account);
-      lost = pick (eqb (kindOf r) 2) (not (eqb (droppedBy s r) 0)) (s .lost);
+      lost = pick (eqb (kindByte r) 2) (not (eqb (droppedBy s r) 0)) (s .lost);
       number = s .number + 1;
     }
 
@@ -110,10 +110,10 @@ unfoldable pub listOf : List Entry → List ℕ
 listOf [] = []
 listOf (e ∷ es) = entryBytes e ++ listOf es
 
--- a farm record is among them
+-- a farm record, of either version, is among them
 unfoldable pub farmAmong : List (List ℕ) → Bool
 farmAmong [] = false
-farmAmong (r ∷ rs) = eqb (kindOf r) 1 || farmAmong rs
+farmAmong (r ∷ rs) = eqb (kindByte r) 1 || farmAmong rs
 
 -- what the tool gives: its answer, the bytes of the clean book and those of the list
 pub record Salvage : Type 0 where

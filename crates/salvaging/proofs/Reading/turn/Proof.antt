@@ -7,7 +7,7 @@ use borrow.Author.Tests.{eqb-false, eq-eqb, ne-eqb}
 use lib.ListN.{getD, take}
 use lib.Dec.{leb, eqb}
 use Rattle.base.proofs.Tests.{or-l, or-r}
-use Rattle.account.specs.Judge.{WholeRecord, kindOf}
+use Rattle.account.specs.Judge.{WholeRecord, kindByte}
 use Rattle.book.proofs.RecordLaws.{record-in, record-whole}
 use Rattle.salvaging.specs.Salvage.{droppedBy, ends}
 use Rattle.salvaging.proofs.TurnLaws.{told-account, code-told, close-ends, other-goes, next-is, ends-at, ends-before, goes-on}
@@ -30,7 +30,7 @@ whole-so f = let y = f .before .before .before .ready .ensures .some (some (f .b
 
 -- its kind byte
 kind-so : (f : tie.After-first-of)
-    → getD (f .first-of .result .now) 3 0 ≡ kindOf (take (f .before .before .before .ready .result) (entry f .args .xs .now))
+    → getD (f .first-of .result .now) 3 0 ≡ kindByte (take (f .before .before .before .ready .result) (entry f .args .xs .now))
 kind-so f = ap (λ (l : List ℕ). getD l 3 0) (f .first-of .ensures)
 
 -- the number that drops it
