@@ -13,7 +13,7 @@ use lib.Seq.{take-append-seam}
 use Rattle.base.proofs.Tests.{neither, or-cases}
 use Rattle.codec.specs.Codec.{valAt}
 use Rattle.account.specs.declared.Account.{Account}
-use Rattle.account.specs.Judge.{kindOf}
+use Rattle.account.specs.Judge.{kindByte}
 use Rattle.book.specs.declared.State.{State}
 use Rattle.book.specs.declared.Fed.{Fed}
 use Rattle.book.specs.Front.{Front, unfinished, badLength, whole, need, front}
@@ -128,6 +128,6 @@ pub told-lines : (a : Account) (s : State) (r t : List ℕ) (n : ℕ) → s ≡ 
 told-lines a s r t n i l e = rw (i, l) at e
 
 -- a record's kind, as the code reads it
-pub kind-byte : (k : ℕ) (r : List ℕ) → k ≡ valAt r 3 1 → k ≡ kindOf r
+pub kind-byte : (k : ℕ) (r : List ℕ) → k ≡ valAt r 3 1 → k ≡ kindByte r
 unfolding valAt
 kind-byte k r e = omega (arith, e)

@@ -17,7 +17,7 @@ use Rattle.account.specs.declared.Heading.{Heading}
 use Rattle.account.specs.Sorts.{sortOf}
 use Rattle.account.specs.Line.{totalOf}
 use Rattle.account.specs.Range.{AccountInRange}
-use Rattle.account.specs.Judge.{kindOf, valuesOf, noRecord, NotRefused, Step, accepted, judge}
+use Rattle.account.specs.Judge.{versionOf, kindByte, kindOf, valuesOf, noRecord, NotRefused, Step, accepted, judge}
 use Rattle.account.proofs.Refusals.{judged-passes}
 use Rattle.account.proofs.Keeps.{in-range-none, in-range-judge}
 use Rattle.account.proofs.Details.{judge-accepted, within-range}
@@ -102,11 +102,19 @@ book-taken xs = as-taken (suc (length xs)) noRecord xs (omega arith) in-range-no
 
 -- ---- records that are the same but for the count of a close do the same, where both are accepted
 
-shape-kind : (r : List ℕ) → kindOf (shapeOf r) ≡ kindOf r
-shape-kind r = go (eqb (kindOf r) 8)
+shape-byte : (r : List ℕ) → kindByte (shapeOf r) ≡ kindByte r
+shape-byte r = go (eqb (kindByte r) 8)
   where
-    go : (b : Bool) → kindOf (pick b (take 4 r) r) ≡ kindOf r
+    go : (b : Bool) → kindByte (pick b (take 4 r) r) ≡ kindByte r
     go true = getD-take 4 r 3 0 (omega arith)
+    go false = refl
+
+-- a record whose kind byte is 8 is a close
+close-row : (r : List ℕ) → kindByte r ≡ 8 → kindOf r ≡ 8
+close-row r e = rw e (go (eqb (versionOf r) 2))
+  where
+    go : (b : Bool) → _≡_ {A = ℕ} (pick (b && false) 11 8) 8
+    go true = refl
     go false = refl
 
 close-any : (a : Account) (k : ℕ) (v w : List ℕ) → k ≡ 8 → accepted a k v ≡ accepted a k w
@@ -115,14 +123,16 @@ close-any a k v w e = rw e refl
 
 same-step : (a : Account) (r s : List ℕ) → NotRefused a r → NotRefused a s → shapeOf r ≡ shapeOf s → judge a r ≡ judge a s
 same-step a r s t u e =
-    let k : kindOf r ≡ kindOf s = sym (shape-kind r) ∙ ap kindOf e ∙ shape-kind s in
-    by-test (eqb (kindOf r) 8)
+    let k : kindByte r ≡ kindByte s = sym (shape-byte r) ∙ ap kindByte e ∙ shape-byte s in
+    by-test (eqb (kindByte r) 8)
     (λ q.
-    judge-accepted a r t ∙ close-any a (kindOf r) (valuesOf r) (valuesOf s) (eqb-true _ _ q)
-    ∙ ap (λ (n : ℕ). accepted a n (valuesOf s)) k ∙ sym (judge-accepted a s u))
+    let eight = close-row r (eqb-true _ _ q) in
+    let row : kindOf r ≡ kindOf s = eight ∙ sym (close-row s (sym k ∙ eqb-true _ _ q)) in
+    judge-accepted a r t ∙ close-any a (kindOf r) (valuesOf r) (valuesOf s) eight
+    ∙ ap (λ (n : ℕ). accepted a n (valuesOf s)) row ∙ sym (judge-accepted a s u))
     (λ q. ap (judge a) (unshaped r q ∙ e ∙ sym (unshaped s (ap (λ (n : ℕ). eqb n 8) (sym k) ∙ q))))
   where
-    unshaped : (r : List ℕ) → eqb (kindOf r) 8 ≡ false → r ≡ shapeOf r
+    unshaped : (r : List ℕ) → eqb (kindByte r) 8 ≡ false → r ≡ shapeOf r
     unshaped r q = rw q refl
 
 record Alike (a : Account) (rs ss : List (List ℕ)) : Type 0 where

@@ -13,7 +13,7 @@ use lib.Dec.{eqb}
 use Rattle.base.specs.Choice.{pick}
 use Rattle.base.proofs.Tests.{neither, or-cases}
 use Rattle.account.specs.declared.Account.{Account}
-use Rattle.account.specs.Judge.{kindOf}
+use Rattle.account.specs.Judge.{kindByte}
 use Rattle.comparing.specs.declared.cursor.Cursor.{Cursor}
 use Rattle.comparing.specs.declared.cursor.Taken.{Taken}
 use Rattle.comparing.specs.declared.runs.Counts.{Counts}
@@ -223,7 +223,7 @@ module _ (es ns : List Entry) (n m l : ℕ) (r : Counts) (p : n ≡ length es) (
 -- ---- a record without the count of a close, as the code finds it
 
 module _ (r : List ℕ) (n : ℕ) (h : 4 ≤ n) where
-  kind-in : kindOf (take n r) ≡ getD r 3 0
+  kind-in : kindByte (take n r) ≡ getD r 3 0
   kind-in = getD-take n r 3 0 (omega arith)
 
   pub shape-close : getD r 3 0 ≡ 8 → take 4 r ≡ shapeOf (take n r)

@@ -7,7 +7,7 @@ use mathlib.Core.Bool.{Bool, _&&_, not}
 use lib.ListN.{length, take, drop}
 use lib.Dec.{eqb}
 use Rattle.base.specs.Choice.{pick}
-use Rattle.account.specs.Judge.{kindOf}
+use Rattle.account.specs.Judge.{kindByte}
 use Rattle.comparing.specs.declared.Plan.{Plan}
 use Rattle.comparing.specs.declared.runs.Counts.{Counts}
 use Rattle.comparing.specs.Entries.{Entry, recordsIn}
@@ -16,7 +16,7 @@ use Rattle.comparing.specs.Moved.{sameDetails}
 
 -- a record, and of a close all but its count: other records change that
 abbrev pub shapeOf : List ℕ → List ℕ
-shapeOf r = pick (eqb (kindOf r) 8) (take 4 r) r
+shapeOf r = pick (eqb (kindByte r) 8) (take 4 r) r
 
 -- ---- pairs of records, one of either book
 

@@ -7,7 +7,7 @@ use mathlib.Core.Bool.{Bool, true, false, _&&_}
 use lib.ListN.{length, take, drop}
 use lib.Dec.{eqb}
 use Rattle.base.specs.Choice.{pick}
-use Rattle.account.specs.Judge.{kindOf}
+use Rattle.account.specs.Judge.{kindByte}
 use Rattle.printing.specs.Ascii.{ascii}
 use Rattle.printing.specs.Decimal.{decimal}
 use Rattle.names.specs.Names.{kindName}
@@ -28,7 +28,7 @@ wordOf new = pick new (ascii "new") (ascii "old")
 -- its book, its number from 0, its kind's name, and its lines as the lister prints them
 unfoldable pub entryText : Bool → ℕ → List ℕ → List ℕ → List ℕ
 entryText new number r lines =
-    wordOf new ++ (ascii " record " ++ (decimal number ++ (ascii ": " ++ (kindName (kindOf r) ++ (ascii "\n" ++ linesText lines)))))
+    wordOf new ++ (ascii " record " ++ (decimal number ++ (ascii ": " ++ (kindName (kindByte r) ++ (ascii "\n" ++ linesText lines)))))
 
 -- ---- some records of one book, the first of them with that number
 

@@ -15,7 +15,7 @@ ghost use mathlib.Core.Path.{_≡_};
 ghost use mathlib.Core.List.{_++_};
 ghost use Prim.Native.Nat.{_-_, _≤_};
 ghost use lib.ListN.{length};
-ghost use Rattle.account.specs.Judge.{kindOf};
+ghost use Rattle.account.specs.Judge.{kindByte};
 ghost use Rattle.printing.specs.Ascii.{ascii};
 ghost use Rattle.printing.specs.Said.{Said};
 ghost use Rattle.listing.specs.Listing.{linesText};
@@ -54,7 +54,7 @@ fn say_lines(out: &mut [u8], at: usize, a: Account, r: &[u8]) -> usize
 
 fn kind_of(r: &[u8]) -> u64
     requires { ⌜ 4 ≤ length (now r) ⌝ }
-    ensures { λ k. ⌜ k ≡ kindOf (now (r .entry)) ⌝ }
+    ensures { λ k. ⌜ k ≡ kindByte (now (r .entry)) ⌝ }
 {
     be8(r, 3)
 }

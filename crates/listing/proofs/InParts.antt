@@ -12,7 +12,7 @@ use lib.Seq.{drop-append-seam}
 use lib.Dec.{eqb, ltb}
 use Rattle.base.specs.Choice.{pick}
 use Rattle.base.proofs.Tests.{of-choice}
-use Rattle.codec.specs.Table.{lineFields, totalFields, size, lineSize, totalSize, isTotal, isKind}
+use Rattle.codec.specs.Table.{lineFields, totalFields, size, lineSize, totalSize, isTotal, isRow}
 use Rattle.codec.specs.Codec.{be, bytesOf, lineBytes, totalBytes, valuesAt, frontSize, frontFields}
 use Rattle.codec.proofs.Rows.{sizes}
 use Rattle.codec.proofs.Values.{values-same}
@@ -22,7 +22,7 @@ use Rattle.account.specs.declared.Figures.{Figures}
 use Rattle.account.specs.Sorts.{Sort, ofGroup, ofFarm, closes, sortOf}
 use Rattle.account.specs.Line.{lineWith, totalWith, subtotals, totalOf, joined}
 use Rattle.account.specs.Judge.{kindOf, valuesOf, first, refusals, Step, accepted, judge}
-use Rattle.codec.proofs.EachKind.{kind-most}
+use Rattle.codec.proofs.EachKind.{row-most}
 use Rattle.account.proofs.Sorts.{by-sort}
 use Rattle.account.proofs.Told.{line-long, total-long}
 use Rattle.book.specs.declared.State.{State}
@@ -80,12 +80,12 @@ subtotals-whole : (a : Account) → Wholes (subtotals a)
 subtotals-whole a =
     of-choice Wholes (eqb (a .heading .group) 0) (λ e. tt) (λ e. (line-whole 16 _ _ (omega arith) (λ q. omega (arith, q)), tt))
 
-accepted-whole : (a : Account) (k : ℕ) (v : List ℕ) → isKind k ≡ true → Wholes (accepted a k v .lines)
+accepted-whole : (a : Account) (k : ℕ) (v : List ℕ) → isRow k ≡ true → Wholes (accepted a k v .lines)
 unfolding accepted
 accepted-whole a k v h =
     by-sort (λ (j : Step). Wholes (j .lines)) (sortOf k) (λ e. tt) (λ e. subtotals-whole a)
-    (λ e. (line-whole k _ _ (omega (arith, kind-most k h)) (not-close k ofGroup (inl refl) e), tt))
-    (λ e. (line-whole k _ _ (omega (arith, kind-most k h)) (not-close k ofFarm (inr refl) e), tt))
+    (λ e. (line-whole k _ _ (omega (arith, row-most k h)) (not-close k ofGroup (inl refl) e), tt))
+    (λ e. (line-whole k _ _ (omega (arith, row-most k h)) (not-close k ofFarm (inr refl) e), tt))
     (λ e. wholes-append (subtotals a) (totalOf a ∷ []) (subtotals-whole a) (total-whole _ _, tt))
 
 judge-whole : (a : Account) (r : List ℕ) → Wholes (judge a r .lines)

@@ -8,12 +8,12 @@ use borrow.Author.Tests.{ne-eqb}
 use Rattle.base.proofs.Tests.{not-false}
 use Rattle.codec.specs.Table.{isKind}
 use Rattle.codec.specs.Codec.{valAt}
-use Rattle.codec.proofs.EachKind.{kind-most}
+use Rattle.codec.proofs.EachKind.{row-most, row-of-kind}
 use Rattle.account.specs.declared.Account.{Account}
 use Rattle.account.specs.declared.Heading.{Heading}
 use Rattle.account.specs.Sorts.{sortOf}
 use Rattle.account.specs.Line.{groupOf}
-use Rattle.account.specs.Judge.{kindOf}
+use Rattle.account.specs.Judge.{versionOf, kindByte, kindOf}
 use Rattle.account.proofs.Sorts.{by-sort}
 use Rattle.account.proofs.Details.{withRecord}
 use Rattle.promises.specs.Headings.{Mark}
@@ -34,7 +34,7 @@ none-there : (rs : List (List ℕ)) (a : Account) (h : Heading) → h .group ≤
 unfolding subtotalLines
 none-there [] a h g t = refl
 none-there (r ∷ rs) a h g t =
-    let k = kind-most (kindOf r) (not-false (isKind (kindOf r)) (t .0 .takes .passes .kind)) in
+    let k = row-most (kindOf r) (row-of-kind (versionOf r) (kindByte r) (not-false (isKind (kindByte r)) (t .0 .takes .passes .kind))) in
     let m = ap (λ (m : Mark). m .kind) (line-mark (kindOf r) (groupOf h (kindOf r)) _ _ _ _ _ _ (omega (arith, k)) (group-small h (kindOf r) g)) in
     another-kind (lineIn h r) (map (lineIn h) rs) (kindOf r) m (λ e. omega (arith, e, k)) ∙ none-there rs (withRecord a r) h g (t .1)
 

@@ -10,4 +10,5 @@ detail-spec =
     (λ c. search needs)
     (λ c. search needs)
     (λ c. search needs)
-    (λ c. detail-test _))
+    (λ c. search needs)
+    (λ c. detail-test _ _))
