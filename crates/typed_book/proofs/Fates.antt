@@ -47,11 +47,12 @@ by-count answers.Wrote t n e s bytes = refl
 by-count (answers.Refused r) t n e s bytes = refl
 
 -- a refusal writes nothing
-same-bytes : (s : State) (k : ℕ) (v : List ℕ) (room : ℕ) (t : Typist) (n : ℕ) (e : Entry) → byWrite t n e (writer.write s k v room) .bytes ≡ writer.write s k v room .bytes
-unfolding writer.write
-same-bytes s k v room t n e = go (writer.answerOf (writer.refusals s k v room))
+same-bytes : (s : State) (k row : ℕ) (v : List ℕ) (room : ℕ) (t : Typist) (n : ℕ) (e : Entry)
+    → byWrite t n e (writer.writeRow s k row v room) .bytes ≡ writer.writeRow s k row v room .bytes
+unfolding writer.writeRow
+same-bytes s k row v room t n e = go (writer.answerOf (writer.refusals s k row v room))
   where
-    go : (a : Answer) → byWrite t n e (writer.byAnswer a s k v) .bytes ≡ writer.byAnswer a s k v .bytes
+    go : (a : Answer) → byWrite t n e (writer.byAnswer a s row v) .bytes ≡ writer.byAnswer a s row v .bytes
     go answers.Wrote = refl
     go (answers.Refused r) = refl
 
@@ -64,7 +65,7 @@ judged t n e out h i g p q f =
     let x = writeEntry (t .state) e (length out) in
     let entered : enteredBy (x .answer) t n e (x .state) (length (x .bytes)) ≡ enteredOf (recordTurn t n e (length out)) =
     by-count (x .answer) t n e (x .state) (x .bytes) ∙ ap enteredOf (sym is) in
-    let bytes : recordTurn t n e (length out) .bytes ≡ x .bytes = ap (λ (y : Turn). y .bytes) is ∙ same-bytes _ _ _ _ t n e in
+    let bytes : recordTurn t n e (length out) .bytes ≡ x .bytes = ap (λ (y : Turn). y .bytes) is ∙ same-bytes _ _ _ _ _ t n e in
     (f ∙ ap (λ (y : Written). enteredBy (y .answer) t n e (y .state) (y .written)) p ∙ entered, q ∙ rw bytes)
 
 -- ---- by what the line says

@@ -77,7 +77,8 @@ needs-class a k v h g z =
     let place = passed a k v (weighed-passes a k v h) .place in
     let low : 3 ≤ k = grouped-most k g .0 in
     let one : eqb k 1 ≡ false = ne-eqb k 1 (λ (e : k ≡ 1). omega arith) in
-    let serves = and-l (headingServes (a .heading .class) k) _ (rw one at place) in
+    let other : eqb k 11 ≡ false = ne-eqb k 11 (λ (e : k ≡ 11). omega (arith, grouped-most k g .1)) in
+    let serves = and-l (headingServes (a .heading .class) k) _ (rw (one, other) at place) in
     no-class k (grouped-kinds k g) (rw z at serves)
   where
     zero-one : false ≡ true → ⊥
@@ -101,6 +102,14 @@ needs-class a k v h g z =
         only k three four ten (inl b) = omega (arith, b .0, b .1)
         only k three four ten (inr e) = absurd (ten e)
 
+-- the row of some values of a kind: a heading's for headings alone, and the kind itself but for farm records
+no-head : (k count : ℕ) → (k ≡ 2 → ⊥) → writer.rowFor k count ≡ 2 → ⊥
+no-head k count n =
+    of-choice (λ (row : ℕ). row ≡ 2 → ⊥) (eqb k 1 && eqb count 4) (λ _ e. omega arith) (λ _. n)
+
+own-row : (k count : ℕ) → 3 ≤ k → writer.rowFor k count ≡ k
+own-row k count low = rw (ne-eqb k 1 (λ (e : k ≡ 1). omega arith)) refl
+
 -- ---- what is kept from line to line
 
 pub record Kept (m : Mark) (h : List ℕ) (t : Typist) : Type 0 where
@@ -116,7 +125,7 @@ still-lost false n lost m h A l z f = f z
 -- a kind that the book has not is refused by 3
 three : (s : State) (k : ℕ) (v : List ℕ) (room : ℕ) → inRange s ≡ true → s .account .stage < 2 → s .count ≡ 0 → ltb k 1 || ltb lastKind k ≡ true
     → writer.write s k v room .answer ≡ answers.Refused (writer.refusalBy 3 (s .account .records))
-unfolding writer.write writer.refusals writer.answerOf
+unfolding writer.writeRow writer.refusals writer.answerOf
 three s k v room r early c g =
     rw (r, ne-eqb (s .account .stage) 3 (λ (e : s .account .stage ≡ 3). omega arith), ne-eqb (s .account .stage) 2 (λ (e : s .account .stage ≡ 2). omega arith), c, g)
 
@@ -179,7 +188,7 @@ module _ (m : Mark) (h : List ℕ) (t : Typist) (k : Kept m h t) (e : Entry) whe
   wrote-keeps n q =
       let kind = completedOf e (t .state .account .records) .kind in
       let v = valuesIn (completedOf e (t .state .account .records)) in
-      let so = written-so (t .state) kind v 28 q in
+      let so = written-so (t .state) kind (writer.rowFor kind (length v)) v 28 q in
       let same = completed-kind e (t .state .account .records) in
       let range = stays-in-range (t .state) kind v 28 (k .range) in
       record {
@@ -192,7 +201,9 @@ module _ (m : Mark) (h : List ℕ) (t : Typist) (k : Kept m h t) (e : Entry) whe
       test true = inl refl
       test false = inr refl
 
-      by-kind : Written-so (t .state) (completedOf e (t .state .account .records) .kind) (valuesIn (completedOf e (t .state .account .records))) 28
+      by-kind : Written-so (t .state) (completedOf e (t .state .account .records) .kind)
+          (writer.rowFor (completedOf e (t .state .account .records) .kind) (length (valuesIn (completedOf e (t .state .account .records)))))
+          (valuesIn (completedOf e (t .state .account .records))) 28
           → (eqb (e .kind) 2 ≡ true) ⊎ (eqb (e .kind) 2 ≡ false) → pick (eqb (e .kind) 2) 0 (t .lost) ≡ 0
           → (writeEntry (t .state) e 28 .state .account .heading .class ≡ 0)
           ⊎ Under (markSaid said.Record e m) (pick (eqb (e .kind) 2) (writeEntry (t .state) e 28 .bytes) h)
@@ -208,7 +219,7 @@ module _ (m : Mark) (h : List ℕ) (t : Typist) (k : Kept m h t) (e : Entry) whe
           let one : ltb (e .kind) 1 ≡ false = rw (← completed-kind e (t .state .account .records)) (le-ltb _ _ low) in
           let last : ltb lastKind (e .kind) ≡ false = rw (← completed-kind e (t .state .account .records)) (le-ltb _ _ high) in
           let head : writeEntry (t .state) e 28 .state .account .heading ≡ t .state .account .heading =
-          ap (λ (x : writer.Write). x .state .account .heading) (so .is) ∙ heading-after (t .state .account) _ _ (so .still) not-two in
+          ap (λ (x : writer.Write). x .state .account .heading) (so .is) ∙ heading-after (t .state .account) _ _ (so .still) (no-head (completedOf e (t .state .account .records) .kind) (length (valuesIn (completedOf e (t .state .account .records)))) not-two) in
           rw (y, one, last, head) (k .under (rw y at z) (so .ready .early))
 
   judged-keeps : (n : ℕ) → 1 ≤ n → Keeps m h e (byWrite t n e (writeEntry (t .state) e 28))
@@ -219,7 +230,7 @@ module _ (m : Mark) (h : List ℕ) (t : Typist) (k : Kept m h t) (e : Entry) whe
       go answers.Wrote q = wrote-keeps n q
       go (answers.Refused r) q =
           refused-keeps n l (r .code)
-          (λ early out. same-code (sym q ∙ three (t .state) _ _ 28 (range-test (t .state) (k .range)) early (k .empty)
+          (λ early out. same-code (sym q ∙ three (t .state) (completedOf e (t .state .account .records) .kind) (valuesIn (completedOf e (t .state .account .records))) 28 (range-test (t .state) (k .range)) early (k .empty)
           (rw (completed-kind e (t .state .account .records)) out)))
           (refusedAt t n (e .kind) (r .code)) refl refl
         where
@@ -301,10 +312,14 @@ line-judged t l k q = said-judged (lineOf (textOf l) .said) t (l .number) (lineO
 -- where the heading is kept, a written detail stands under it
 under-it : (m : Mark) (h : List ℕ) (t : Typist) → Kept m h t → (k : ℕ) → inGroup k ≡ true → Judged t k → Under m h
 under-it m h t kept k g j =
-    let so = written-so (t .state) _ _ 28 (j .wrote) in
+    let so = written-so (t .state) _ _ _ 28 (j .wrote) in
     let same = completed-kind (j .entry) (t .state .account .records) ∙ j .kind in
+    let kind = completedOf (j .entry) (t .state .account .records) .kind in
+    let count = length (valuesIn (completedOf (j .entry) (t .state .account .records))) in
+    let grouped : inGroup kind ≡ true = rw same g in
+    let row : inGroup (writer.rowFor kind count) ≡ true = rw (own-row kind count (grouped-most kind grouped .0)) grouped in
     let found : t .lost ≡ 0 = not-lost (inGroup (j .entry .kind)) (rw (j .kind) g) (j .kept) in
-    ⊎-elim (λ z. absurd (needs-class (t .state .account) _ _ (so .still) (rw same g) z)) (λ u. u) (kept .under found (so .ready .early))
+    ⊎-elim (λ z. absurd (needs-class (t .state .account) _ _ (so .still) row z)) (λ u. u) (kept .under found (so .ready .early))
   where
     not-lost : (b : Bool) → b ≡ true → b && not (eqb (t .lost) 0) ≡ false → t .lost ≡ 0
     not-lost true p q = eqb-true (t .lost) 0 (not-false _ q)

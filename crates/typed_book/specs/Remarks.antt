@@ -10,6 +10,7 @@ use Rattle.printing.specs.Decimal.{decimal}
 use Rattle.typed_words.specs.Words.{nthWord}
 use Rattle.codec.specs.Table.{fields}
 use Rattle.names.specs.Names.{kindName, kindNames, fieldName, fieldNames, expected, className, sentence, shown}
+use Rattle.typed_line.specs.Line.{rowOfLine}
 use Rattle.account.specs.declared.Account.{Account}
 use Rattle.account.specs.declared.Days.{Days}
 use Rattle.account.specs.declared.Refusal.{Refusal}
@@ -29,7 +30,7 @@ abbrev pub noKindText : List ℕ → List ℕ
 noKindText xs =
     ascii "not read: " ++ (quoted (nthWord 0 xs) ++ (ascii " is no kind of record; expected " ++ (kindNames ++ ascii " or its number")))
 
--- kind k has a field i, counted from 0
+-- the row k has a field i, counted from 0
 abbrev pub hasField : ℕ → ℕ → Bool
 hasField k i = ltb i (length (fields k))
 
@@ -39,15 +40,15 @@ fieldText k i = pick (hasField k i) (ascii "," ++ fieldName k i) []
 abbrev pub expectedText : ℕ → ℕ → List ℕ
 expectedText k i = pick (hasField k i) (ascii "; expected" ++ expected k i) []
 
--- the word behind i others is no number: the field i - 1 is the value's, since the kind's word comes first
+-- the word behind i others in a line of the row k is no number: the field i - 1 is the value's, since the kind's word comes first
 abbrev pub noNumberText : ℕ → ℕ → List ℕ → List ℕ
 noNumberText k i xs =
     ascii "not read: "
     ++ (kindName k ++ (fieldText k (i - 1) ++ (ascii ": " ++ (quoted (nthWord i xs) ++ (ascii " is no number" ++ expectedText k (i - 1))))))
 
--- by the place of the wrong word, counted from 1
+-- a line of kind k, by the place of the wrong word, counted from 1
 unfoldable pub unreadText : ℕ → ℕ → List ℕ → List ℕ
-unreadText k place xs = pick (eqb place 0) longText (pick (eqb place 1) (noKindText xs) (noNumberText k (place - 1) xs))
+unreadText k place xs = pick (eqb place 0) longText (pick (eqb place 1) (noKindText xs) (noNumberText (rowOfLine k xs) (place - 1) xs))
 
 abbrev pub withheldText : ℕ → List ℕ
 withheldText failed = ascii "close withheld: line " ++ (decimal failed ++ ascii " failed, and a book with a failed line is not closed")
@@ -55,21 +56,25 @@ withheldText failed = ascii "close withheld: line " ++ (decimal failed ++ ascii 
 abbrev pub withoutText : ℕ → List ℕ
 withoutText lost = ascii "without heading: the heading in line " ++ (decimal lost ++ ascii " was not written")
 
--- refusal 7: the field, counted from 1, and the word that is typed for it
+-- refusal 7 in a line of the row k: the field, counted from 1, and the word that is typed for it
 abbrev pub rangeText : ℕ → ℕ → List ℕ → List ℕ
 rangeText k field xs =
     ascii " field "
     ++ (decimal field ++ (ascii ":" ++ (fieldName k (field - 1) ++ (ascii ": " ++ (quoted (nthWord field xs) ++ (ascii " is out of its range; expected" ++ expected k (field - 1)))))))
 
+-- the values of a farm record of version 1, or of version 2
+abbrev pub eitherText : List ℕ
+eitherText = fieldNames 1 ++ (ascii ", or" ++ fieldNames 11)
+
 -- refusal 4: the values that the kind has
-abbrev pub countText : ℕ → List ℕ
-countText k = ascii ": a wrong count of values; expected" ++ fieldNames k
+abbrev pub countText : ℕ → List ℕ → List ℕ
+countText k xs = ascii ": a wrong count of values; expected" ++ pick (eqb k 1) eitherText (fieldNames (rowOfLine k xs))
 
 -- why it is refused
 unfoldable pub groundText : ℕ → Refusal → List ℕ → List ℕ
 groundText k r xs =
-    pick (eqb (r .code) 7) (rangeText k (r .field) xs)
-    (pick (eqb (r .code) 4) (countText k) (ascii ": " ++ sentence (r .code)))
+    pick (eqb (r .code) 7) (rangeText (rowOfLine k xs) (r .field) xs)
+    (pick (eqb (r .code) 4) (countText k xs) (ascii ": " ++ sentence (r .code)))
 
 abbrev pub refusedText : ℕ → Refusal → List ℕ → List ℕ
 refusedText k r xs = ascii "refused " ++ (decimal (r .code) ++ groundText k r xs)

@@ -18,8 +18,9 @@ ghost use Rattle.printing.specs.Decimal.{decimal};
 ghost use Rattle.printing.specs.Said.{Said};
 ghost use Rattle.typed_words.specs.Words.{nthWord};
 ghost use Rattle.typed_book.specs.Remarks.{quoted, hasField, longText, noKindText, fieldText, expectedText, noNumberText, unreadText, withheldText, withoutText};
-ghost use Rattle.names.specs.Names.{expected, sentence};
-ghost use Rattle.typed_book.specs.Remarks.{rangeText, countText, groundText, refusedText, ofYear, daysText, noDays, allDays, headText, groupText, lineHead, isTold, kindWritten, wordsOf, endedText, remarkText};
+ghost use Rattle.names.specs.Names.{fieldNames, expected, sentence};
+ghost use Rattle.typed_line.specs.Line.{rowOfLine};
+ghost use Rattle.typed_book.specs.Remarks.{rangeText, eitherText, countText, groundText, refusedText, ofYear, daysText, noDays, allDays, headText, groupText, lineHead, isTold, kindWritten, wordsOf, endedText, remarkText};
 ghost use Rattle.typed_book.specs.Remarks.{statusOf, moreText, countsText, openText, verdictText};
 
 fn say_quoted(out: &mut [u8], at: usize, word: &[u8]) -> usize
@@ -50,45 +51,45 @@ fn say_no_kind(out: &mut [u8], at: usize, text: &[u8]) -> usize
     say(out, kinds, b" or its number")
 }
 
-fn has_field(kind: u64, i: usize) -> bool
-    ensures { λ r. ⌜ r ≡ hasField kind i ⌝ }
+fn has_field(row: u64, i: usize) -> bool
+    ensures { λ r. ⌜ r ≡ hasField row i ⌝ }
 {
-    i < codec::kinds::values_of(kind)
+    i < codec::kinds::values_of(row)
 }
 
-fn say_field(out: &mut [u8], at: usize, kind: u64, i: usize) -> usize
+fn say_field(out: &mut [u8], at: usize, row: u64, i: usize) -> usize
     requires { ⌜ at ≤ length (now out) ⌝ }
-    ensures { λ r. ⌜ Said (now (out .entry)) (now (out .exit)) at (fieldText kind i) r ⌝ }
+    ensures { λ r. ⌜ Said (now (out .entry)) (now (out .exit)) at (fieldText row i) r ⌝ }
 {
-    if !has_field(kind, i) {
+    if !has_field(row, i) {
         return at;
     }
     let comma = say(out, at, b",");
-    names::say_field(out, comma, kind, i)
+    names::say_field(out, comma, row, i)
 }
 
-fn say_expected(out: &mut [u8], at: usize, kind: u64, i: usize) -> usize
+fn say_expected(out: &mut [u8], at: usize, row: u64, i: usize) -> usize
     requires { ⌜ at ≤ length (now out) ⌝ }
-    ensures { λ r. ⌜ Said (now (out .entry)) (now (out .exit)) at (expectedText kind i) r ⌝ }
+    ensures { λ r. ⌜ Said (now (out .entry)) (now (out .exit)) at (expectedText row i) r ⌝ }
 {
-    if !has_field(kind, i) {
+    if !has_field(row, i) {
         return at;
     }
     let head = say(out, at, b"; expected");
-    names::say_expected(out, head, kind, i)
+    names::say_expected(out, head, row, i)
 }
 
-fn say_no_number(out: &mut [u8], at: usize, kind: u64, i: usize, text: &[u8]) -> usize
+fn say_no_number(out: &mut [u8], at: usize, row: u64, i: usize, text: &[u8]) -> usize
     requires { ⌜ (at ≤ length (now out)) × (1 ≤ i) ⌝ }
-    ensures { λ r. ⌜ Said (now (out .entry)) (now (out .exit)) at (noNumberText kind i (now (text .entry))) r ⌝ }
+    ensures { λ r. ⌜ Said (now (out .entry)) (now (out .exit)) at (noNumberText row i (now (text .entry))) r ⌝ }
 {
     let head = say(out, at, b"not read: ");
-    let name = names::say_kind(out, head, kind);
-    let field = say_field(out, name, kind, i - 1);
+    let name = names::say_kind(out, head, row);
+    let field = say_field(out, name, row, i - 1);
     let colon = say(out, field, b": ");
     let word = say_word(out, colon, text, i);
     let none = say(out, word, b" is no number");
-    say_expected(out, none, kind, i - 1)
+    say_expected(out, none, row, i - 1)
 }
 
 fn say_unread(out: &mut [u8], at: usize, kind: u64, place: usize, text: &[u8]) -> usize
@@ -105,7 +106,8 @@ fn say_unread(out: &mut [u8], at: usize, kind: u64, place: usize, text: &[u8]) -
     if place == 1 {
         return say_no_kind(out, at, text);
     }
-    say_no_number(out, at, kind, place - 1, text)
+    let row = typed_line::row_of_line(kind, text);
+    say_no_number(out, at, row, place - 1, text)
 }
 
 fn say_withheld(out: &mut [u8], at: usize, failed: u64) -> usize
@@ -130,18 +132,18 @@ fn say_without(out: &mut [u8], at: usize, lost: u64) -> usize
     say(out, line, b" was not written")
 }
 
-fn say_range(out: &mut [u8], at: usize, kind: u64, field: usize, text: &[u8]) -> usize
+fn say_range(out: &mut [u8], at: usize, row: u64, field: usize, text: &[u8]) -> usize
     requires { ⌜ at ≤ length (now out) ⌝ }
-    ensures { λ r. ⌜ Said (now (out .entry)) (now (out .exit)) at (rangeText kind field (now (text .entry))) r ⌝ }
+    ensures { λ r. ⌜ Said (now (out .entry)) (now (out .exit)) at (rangeText row field (now (text .entry))) r ⌝ }
 {
     let i = before_it(field);
     let head = say(out, at, b" field ");
     let number = say_number(out, head, field as u64);
     let colon = say(out, number, b":");
-    let name = names::say_field(out, colon, kind, i);
+    let name = names::say_field(out, colon, row, i);
     let behind = say(out, name, b": ");
     let word = say_word(out, behind, text, field);
-    say_out_of_range(out, word, kind, i)
+    say_out_of_range(out, word, row, i)
 }
 
 fn before_it(field: usize) -> usize
@@ -150,20 +152,41 @@ fn before_it(field: usize) -> usize
     if field == 0 { 0 } else { field - 1 }
 }
 
-fn say_out_of_range(out: &mut [u8], at: usize, kind: u64, i: usize) -> usize
+fn say_out_of_range(out: &mut [u8], at: usize, row: u64, i: usize) -> usize
     requires { ⌜ at ≤ length (now out) ⌝ }
-    ensures { λ r. ⌜ Said (now (out .entry)) (now (out .exit)) at (ascii " is out of its range; expected" ++ expected kind i) r ⌝ }
+    ensures { λ r. ⌜ Said (now (out .entry)) (now (out .exit)) at (ascii " is out of its range; expected" ++ expected row i) r ⌝ }
 {
     let head = say(out, at, b" is out of its range; expected");
-    names::say_expected(out, head, kind, i)
+    names::say_expected(out, head, row, i)
 }
 
-fn say_count(out: &mut [u8], at: usize, kind: u64) -> usize
+// The values of a farm record of either version.
+fn say_either(out: &mut [u8], at: usize) -> usize
     requires { ⌜ at ≤ length (now out) ⌝ }
-    ensures { λ r. ⌜ Said (now (out .entry)) (now (out .exit)) at (countText kind) r ⌝ }
+    ensures { λ r. ⌜ Said (now (out .entry)) (now (out .exit)) at eitherText r ⌝ }
+{
+    let first = names::say_fields(out, at, 1);
+    let or = say(out, first, b", or");
+    names::say_fields(out, or, codec::LAST_ROW)
+}
+
+fn say_values(out: &mut [u8], at: usize, kind: u64, text: &[u8]) -> usize
+    requires { ⌜ at ≤ length (now out) ⌝ }
+    ensures { λ r. ⌜ Said (now (out .entry)) (now (out .exit)) at (pick (eqb kind 1) eitherText (fieldNames (rowOfLine kind (now (text .entry))))) r ⌝ }
+{
+    if kind == 1 {
+        return say_either(out, at);
+    }
+    let row = typed_line::row_of_line(kind, text);
+    names::say_fields(out, at, row)
+}
+
+fn say_count(out: &mut [u8], at: usize, kind: u64, text: &[u8]) -> usize
+    requires { ⌜ at ≤ length (now out) ⌝ }
+    ensures { λ r. ⌜ Said (now (out .entry)) (now (out .exit)) at (countText kind (now (text .entry))) r ⌝ }
 {
     let head = say(out, at, b": a wrong count of values; expected");
-    names::say_fields(out, head, kind)
+    say_values(out, head, kind, text)
 }
 
 fn say_sentence(out: &mut [u8], at: usize, code: u64) -> usize
@@ -179,10 +202,11 @@ fn say_ground(out: &mut [u8], at: usize, kind: u64, refusal: Refusal, text: &[u8
     ensures { λ r. ⌜ Said (now (out .entry)) (now (out .exit)) at (groundText kind refusal (now (text .entry))) r ⌝ }
 {
     if refusal.code == 7 {
-        return say_range(out, at, kind, refusal.field as usize, text);
+        let row = typed_line::row_of_line(kind, text);
+        return say_range(out, at, row, refusal.field as usize, text);
     }
     if refusal.code == 4 {
-        return say_count(out, at, kind);
+        return say_count(out, at, kind, text);
     }
     say_sentence(out, at, refusal.code as u64)
 }

@@ -14,7 +14,9 @@ enter-record-spec =
     (λ c κs. search needs)
     (λ c. gives-headless _ _ _ _ (c .before .before .before .before .if1 .left) (c .before .before .before .in-group .ensures) (c .before .if2 .taken) (c .unheaded .ensures) _)
     (λ c κs. search needs)
-    (λ c κs. search needs)
+    (λ c κs.
+    let tests = c .before .before .before .before in
+    tests .before .before .before .before .before .before .before .before .before .before .pre)
     (λ c. search needs)
     (λ c.
     let tests = c .before .before .before .before .before in

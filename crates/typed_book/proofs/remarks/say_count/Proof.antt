@@ -15,4 +15,4 @@ say-count-spec =
     (λ c.
     let p1 = c .before .before in
     let p2 = p1 .before .before .before .before in
-    p2 .say .ensures ⟫ p1 .say-fields .ensures))
+    p2 .say .ensures ⟫ p1 .say-values .ensures))

@@ -10,10 +10,14 @@ unfolding groundText
 say-ground-spec =
     tie.close
     (tie.spec
+    (λ c κs. search needs)
     (λ c. search needs)
     (λ c κs. search needs)
     (λ c. search needs)
-    (λ c. rw (eq-eqb _ _ (c .before .before .before .before .before .if1 .taken)) (c .before .before .say-range .ensures))
+    (λ c.
+    let p1 = c .before .before in
+    let row = p1 .before .before .before .row-of-line .ensures in
+    rw (eq-eqb _ _ (p1 .before .before .before .before .if1 .taken)) (rw row at (p1 .say-range .ensures)))
     (λ c κs. search needs)
     (λ c. search needs)
     (λ c. rw (ne-eqb _ _ (c .before .before .before .before .before .before .if1 .left), eq-eqb _ _ (c .before .before .before .before .if2 .taken)) (c .before .before .say-count .ensures))

@@ -17,7 +17,12 @@ say-unread-spec =
     (λ c κs. search needs)
     (λ c. search needs)
     (λ c. rw (ne-eqb _ _ (c .before .before .before .before .before .if1 .left), eq-eqb _ _ (c .before .before .before .before .if2 .taken)) (c .before .before .say-no-kind .ensures))
+    (λ c κs. search needs)
     (λ c. search needs)
     (λ c κs. search needs)
     (λ c. search needs)
-    (λ c. rw (ne-eqb _ _ (c .before .before .before .before .before .if1 .left), ne-eqb _ _ (c .before .before .before .before .if2 .left)) (c .before .before .say-no-number .ensures)))
+    (λ c.
+    let p1 = c .before .before in
+    let row = p1 .before .before .row-of-line .ensures in
+    let test = p1 .before .before .before in
+    rw (ne-eqb _ _ (test .before .if1 .left), ne-eqb _ _ (test .if2 .left)) (rw row at (p1 .say-no-number .ensures))))
