@@ -11,7 +11,8 @@ use lib.ListN.{length, take, drop, length-drop}
 use lib.Seq.{drop-drop}
 use lib.Dec.{eqb}
 use Rattle.base.specs.Choice.{pick}
-use Rattle.base.proofs.Tests.{by-test, of-choice, not-true, not-false}
+use Rattle.codec.specs.Table.{rowOf}
+use Rattle.base.proofs.Tests.{by-test, of-choice, not-true, not-false, and-l, and-r}
 use Rattle.account.specs.declared.Account.{Account}
 use Rattle.account.specs.Sorts.{ofGroup, ofFarm, sortOf, bySort}
 use Rattle.book.specs.Front.{whole, need, front}

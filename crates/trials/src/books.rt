@@ -15,6 +15,7 @@ use account::Refusal;
 use account::Subtotal;
 use book::Answer;
 use book::State;
+use grams::farm::Factors;
 use grams::units::Co2;
 use grams::units::Grazed;
 use grams::units::N2o;
@@ -43,55 +44,63 @@ struct Stepped {
     w: usize,
 }
 
-fn heading_of(v: [u64; 24]) -> Heading {
+fn factors_of(v: [u64; 25]) -> Factors {
+    Factors {
+        ch4: (v[2] % 65536) as u16,
+        n2o: (v[3] % 65536) as u16,
+    }
+}
+
+fn heading_of(v: [u64; 25]) -> Heading {
     Heading {
-        group: (v[3] % 65536) as u16,
-        class: (v[4] % 256) as u8,
-        head: (v[5] % 65536) as u16,
+        group: (v[4] % 65536) as u16,
+        class: (v[5] % 256) as u8,
+        head: (v[6] % 65536) as u16,
     }
 }
 
-fn days_of(v: [u64; 24]) -> Days {
+fn days_of(v: [u64; 25]) -> Days {
     Days {
-        enteric: (v[6] % 65536) as u16,
-        nitrogen: (v[7] % 65536) as u16,
-        pig: (v[8] % 65536) as u16,
+        enteric: (v[7] % 65536) as u16,
+        nitrogen: (v[8] % 65536) as u16,
+        pig: (v[9] % 65536) as u16,
     }
 }
 
-fn subtotal_of(v: [u64; 24]) -> Subtotal {
-    let n2o = N2o::of(v[11]);
+fn subtotal_of(v: [u64; 25]) -> Subtotal {
+    let n2o = N2o::of(v[12]);
     Subtotal {
-        ch4: v[10],
+        ch4: v[11],
         n2o: n2o,
-        excreted: v[12],
-        land: v[13],
+        excreted: v[13],
+        land: v[14],
     }
 }
 
-fn sums_of(v: [u64; 24]) -> Figures {
-    let n2o = N2o::of(v[15]);
-    let co2 = Co2::of(v[16]);
-    let grazing = Grazed::of(v[19]);
+fn sums_of(v: [u64; 25]) -> Figures {
+    let n2o = N2o::of(v[16]);
+    let co2 = Co2::of(v[17]);
+    let grazing = Grazed::of(v[20]);
     Figures {
-        ch4: v[14],
+        ch4: v[15],
         n2o: n2o,
         co2: co2,
-        excreted: v[17],
-        land: v[18],
+        excreted: v[18],
+        land: v[19],
         grazing: grazing,
     }
 }
 
-fn refusal_of(v: [u64; 24]) -> Refusal {
+fn refusal_of(v: [u64; 25]) -> Refusal {
     Refusal {
-        code: (v[20] % 256) as u8,
-        accepted: (v[21] % 65536) as u16,
-        field: (v[22] % 256) as u8,
+        code: (v[21] % 256) as u8,
+        accepted: (v[22] % 65536) as u16,
+        field: (v[23] % 256) as u8,
     }
 }
 
-fn account_of(v: [u64; 24]) -> Account {
+fn account_of(v: [u64; 25]) -> Account {
+    let factors = factors_of(v);
     let heading = heading_of(v);
     let days = days_of(v);
     let subtotal = subtotal_of(v);
@@ -100,18 +109,18 @@ fn account_of(v: [u64; 24]) -> Account {
     Account {
         stage: (v[0] % 256) as u8,
         records: (v[1] % 65536) as u16,
-        set: (v[2] % 256) as u8,
+        factors: factors,
         heading: heading,
         days: days,
         subtotal: subtotal,
         sums: sums,
         refusal: refusal,
-        grazed: (v[9] % 65536) as u32,
+        grazed: (v[10] % 65536) as u32,
     }
 }
 
 pub(crate) fn read_state(line: &[u8], at: usize) -> Resumed {
-    let mut values = [0u64; 24];
+    let mut values = [0u64; 25];
     let mut held = [0u8; 27];
     let after = read_numbers(line, at, &mut values);
     let h = read_bytes(line, after, &mut held);
@@ -119,7 +128,7 @@ pub(crate) fn read_state(line: &[u8], at: usize) -> Resumed {
     let state = State {
         account: account,
         held: held,
-        count: values[23] as usize,
+        count: values[24] as usize,
     };
     Resumed {
         state: state,
@@ -128,12 +137,14 @@ pub(crate) fn read_state(line: &[u8], at: usize) -> Resumed {
 }
 
 fn put_head(out: &mut [u8], at: usize, a: Account) -> usize {
+    let w = a.factors;
     let h = a.heading;
     let d = a.days;
     let values = [
         a.stage as u64,
         a.records as u64,
-        a.set as u64,
+        w.ch4 as u64,
+        w.n2o as u64,
         h.group as u64,
         h.class as u64,
         h.head as u64,
