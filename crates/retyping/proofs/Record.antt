@@ -8,7 +8,7 @@ use mathlib.Core.List.{List, [], _∷_, _++_}
 use lib.ListN.{length, take, replicate, length-append}
 use lib.Seq.{take-all, take-append-le}
 use lib.Dec.{eqb}
-use borrow.Author.Tests.{lt-leb, ne-eqb, eq-eqb}
+use borrow.Author.Tests.{lt-leb, le-leb, ne-eqb, eq-eqb}
 use Rattle.codec.specs.Codec.{Bytes}
 use Rattle.base.specs.Choice.{pick}
 use Rattle.typed_words.specs.Words.{nthWord}
@@ -16,17 +16,21 @@ use Rattle.printing.specs.Decimal.{decimal, spaced}
 use Rattle.names.specs.Names.{kindName, decimalsAt}
 use Rattle.text_lines.specs.Lines.{has, kept, unmarked, isMarked}
 use Rattle.text_lines.proofs.Bytes.{before-all, has-behind}
-use Rattle.codec.specs.Table.{fields, Of, lastKind}
-use Rattle.account.specs.Judge.{WholeRecord, kindOf, valuesOf, judge}
+use Rattle.codec.specs.Table.{table, fields, rowKind, Of, isKind, lastRow}
+use Rattle.codec.proofs.EachKind.{each-row, row-least, row-most, row-of-kind}
+use Rattle.codec.proofs.Values.{values-length}
+use Rattle.base.proofs.Tests.{not-false}
+use Rattle.account.specs.Judge.{WholeRecord, versionOf, kindByte, kindOf, valuesOf, judge}
 use Rattle.book.specs.declared.State.{State}
 use Rattle.book.specs.State.{holding}
 use Rattle.make_record.specs.Write.{write, Ready}
 use Rattle.make_record.specs.declared.Answer.the-variants as answers
-use Rattle.make_record.proofs.Answers.{written-so}
+use Rattle.make_record.proofs.RowLaws.{kind-again}
+use Rattle.account.proofs.Refusals.{judged-passes}
 use Rattle.make_record.proofs.RoundTrip.{written-again}
 use Rattle.typed_line.specs.declared.Entry.{Entry}
 use Rattle.typed_line.specs.declared.Said.the-variants as said
-use Rattle.typed_line.specs.Line.{valuesFrom, entry, lineOf, completedOf, valuesIn, writeEntry}
+use Rattle.typed_line.specs.Line.{rowOfLine, valuesFrom, entry, lineOf, completedOf, valuesIn, writeEntry}
 use Rattle.typed_line.proofs.Lines.{kept as entry-kept}
 use Rattle.typed_book.specs.declared.Typist.{Typist}
 use Rattle.typed_book.specs.declared.Fate.the-variants.{Wrote}
@@ -56,13 +60,57 @@ values-back kind line (suc n) i (v ∷ vs) h p w =
     λ j. let k : j + suc i ≡ suc j + i = omega arith in rw k (w (suc j) ∙ next-spaced v vs j) in
     rw (e, ne-eqb _ _ some, decimal-amount (decimalsAt kind i) v (p .0), values-back kind line n (suc i) vs (omega arith) (p .1) next)
 
--- ---- the line of a kind and its values
+-- ---- the row of a line
+
+abbrev Line : ℕ → List ℕ → List ℕ → Type 0
+Line k v line =
+    length v ≡ length (fields k) → nthWord 4 line ≡ nthWord 3 (spaced v) → nthWord 5 line ≡ nthWord 4 (spaced v) → rowOfLine (rowKind k) line ≡ k
+
+-- three values are no four words
+three-words : (v : List ℕ) → length v ≡ 3 → nthWord 3 (spaced v) ≡ []
+three-words [] e = absurd (omega arith)
+three-words (a ∷ []) e = absurd (omega arith)
+three-words (a ∷ b ∷ []) e = absurd (omega arith)
+three-words (a ∷ b ∷ c ∷ []) e = next-spaced a _ 2 ∙ next-spaced b _ 1 ∙ next-spaced c _ 0 ∙ no-more-spaced
+three-words (a ∷ b ∷ c ∷ d ∷ v) e = absurd (omega arith)
+
+-- four are
+four-words : (v : List ℕ) → length v ≡ 4 → (0 < length (nthWord 3 (spaced v))) × (nthWord 4 (spaced v) ≡ [])
+four-words [] e = absurd (omega arith)
+four-words (a ∷ []) e = absurd (omega arith)
+four-words (a ∷ b ∷ []) e = absurd (omega arith)
+four-words (a ∷ b ∷ c ∷ []) e = absurd (omega arith)
+four-words (a ∷ b ∷ c ∷ d ∷ []) e = (
+  rw (next-spaced a (b ∷ c ∷ d ∷ []) 2 ∙ next-spaced b (c ∷ d ∷ []) 1 ∙ next-spaced c (d ∷ []) 0 ∙ first-spaced d []) (decimal-some d),
+  next-spaced a _ 3 ∙ next-spaced b _ 2 ∙ next-spaced c _ 1 ∙ next-spaced d _ 0 ∙ no-more-spaced,
+)
+four-words (a ∷ b ∷ c ∷ d ∷ e ∷ v) q = absurd (omega arith)
+
+by-set : (v line : List ℕ) → Line 1 v line
+unfolding rowOfLine table
+by-set v line n e f = rw (e, three-words v n) refl
+
+by-factors : (v line : List ℕ) → Line 11 v line
+unfolding rowOfLine table
+by-factors v line n e f =
+    let w = four-words v n in
+    let some : length (nthWord 3 (spaced v)) ≡ 0 → ⊥ = λ q. omega (arith, w .0, q) in
+    rw (e, f, ne-eqb _ _ some, w .1) refl
+
+-- the words of a record's line have its row
+row-typed : (k : ℕ) (v line : List ℕ) → 1 ≤ k → k ≤ lastRow → Line k v line
+unfolding rowOfLine
+row-typed k v line least most =
+    each-row (λ n. Line n v line) (by-set v line) (λ n e f. refl) (λ n e f. refl) (λ n e f. refl) (λ n e f. refl) (λ n e f. refl) (λ n e f. refl)
+    (λ n e f. refl) (λ n e f. refl) (λ n e f. refl) (by-factors v line) k (rw (le-leb 1 k least, le-leb k lastRow most) refl)
+
+-- ---- the line of a row and its values
 
 -- the line without its line feed
 abbrev pub typedLine : ℕ → List ℕ → List ℕ
 typedLine k v = kindName k ++ spaced v
 
-module _ (k : ℕ) (v : List ℕ) (least : 1 ≤ k) (most : k ≤ lastKind) (count : length v ≡ length (fields k)) (small : Small v) where
+module _ (k : ℕ) (v : List ℕ) (least : 1 ≤ k) (most : k ≤ lastRow) (count : length v ≡ length (fields k)) (small : Small v) where
   pub short : length (typedLine k v) ≤ 259
   short =
       omega (arith, length-append (kindName k) (spaced v), name-short k least most, spaced-length v small, fields-few k least most)
@@ -81,12 +129,12 @@ module _ (k : ℕ) (v : List ℕ) (least : 1 ≤ k) (most : k ≤ lastKind) (cou
       (λ j. let z : j + 0 ≡ j = omega arith in rw z (numbers-behind j))
 
   -- what the line says
-  pub says : lineOf (typedLine k v) ≡ record { said = said.Record; entry = entry k v }
+  pub says : lineOf (typedLine k v) ≡ record { said = said.Record; entry = entry (rowKind k) v }
   unfolding lineOf
   says =
       let n : length (kindName k) ≡ 0 → ⊥ = λ q. omega (arith, name-some k least most) in
       let few : length (typedLine k v) < 1024 = omega (arith, short) in
-      rw (lt-leb 1024 (length (typedLine k v)) few, name-first, ne-eqb _ _ n, kind-back k least most, values-are)
+      rw (lt-leb 1024 (length (typedLine k v)) few, name-first, ne-eqb _ _ n, kind-back k least most, row-typed k v (typedLine k v) least most count (numbers-behind 3) (numbers-behind 4), values-are)
 
   -- nothing of it is a comment or a byte order mark, or too long
   no-byte : (b : ℕ) → b < 48 → (b ≡ 32 → ⊥) → has b (typedLine k v) ≡ false
@@ -114,22 +162,22 @@ module _ (k : ℕ) (v : List ℕ) (least : 1 ≤ k) (most : k ≤ lastKind) (cou
       and-false false = refl
 
   -- the values of the entry, and its own count
-  entry-values : valuesIn (entry k v) ≡ v
-  entry-values =
+  entry-values : (j : ℕ) → valuesIn (entry j v) ≡ v
+  entry-values j =
       let t : take 13 v ≡ v = take-all 13 v (omega (arith, fields-few k least most)) in
       rw t (take-append-le (length v) v (replicate (13 - length v) 0) (omega arith) ∙ take-all (length v) v (omega arith))
 
-  own-count : (records : ℕ) → completedOf (entry k v) records ≡ entry k v
-  own-count records =
+  own-count : (j records : ℕ) → completedOf (entry j v) records ≡ entry j v
+  own-count j records =
       let n : length v ≡ 0 → ⊥ = λ q. omega (arith, fields-some k least most) in
-      sym (entry-kept (entry k v) records (rw (ne-eqb _ _ n) (false-right (eqb k 8))))
+      sym (entry-kept (entry j v) records (rw (ne-eqb _ _ n) (false-right (eqb j 8))))
     where
       false-right : (b : Bool) → (b && false) ≡ false
       false-right true = refl
       false-right false = refl
 
-  pub written : (s : State) (room : ℕ) → writeEntry s (entry k v) room ≡ write s k v room
-  written s room = rw (own-count (s .account .records), entry-values)
+  pub written : (j : ℕ) (s : State) (room : ℕ) → writeEntry s (entry j v) room ≡ write s j v room
+  written j s room = rw (own-count j (s .account .records), entry-values j)
 
 -- ---- a typist to whom nothing has happened
 
@@ -168,11 +216,16 @@ module _ (s : State) (y : Ready s) (r : List ℕ) (w : WholeRecord r) (b : Bytes
   long : length r ≤ 28
   long = omega (arith, w .long, w .high)
 
-  again : write s (kindOf r) (valuesOf r) 28 ≡ record { state = holding (judge (s .account) r .account) []; bytes = r; answer = answers.Wrote }
+  again : write s (kindByte r) (valuesOf r) 28 ≡ record { state = holding (judge (s .account) r .account) []; bytes = r; answer = answers.Wrote }
   again = written-again s r 28 y b w h long
 
+  kinds : isKind (kindByte r) ≡ true
+  kinds = not-false _ (judged-passes (s .account) r h .kind)
+
   of : Of (kindOf r) (valuesOf r)
-  of = written-so s (kindOf r) (valuesOf r) 28 (rw again) .of
+  of =
+      let row = row-of-kind (versionOf r) (kindByte r) kinds in
+      record { least = row-least (kindOf r) row; most = row-most (kindOf r) row; count = values-length (fields (kindOf r)) r 4 }
 
   small : Small (valuesOf r)
   small = fields-narrow (kindOf r) (of .least) (of .most) r b
@@ -180,17 +233,19 @@ module _ (s : State) (y : Ready s) (r : List ℕ) (w : WholeRecord r) (b : Bytes
   -- the law of one record: its line, typed in any line n by a clean typist with the reader's state, is written, and is the same bytes
   pub record-again : (t : Typist) → Clean t → t .state ≡ s → (n : ℕ)
       → turn t n (typedLine (kindOf r) (valuesOf r)) 28 ≡ record {
-        typist = writtenAs t (entry (kindOf r) (valuesOf r)) (holding (judge (s .account) r .account) []);
-        fate = Wrote (kindOf r);
+        typist = writtenAs t (entry (kindByte r) (valuesOf r)) (holding (judge (s .account) r .account) []);
+        fate = Wrote (kindByte r);
         bytes = r;
       }
   record-again t c e n =
       let k = kindOf r in
       let v = valuesOf r in
-      by-said t n (typedLine k v) 28 (sym (says k v (of .least) (of .most) (of .count) small)) said.Record refl
-      ∙ goes-on t c n (entry k v) 28
-      ∙ ap (byWrite t n (entry k v)) (ap (λ (x : State). writeEntry x (entry k v) 28) e
-      ∙ written k v (of .least) (of .most) (of .count) small s 28 ∙ again)
+      let own : rowKind k ≡ kindByte r = sym (kind-again (versionOf r) (kindByte r) kinds) in
+      let typed = says k v (of .least) (of .most) (of .count) small ∙ ap (λ (j : ℕ). record { said = said.Record; entry = entry j v }) own in
+      by-said t n (typedLine k v) 28 (sym typed) said.Record refl
+      ∙ goes-on t c n (entry (kindByte r) v) 28
+      ∙ ap (byWrite t n (entry (kindByte r) v)) (ap (λ (x : State). writeEntry x (entry (kindByte r) v) 28) e
+      ∙ written k v (of .least) (of .most) (of .count) small (kindByte r) s 28 ∙ again)
 
   -- its line is kept whole, and has no line feed in it
   pub line-whole : (n : ℕ) → unmarked n (kept (typedLine (kindOf r) (valuesOf r))) ≡ typedLine (kindOf r) (valuesOf r)

@@ -12,7 +12,7 @@ use Rattle.text_lines.specs.Parts.{Numbered, numbered}
 use Rattle.text_lines.proofs.Pieces.{lines-cut}
 use Rattle.typed_words.specs.Words.{nthWord, leadingOf}
 use Rattle.account.specs.declared.Account.{Account}
-use Rattle.account.specs.Judge.{noRecord, kindOf, valuesOf, judge}
+use Rattle.account.specs.Judge.{noRecord, kindByte, kindOf, valuesOf, judge}
 use Rattle.account.specs.Range.{AccountInRange}
 use Rattle.account.proofs.Keeps.{in-range-none, in-range-judge}
 use Rattle.book.specs.State.{holding, noRecordYet}
@@ -64,7 +64,7 @@ text-is k v rest = simp append-assoc
 
 -- the typist behind the record r, with the account that it leaves
 abbrev behind : Typist → List ℕ → Account → Typist
-behind t r next = writtenAs t (entry (kindOf r) (valuesOf r)) (holding next [])
+behind t r next = writtenAs t (entry (kindByte r) (valuesOf r)) (holding next [])
 
 module _ (a : Account) (f : AccountInRange a) (r : List ℕ) (q : Accepted a r)
     (t : Typist) (c : Clean t) (e : t .state ≡ holding a []) (n : ℕ) (rest : List ℕ) where
@@ -72,13 +72,13 @@ module _ (a : Account) (f : AccountInRange a) (r : List ℕ) (q : Accepted a r)
   state-ready = record { range = range-idle a f; early = q .early; none = refl }
 
   line-turn : lineTurn t (record { number = n; bytes = kept (typedLine (kindOf r) (valuesOf r)) })
-      ≡ record { typist = behind t r (judge a r .account); fate = Wrote (kindOf r); bytes = r }
+      ≡ record { typist = behind t r (judge a r .account); fate = Wrote (kindByte r); bytes = r }
   line-turn =
       ap (λ (l : List ℕ). turn t n l 28) (line-whole (holding a []) state-ready r (q .whole) (q .bytes) (q .taken) n)
       ∙ record-again (holding a []) state-ready r (q .whole) (q .bytes) (q .taken) t c e n
 
   from-is : from t n (lineTyped (kindOf r) (valuesOf r) ++ rest)
-      ≡ after (record { typist = behind t r (judge a r .account); fate = Wrote (kindOf r); bytes = r })
+      ≡ after (record { typist = behind t r (judge a r .account); fate = Wrote (kindByte r); bytes = r })
       (from (behind t r (judge a r .account)) (oneMore n) rest)
   from-is =
       ap (from t n) (text-is (kindOf r) (valuesOf r) rest)
@@ -101,7 +101,7 @@ all-again a f (r ∷ rs) p t c e n =
     let next = judge a r .account in
     let fair : AccountInRange next = in-range-judge a r f (q .early) in
     one-again a f r q t c e n (textTyped rs) rs
-    (all-again next fair rs (p .1) (behind t r next) (clean-on t c (entry (kindOf r) (valuesOf r)) (holding next [])) refl (oneMore n))
+    (all-again next fair rs (p .1) (behind t r next) (clean-on t c (entry (kindByte r) (valuesOf r)) (holding next [])) refl (oneMore n))
 
 pub retyped : (rs : List (List ℕ)) → AllAccepted noRecord rs → SameBytes noRecord rs (typedText noRecordYet (textTyped rs))
 retyped rs p = all-again noRecord in-range-none rs p (beginning noRecordYet) (record { lost = refl; failed = refl; told = refl }) refl 1

@@ -16,12 +16,13 @@ use Rattle.printing.specs.Said.{Said}
 use Rattle.printing.proofs.Puts.{none, put-length, and-then}
 use Rattle.printing.specs.Ascii.{ascii}
 use Rattle.names.specs.Names.{kindName, sentence}
-use Rattle.codec.specs.Table.{table, fields, lengthOf, isKind, lastKind, linesMost}
+use Rattle.codec.specs.Table.{table, fields, lengthOf, linesMost, isRow}
 use Rattle.codec.specs.Codec.{valAt, valuesAt}
 use Rattle.codec.proofs.Values.{values-length}
 use Rattle.codec.proofs.BigEndian.{one-byte}
 use Rattle.account.specs.declared.Account.{Account}
-use Rattle.account.specs.Judge.{WholeRecord, kindOf, valuesOf, judge}
+use Rattle.account.specs.Judge.{versionOf, kindByte, WholeRecord, kindOf, valuesOf, judge}
+use Rattle.codec.proofs.EachKind.{row-least, row-most, row-of-kind}
 use Rattle.account.proofs.Refusals.{judged-passes}
 use Rattle.book.specs.declared.State.{State}
 use Rattle.book.specs.declared.Fed.{Fed}
@@ -147,11 +148,11 @@ pub typable : (a : Account) (r : List ℕ) → WholeRecord r → (judge a r .acc
 typable a r w h =
     let t = judged-passes a r h in
     let k = kindOf r in
-    let kind : isKind k ≡ true = not-false _ (t .kind) in
+    let row : isRow k ≡ true = row-of-kind (versionOf r) (kindByte r) (not-false _ (t .kind)) in
     let long : valAt r 0 2 ≡ lengthOf k = eqb-true _ _ (not-false _ (t .long)) in
     record {
-      least = leb-true _ _ (and-l (leb 1 k) (leb k lastKind) kind);
-      most = leb-true _ _ (and-r (leb 1 k) (leb k lastKind) kind);
+      least = row-least k row;
+      most = row-most k row;
       long = w .long ∙ ap (λ (x : ℕ). x + 2) long;
     }
 
@@ -303,9 +304,9 @@ unfolding spaced joined
 spaced-joined [] h = absurd (omega arith)
 spaced-joined (n ∷ v) h = refl
 
-module _ (r : List ℕ) (t : Typable r) {kind : ℕ} (b : kind ≡ valAt r 3 1) where
+module _ (r : List ℕ) (t : Typable r) {kind : ℕ} (b : kind ≡ kindOf r) where
   pub kind-byte : kind ≡ kindOf r
-  kind-byte = b ∙ sym (one-byte r 3 (getD r 3 0) refl)
+  kind-byte = b
 
   -- its name is put whole
   pub name-put : {out out′ : List ℕ} {at last : ℕ} → at + 261 ≤ length out → Said out out′ at (kindName kind) last

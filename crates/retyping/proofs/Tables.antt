@@ -1,4 +1,4 @@
--- What the tables say of each kind: antt computes it.
+-- What the tables say of each row: antt computes it.
 -- Assumes nothing.
 use Prim.Native.Nat.{ℕ, zero, suc, _+_, _≤_, _<_}
 use native.Mathlib.Omega.{arith}
@@ -16,7 +16,7 @@ use Rattle.typed_words.specs.Words.{nthPart, sameText, lowered}
 use Rattle.typed_words.specs.Amounts.{aWhole}
 use Rattle.names.specs.Names.{kindTable, kindName}
 use Rattle.codec.specs.declared.Field.{Field}
-use Rattle.codec.specs.Table.{table, fields, lastKind}
+use Rattle.codec.specs.Table.{table, fields, rowKind, lastRow}
 use Rattle.codec.specs.Codec.{bytesHold, valuesAt, Bytes}
 use Rattle.codec.proofs.BigEndian.{valAt-lt}
 use Rattle.typed_line.specs.Line.{namedFrom, kindOf}
@@ -56,15 +56,15 @@ is-word (b ∷ s) e =
 wordTest : ℕ → Bool
 wordTest k = isWord (kindName k) && (leb 1 (length (kindName k)) && leb (length (kindName k)) 7)
 
--- and the typist takes it for the kind
+-- and the typist takes it for the kind of the row
 kindTest : ℕ → Bool
-kindTest k = kindOf (kindName k) .good && eqb (kindOf (kindName k) .value) k
+kindTest k = kindOf (kindName k) .good && eqb (kindOf (kindName k) .value) (rowKind k)
 
-words-computed : each wordTest lastKind ≡ true
+words-computed : each wordTest lastRow ≡ true
 unfolding each isWord wordTest kindTable nthPart indexOf indexAfter
 words-computed = refl
 
-kinds-computed : each kindTest lastKind ≡ true
+kinds-computed : each kindTest lastRow ≡ true
 unfolding each kindTest kindTable nthPart indexOf indexAfter kindOf namedFrom lowered sameText
 kinds-computed = refl
 
@@ -78,7 +78,7 @@ narrow (f ∷ fs) = leb (bytesHold (f .0)) 1000000000000000 && narrow fs
 fieldTest : ℕ → Bool
 fieldTest k = narrow (fields k) && (leb 1 (length (fields k)) && leb (length (fields k)) 12)
 
-fields-computed : each fieldTest lastKind ≡ true
+fields-computed : each fieldTest lastRow ≡ true
 unfolding each narrow fieldTest table bytesHold
 fields-computed = refl
 
@@ -91,10 +91,10 @@ values-small (f ∷ fs) e s b at =
 
 -- ---- a kind
 
-module _ (k : ℕ) (least : 1 ≤ k) (most : k ≤ lastKind) where
+module _ (k : ℕ) (least : 1 ≤ k) (most : k ≤ lastRow) where
   word-test : isWord (kindName k) && (leb 1 (length (kindName k)) && leb (length (kindName k)) 7) ≡ true
   unfolding wordTest
-  word-test = each-at wordTest lastKind words-computed k least most
+  word-test = each-at wordTest lastRow words-computed k least most
 
   pub name-word : Word (kindName k)
   name-word = is-word (kindName k) (and-l (isWord (kindName k)) (leb 1 (length (kindName k)) && leb (length (kindName k)) 7) word-test)
@@ -108,19 +108,19 @@ module _ (k : ℕ) (least : 1 ≤ k) (most : k ≤ lastKind) where
   pub name-short : length (kindName k) ≤ 7
   name-short = leb-true (length (kindName k)) 7 (and-r (leb 1 (length (kindName k))) (leb (length (kindName k)) 7) name-length)
 
-  pub kind-back : kindOf (kindName k) ≡ aWhole k
+  pub kind-back : kindOf (kindName k) ≡ aWhole (rowKind k)
   unfolding kindTest
   kind-back =
-      let t = each-at kindTest lastKind kinds-computed k least most in
+      let t = each-at kindTest lastRow kinds-computed k least most in
       let w = kindOf (kindName k) in
-      whole-is w (and-l (w .good) (eqb (w .value) k) t) (eqb-true (w .value) k (and-r (w .good) (eqb (w .value) k) t))
+      whole-is w (and-l (w .good) (eqb (w .value) (rowKind k)) t) (eqb-true (w .value) (rowKind k) (and-r (w .good) (eqb (w .value) (rowKind k)) t))
     where
-      whole-is : (w : Whole) → w .good ≡ true → w .value ≡ k → w ≡ aWhole k
+      whole-is : (w : Whole) → w .good ≡ true → w .value ≡ rowKind k → w ≡ aWhole (rowKind k)
       whole-is w g v = rw (← g, ← v)
 
   field-test : narrow (fields k) && (leb 1 (length (fields k)) && leb (length (fields k)) 12) ≡ true
   unfolding fieldTest
-  field-test = each-at fieldTest lastKind fields-computed k least most
+  field-test = each-at fieldTest lastRow fields-computed k least most
 
   pub fields-narrow : (r : List ℕ) → Bytes r → Small (valuesAt (fields k) r 4)
   fields-narrow r b = values-small (fields k) (and-l (narrow (fields k)) (leb 1 (length (fields k)) && leb (length (fields k)) 12) field-test) r b 4

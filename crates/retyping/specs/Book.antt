@@ -9,7 +9,7 @@ use Rattle.base.specs.Choice.{pick}
 use Rattle.printing.specs.Ascii.{ascii}
 use Rattle.printing.specs.Decimal.{joined, Put}
 use Rattle.names.specs.Names.{sentence}
-use Rattle.codec.specs.Table.{lengthOf, lastKind, linesMost}
+use Rattle.codec.specs.Table.{lengthOf, lastRow, linesMost}
 use Rattle.account.specs.declared.Account.{Account}
 use Rattle.account.specs.declared.Refusal.{Refusal}
 use Rattle.account.specs.Judge.{kindOf, valuesOf, noRecord, judge}
@@ -98,10 +98,10 @@ pub record Retypes (x : Retyping) (out out′ : List ℕ) (at : ℕ) (r : Retype
   pub more : r .more ≡ x .more
   pub put : Put out out′ at (x .text) (r .written)
 
--- r is a record whose kind is one of the book, with the length of its kind
+-- r is a record whose row is one of the table, with the length of its row
 pub record Typable (r : List ℕ) : Type 0 where
   pub least : 1 ≤ kindOf r
-  pub most : kindOf r ≤ lastKind
+  pub most : kindOf r ≤ lastRow
   pub long : length r ≡ lengthOf (kindOf r) + 2
 
 -- the values of a record in twelve places, zeros behind

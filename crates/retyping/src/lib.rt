@@ -5,7 +5,6 @@ use base::first_of;
 use base::rest_of;
 use book::Fed;
 use book::State;
-use codec::numbers::be8;
 use codec::numbers::be16;
 use names::say_kind;
 use names::say_sentence;
@@ -76,6 +75,15 @@ fn from_nine(v: [u64; 9]) -> [u64; 12]
     ]
 }
 
+// The row of a record in the table.
+fn row_at(bytes: &[u8]) -> u64
+    requires { ⌜ 4 ≤ length (now bytes) ⌝ }
+    ensures { λ r. ⌜ r ≡ kindOf (now (bytes .entry)) ⌝ }
+{
+    let row = codec::kinds::row_of(bytes[2], bytes[3]);
+    row as u64
+}
+
 // The values of a record, zeros behind.
 fn values_of(bytes: &[u8], kind: u64) -> [u64; 12]
     requires { ⌜ Typable (now bytes) × (kind ≡ kindOf (now bytes)) ⌝ }
@@ -91,7 +99,8 @@ fn values_of(bytes: &[u8], kind: u64) -> [u64; 12]
         7 => from_one(codec::soil::read(bytes, 4)),
         8 => from_one(codec::close::read(bytes, 4)),
         9 => from_five(codec::tillage::read(bytes, 4)),
-        _ => from_four(codec::grazing::read(bytes, 4)),
+        10 => from_four(codec::grazing::read(bytes, 4)),
+        _ => from_four(codec::farm_factors::read(bytes, 4)),
     }
 }
 
@@ -102,7 +111,7 @@ fn put_record(out: &mut [u8], at: usize, bytes: &[u8]) -> usize
     ensures { λ r. ⌜ Put (now (out .entry)) (now (out .exit)) at (lineTyped (kindOf (now (bytes .entry))) (valuesOf (now (bytes .entry)))) r ⌝ }
     ensures { λ r. ⌜ r ≤ at + 261 ⌝ }
 {
-    let kind = be8(bytes, 3);
+    let kind = row_at(bytes);
     let values = values_of(bytes, kind);
     let n = codec::kinds::values_of(kind);
     let name = say_kind(out, at, kind);

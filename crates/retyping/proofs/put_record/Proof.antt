@@ -16,7 +16,7 @@ put-record-spec =
     tie.close
     (tie.spec
     (λ c κs. omega (arith, c .before .before .pre .0 .long))
-    (λ c κs. let s = c .before .before .before in (s .pre .0, kind-byte (s .args .bytes .now) (s .pre .0) (c .be8 .ensures)))
+    (λ c κs. let s = c .before .before .before in (s .pre .0, kind-byte (s .args .bytes .now) (s .pre .0) (c .row-at .ensures)))
     (λ c κs. search needs)
     (λ c κs.
     let c6 = c .before .before .before .before .before .before in
@@ -28,20 +28,20 @@ put-record-spec =
     let s = c10 in
     let t = s .pre .0 in
     let e = c3 .say-kind .ensures in
-    let p = name-put (s .args .bytes .now) t (c7 .be8 .ensures) (s .pre .1) e in
+    let p = name-put (s .args .bytes .now) t (c7 .row-at .ensures) (s .pre .1) e in
     omega (arith, p .next, name-short (kindOf (s .args .bytes .now)) (t .least) (t .most), e .long, s .pre .1))
     (λ c.
     let c9 = c .before .before .before .before .before .before .before .before .before in
     let c11 = c9 .before .before in
     let c14 = c11 .before .before .before in
     let s = c14 in
-    let m = count-most (s .args .bytes .now) (s .pre .0) (c11 .be8 .ensures) (c9 .values-of2 .ensures) in search needs)
+    let m = count-most (s .args .bytes .now) (s .pre .0) (c11 .row-at .ensures) (c9 .values-of2 .ensures) in search needs)
     (λ c.
     let c10 = c .before .before .before .before .before .before .before .before .before .before in
     let c12 = c10 .before .before in
     let c15 = c12 .before .before .before in
     let s = c15 in
-    let m = count-most (s .args .bytes .now) (s .pre .0) (c12 .be8 .ensures) (c10 .values-of2 .ensures) in sym (length-take-le _ _ (search needs)))
+    let m = count-most (s .args .bytes .now) (s .pre .0) (c12 .row-at .ensures) (c10 .values-of2 .ensures) in sym (length-take-le _ _ (search needs)))
     (λ c κs.
     let c4 = c .before .before .before .before in
     let c8 = c4 .before .before .before .before in
@@ -52,9 +52,9 @@ put-record-spec =
     let s = c15 in
     let t = s .pre .0 in
     let e = c8 .say-kind .ensures in
-    let p = name-put (s .args .bytes .now) t (c12 .be8 .ensures) (s .pre .1) e in
+    let p = name-put (s .args .bytes .now) t (c12 .row-at .ensures) (s .pre .1) e in
     let q = c4 .put-byte .ensures in
-    let m = count-most (s .args .bytes .now) t (c12 .be8 .ensures) (c10 .values-of2 .ensures) in
+    let m = count-most (s .args .bytes .now) t (c12 .row-at .ensures) (c10 .values-of2 .ensures) in
     omega (
       arith,
       length-take (c10 .values-of2 .result) (c11 .values-of .result),
@@ -77,7 +77,7 @@ put-record-spec =
     let c18 = c15 .before .before .before in
     let s = c18 in
     let t = s .pre .0 in
-    let k = c15 .be8 .ensures in
+    let k = c15 .row-at .ensures in
     let n = c13 .values-of2 .ensures in
     let p = name-put (s .args .bytes .now) t k (s .pre .1) (c11 .say-kind .ensures) in
     let q = c7 .put-byte .ensures in

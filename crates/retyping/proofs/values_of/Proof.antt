@@ -3,20 +3,20 @@ use mathlib.Core.Path.{_≡_, refl}
 use Prim.Native.Nat.{_≤_}
 use native.Mathlib.Omega.{arith}
 use borrow.Author.Needs.{needs}
-use Rattle.codec.proofs.EachKind.{last-kind}
-use Rattle.codec.specs.Table.{table, size, lastKind}
+use Rattle.codec.proofs.EachKind.{last-row}
+use Rattle.codec.specs.Table.{table, size, lastRow}
 use Rattle.retyping.proofs.Steps.{long-by, values-by, twelve-by}
 use Rattle.retyping.proofs.values_of.Statement.{statement}
 use Rattle.retyping.proofs.values_of.Tie as tie
 
-ten : (c : tie.At-match-rest) → c .before .before .args .kind ≡ 10
-ten c =
+eleven : (c : tie.At-match-rest) → c .before .before .args .kind ≡ 11
+eleven c =
     let r = c .match .rest in
     let p = c .before .before .pre in
     let least : 1 ≤ c .before .before .args .kind = omega (arith, p .1, p .0 .least) in
-    let most : c .before .before .args .kind ≤ lastKind = omega (arith, p .1, p .0 .most) in
+    let most : c .before .before .args .kind ≤ lastRow = omega (arith, p .1, p .0 .most) in
     let s = r .0 .0 .0 .0 .0 in
-    last-kind _ least most (s .0 .0 .0 .1) (s .0 .0 .1) (s .0 .1) (s .1) (r .0 .0 .0 .0 .1) (r .0 .0 .0 .1) (r .0 .0 .1) (r .0 .1) (r .1)
+    last-row _ least most (s .0 .0 .0 .0 .1) (s .0 .0 .0 .1) (s .0 .0 .1) (s .0 .1) (s .1) (r .0 .0 .0 .0 .1) (r .0 .0 .0 .1) (r .0 .0 .1) (r .0 .1) (r .1)
 
 pub values-of-spec : {M : Type 1} → statement M
 unfolding table size
@@ -40,7 +40,9 @@ values-of-spec =
     (λ c κs. search needs)
     (λ c κs. let s = c .before .before in omega (arith, long-by 9 (c .match .keys9) (s .args .bytes .now) (s .pre .1) 11 refl (s .pre .0)))
     (λ c κs. search needs)
-    (λ c κs. let s = c .before .before in omega (arith, long-by 10 (ten c) (s .args .bytes .now) (s .pre .1) 8 refl (s .pre .0)))
+    (λ c κs. let s = c .before .before in omega (arith, long-by 10 (c .match .keys10) (s .args .bytes .now) (s .pre .1) 8 refl (s .pre .0)))
+    (λ c κs. search needs)
+    (λ c κs. let s = c .before .before in omega (arith, long-by 11 (eleven c) (s .args .bytes .now) (s .pre .1) 12 refl (s .pre .0)))
     (λ c κs. search needs)
     (λ c.
     let c4 = c .before .before .before .before in
@@ -77,5 +79,9 @@ values-of-spec =
     (c .before .read9 .ensures) (c .from-five .ensures))
     (λ c.
     let c4 = c .before .before .before .before in
-    let s = c4 in values-by 10 (ten (c .before .before)) (s .args .bytes .now) (s .pre .1)
-    (c .before .read10 .ensures) (c .from-four .ensures)))
+    let s = c4 in values-by 10 (c .before .before .match .keys10) (s .args .bytes .now) (s .pre .1)
+    (c .before .read10 .ensures) (c .from-four .ensures))
+    (λ c.
+    let c4 = c .before .before .before .before in
+    let s = c4 in values-by 11 (eleven (c .before .before)) (s .args .bytes .now) (s .pre .1)
+    (c .before .read11 .ensures) (c .from-four2 .ensures)))

@@ -1,4 +1,5 @@
 use borrow.Author.Needs.{needs}
+use Rattle.account.specs.Judge.{versionOf}
 use Rattle.comparing.proofs.MovedLaws.{detail-test}
 use Rattle.comparing.proofs.moved.detail.Statement.{statement}
 use Rattle.comparing.proofs.moved.detail.Tie as tie
@@ -11,4 +12,4 @@ detail-spec =
     (λ c. search needs)
     (λ c. search needs)
     (λ c. search needs)
-    (λ c. detail-test _ _))
+    (λ c. detail-test (versionOf (c .before .before .before .before .args .r .now)) _))
