@@ -1,4 +1,4 @@
-use mathlib.Core.Path.{_≡_, sym, _∙_}
+use mathlib.Core.Path.{_≡_, refl, sym, _∙_}
 use mathlib.Core.Bool.{false}
 use native.Mathlib.Omega.{arith}
 use borrow.Author.Needs.{needs}
@@ -35,7 +35,7 @@ left-spec =
     omega (arith, bad-count p (is-bad _ (has-length p, sym (tested (t .before)) ∙ t .if1 .taken))))
     (λ c.
     let t = c .before .before .before in
-    rw (← tested (t .before), t .if1 .taken, c .before .idle .ensures, c .before .before .refuse .ensures))
+    rw (← tested (t .before), t .if1 .taken, c .before .idle .ensures, c .before .before .refuse .ensures) refl)
     (λ c. let m = is-whole c .2 in search needs)
     (λ c κs. let m = is-whole c in rw (c .before .before .be16 .ensures) (omega (arith, m .2), omega (arith, m .3)))
     (λ c. let e = c .before .before in rw (e .before .before .be16 .ensures) (omega (arith, whole-count (entry (e .before) .pre))))

@@ -1,4 +1,4 @@
-use Prim.Native.Nat.{_≤_}
+use Prim.Native.Nat.{_+_, _≤_}
 use mathlib.Core.Path.{_≡_, sym, _∙_}
 use mathlib.Core.Bool.{false, _||_}
 use borrow.Author.Needs.{needs}
@@ -21,5 +21,5 @@ front-by-spec =
     (λ c κs. tt)
     (λ c. rw (← c .before .bad-length .ensures, c .if1 .taken))
     (λ c. let h = short c in search needs)
-    (λ c. rw (good (c .before), lt-ltb _ _ (c .if2 .taken)))
-    (λ c. rw (good (c .before), le-ltb _ _ (c .if2 .left))))
+    (λ c. let a = c .before .before .before .args in rw (good (c .before), lt-ltb (a .n) (a .length + 2) (c .if2 .taken)))
+    (λ c. let a = c .before .before .before .args in rw (good (c .before), le-ltb (a .n) (a .length + 2) (c .if2 .left))))
