@@ -12,6 +12,9 @@ enum { MOST_RECORDS = 4096, DETAIL_LINE = 54, TOTAL_LINE = 62, SUBTOTAL = 16 };
 
 static const uint8_t lengths[11] = {0, 9, 7, 10, 20, 26, 11, 6, 4, 11, 8};
 
+/* Of a farm record of version 2. */
+enum { FACTORS_LENGTH = 12 };
+
 static uint64_t be16(const uint8_t *p) {
     return (uint64_t)p[0] << 8 | p[1];
 }
@@ -48,15 +51,29 @@ static int read_fields(const uint8_t *p, const uint16_t *highest, int count, uin
     return 0;
 }
 
-static int farm(struct reader *r, const uint8_t *p) {
+/* Version 2 has the two factors, version 1 a set. */
+static int farm(struct reader *r, unsigned version, const uint8_t *p) {
     uint64_t year = be16(p + 4);
     if (year < 1900 || year > 2200) {
         return OUT_OF_RANGE(2);
     }
-    if (p[6] < 1 || p[6] > 2) {
-        return OUT_OF_RANGE(3);
+    if (version == 2) {
+        uint64_t ch4 = be16(p + 6), n2o = be16(p + 8);
+        if (ch4 < 1 || ch4 > 1000) {
+            return OUT_OF_RANGE(3);
+        }
+        if (n2o < 1 || n2o > 1000) {
+            return OUT_OF_RANGE(4);
+        }
+        r->per_ch4 = (uint16_t)ch4;
+        r->per_n2o = (uint16_t)n2o;
+    } else {
+        if (p[6] < 1 || p[6] > 2) {
+            return OUT_OF_RANGE(3);
+        }
+        r->per_ch4 = p[6] == 1 ? 21 : 23;
+        r->per_n2o = p[6] == 1 ? 310 : 296;
     }
-    r->set = p[6];
     r->stage = OPEN;
     return 0;
 }
@@ -285,14 +302,14 @@ static int grazing(const struct reader *r, const uint8_t *p, struct figures *f, 
 
 /* Version, kind, length, count and place: faults 2 to 6. */
 static int misplaced(const struct reader *r, const uint8_t *record) {
-    unsigned kind = record[3], class = r->heading.class;
-    if (record[2] != 1) {
+    unsigned version = record[2], kind = record[3], class = r->heading.class;
+    if (version != 1 && (version != 2 || kind != 1)) {
         return FAULT(2);
     }
     if (kind < 1 || kind > 10) {
         return FAULT(3);
     }
-    if (be16(record) != lengths[kind]) {
+    if (be16(record) != (version == 2 ? FACTORS_LENGTH : lengths[kind])) {
         return FAULT(4);
     }
     if (r->records >= MOST_RECORDS) {
@@ -370,7 +387,7 @@ static enum answer close_book(struct reader *r, const uint8_t *p, uint8_t *line,
         put_subtotal(r, line);
         line += size;
     }
-    uint64_t per_ch4 = r->set == 1 ? 21 : 23, per_n2o = r->set == 1 ? 310 : 296;
+    uint64_t per_ch4 = r->per_ch4, per_n2o = r->per_n2o;
     put_line(line, TOTAL_LINE - 2, 8, 0, sums);
     put64(line + DETAIL_LINE, (uint64_t)(sums->co2 + (int64_t)(per_ch4 * sums->ch4 + per_n2o * sums->n2o + sums->grazing)));
     *written += size + TOTAL_LINE;
@@ -392,7 +409,7 @@ static void add(struct figures *sums, const struct figures *f) {
 static int read_record(struct reader *r, unsigned kind, const uint8_t *p, struct figures *f, uint64_t *more) {
     switch (kind) {
     case 1:
-        return farm(r, p);
+        return farm(r, p[-2], p); /* the version stands two bytes before the fields */
     case 3:
         return enteric(r, p, f, more);
     case 4:

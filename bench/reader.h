@@ -25,8 +25,8 @@ enum stage { NO_RECORD, OPEN, CLOSED_BOOK, REFUSED_BOOK };
 /* Starts all zero. */
 struct reader {
     uint8_t stage;
-    uint8_t set;
     uint16_t records;
+    uint16_t per_ch4, per_n2o; /* grams of CO2 that warm as much as a gram */
     struct heading heading;
     struct figures subtotal; /* of kinds 3 to 5 under the heading, so its CO2 and grazing stay 0 */
     struct figures sums;

@@ -8,6 +8,7 @@ use crate::refusals::wrong;
 use account::Account;
 use account::Judged;
 use account::line::Line;
+use grams::farm::Factors;
 ghost use mathlib.Core.Path.{_≡_};
 ghost use Prim.Native.Nat.{_<_};
 ghost use lib.Dec.{eqb};
@@ -38,7 +39,11 @@ fn totalled(a: Account, room: usize) -> Judged
     let n2o = sums.n2o;
     let co2 = sums.co2;
     let grazing = sums.grazing;
-    let w = a.factors;
+    // field by field: of a copy the compiler makes one word, which it takes apart at each record
+    let w = Factors {
+        ch4: a.factors.ch4,
+        n2o: a.factors.n2o,
+    };
     let co2e = grams::farm::co2e(w, co2, sums.ch4, n2o, grazing);
     let h = a.heading;
     let s = a.subtotal;

@@ -23,6 +23,8 @@ pub fn weigh(a: Account, v: [u64; 3], room: usize) -> Judged
     let mut next = a.by_fields();
     next.stage = 1;
     next.records = a.records + 1;
-    next.factors = factors;
+    // field by field: of a copy the compiler makes one word, which it takes apart at each record
+    next.factors.ch4 = factors.ch4;
+    next.factors.n2o = factors.n2o;
     silent(next)
 }

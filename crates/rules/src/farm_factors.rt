@@ -4,7 +4,6 @@ use crate::refusals::barred;
 use crate::refusals::stopped;
 use account::Account;
 use account::Judged;
-use grams::farm::Factors;
 ghost use Prim.Native.Nat.{_<_};
 ghost use Rattle.account.specs.Range.{AccountInRange};
 ghost use Rattle.account.specs.Judge.{weigh};
@@ -19,13 +18,12 @@ pub fn weigh(a: Account, v: [u64; 4], room: usize) -> Judged
     if code != 0 {
         return stopped(a, code, bad);
     }
-    let factors = Factors {
-        ch4: v[2] as u16,
-        n2o: v[3] as u16,
-    };
+    let ch4 = v[2] as u16;
+    let n2o = v[3] as u16;
     let mut next = a.by_fields();
     next.stage = 1;
     next.records = a.records + 1;
-    next.factors = factors;
+    next.factors.ch4 = ch4;
+    next.factors.n2o = n2o;
     silent(next)
 }
