@@ -1,6 +1,6 @@
-/* many: serves many farms at a time. Standard input is a run of deliveries, each of farm number (2 bytes), length (2 bytes) and so many bytes of that
-   farm's book; lines go to standard output as farm number (2 bytes), length (2 bytes) and the line bytes. At the end standard error tells how each farm that
-   was heard of stands. All numbers are big-endian. */
+/* many: serves many farms at a time. Standard input is a run of deliveries, each of farm number (2 bytes), length (2 bytes) and so many
+   bytes of that farm's book; lines go to standard output as farm number (2 bytes), length (2 bytes) and the line bytes. At the end
+   standard error tells how each farm that was heard of stands. All numbers are big-endian. */
 #include "herd_desk.h"
 
 #include <stdio.h>

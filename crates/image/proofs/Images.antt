@@ -55,7 +55,9 @@ refusal-fits : (a : Account) → AccountInRange a → RefusalFits a
 refusal-fits a f =
     let most = f .counted .records-most in
     ⊎-elim
-    (λ (h : a .stage < 3). let u = f .unrefused (λ e. absurd (omega arith)) in record { code = omega arith; accepted = omega arith; field = omega arith })
+    (λ (h : a .stage < 3).
+    let u = f .unrefused (λ e. absurd (omega arith)) in
+    record { code = omega arith; accepted = omega arith; field = omega arith })
     (λ (h : 3 ≤ a .stage).
     let n = f .refused (omega (arith, f .counted .stage-most)) in
     record { code = omega arith; accepted = omega arith; field = omega arith })

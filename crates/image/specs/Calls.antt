@@ -1,6 +1,6 @@
--- A call on an image. Change request W12: "let a call work on the image. It is proved, call by call, to answer and write as the call on the state does,
--- and the image afterwards to be that state's. .. Refusals: 13 also for an image of another length, or one that is no state's, tried first and leaving
--- it untouched."
+-- A call on an image. Change request W12: "let a call work on the image. It is proved, call by call, to answer and write as the call on the
+-- state does, and the image afterwards to be that state's. .. Refusals: 13 also for an image of another length, or one that is no state's,
+-- tried first and leaving it untouched."
 -- Assumes nothing.
 use Prim.Native.Nat.{ℕ}
 use mathlib.Core.List.{List, [], _∷_, _++_}

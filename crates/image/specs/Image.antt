@@ -1,5 +1,6 @@
--- A state as bytes. Change request W12: "Lay the state out at fixed offsets in a lent image of one stated length, held bytes first". The 27 held bytes,
--- zeros behind them, stand first; behind them a row of fields for each part of the state, as codec's table has them: each number big-endian.
+-- A state as bytes. Change request W12: "Lay the state out at fixed offsets in a lent image of one stated length, held bytes first". The 27
+-- held bytes, zeros behind them, stand first; behind them a row of fields for each part of the state, as codec's table has them: each number
+-- big-endian.
 -- Assumes nothing.
 use Prim.Native.Nat.{ℕ, _^_, _<_}
 use mathlib.Core.List.{List, [], _∷_, _++_}

@@ -33,8 +33,9 @@ put-held-spec =
     (λ c. omega arith)
     (λ c.
     let l = c .before in
-    let more : l .loop .i < length (l .before .args .t2) = omega (arith, places l) in
-    (omega arith, simp length-set (l .loop .inv .1), simp zero-add at (copied-one (l .before .args .t2) (l .loop .image) 0 (l .loop .i) more) ∙ l .loop .inv .2))
+    let held = l .before .args .t2 in
+    let more : l .loop .i < length held = omega (arith, places l) in
+    (omega arith, simp length-set (l .loop .inv .1), simp zero-add at (copied-one held (l .loop .image) 0 (l .loop .i) more) ∙ l .loop .inv .2))
     (λ c. c .before .loop .inv .1)
     (λ c.
     let l = c .before in
