@@ -1,5 +1,5 @@
 use borrow.Author.Needs.{needs}
-use Rattle.account.specs.Judge.{versionOf}
+use Rattle.account.specs.Judge.{versionOf, kindByte}
 use Rattle.comparing.proofs.MovedLaws.{detail-test}
 use Rattle.comparing.proofs.moved.detail.Statement.{statement}
 use Rattle.comparing.proofs.moved.detail.Tie as tie
@@ -12,4 +12,4 @@ detail-spec =
     (λ c. search needs)
     (λ c. search needs)
     (λ c. search needs)
-    (λ c. detail-test (versionOf (c .before .before .before .before .args .r .now)) _))
+    (λ c. let r = c .before .before .before .before .args .r .now in detail-test (versionOf r) (kindByte r)))
