@@ -145,7 +145,7 @@ static inline const char *herd_desk_words(uint32_t code) {
     switch (code) {
     case HERD_DESK_CLOSED: return "closed";
     case HERD_DESK_NO_SUCH_LENGTH: return "a length that no record has: it is 4 to 26";
-    case HERD_DESK_OTHER_VERSION: return "the version is not 1";
+    case HERD_DESK_OTHER_VERSION: return "the version is not 1, nor 2 of a farm record";
     case HERD_DESK_NO_SUCH_KIND: return "no such kind of record: kinds are 1 to 10";
     case HERD_DESK_WRONG_LENGTH: return "a wrong length or count of values";
     case HERD_DESK_TOO_MANY_RECORDS: return "the book has 4096 records, and no more go in";
