@@ -89,7 +89,7 @@ extern "C" {
 enum {
     HERD_DESK_CLOSED = 0,               /* the book is right: it ends with its close */
     HERD_DESK_NO_SUCH_LENGTH = 1,       /* refused: a length that no record has */
-    HERD_DESK_OTHER_VERSION = 2,        /* refused: another version than 1 */
+    HERD_DESK_OTHER_VERSION = 2,        /* refused: neither version 1, nor 2 of a farm record */
     HERD_DESK_NO_SUCH_KIND = 3,         /* refused: no such kind of record, which is 1 to 10 */
     HERD_DESK_WRONG_LENGTH = 4,         /* refused: another length than the kind's */
     HERD_DESK_TOO_MANY_RECORDS = 5,     /* refused: more than 4,096 records */
