@@ -53,7 +53,7 @@ sheet-part-spec =
     let text = c .before .before .before .before .before .before .before .before .text in
     search needs)
     (λ c. search needs)
-    (λ c. search needs)
+    (λ c. omega (arith, c .before .before .before .before .before .before .before .before .before .before .before .before .before .loop-test .taken))
     (λ c.
     let same = c .before .before .before .before .before .before .before .before .before .before .before .before .before .before .loop .inv .1 in
     let text = c .before .before .before .before .before .before .before .before .text in
