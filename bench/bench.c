@@ -3,6 +3,8 @@
    bench time ROUNDS DETAILS PART..    checks that both agree, then takes their times in turns and prints the best of each
    bench count DETAILS BOOK PART       runs each once on one book (m, 3..7, 9 or 10), for an instruction count
    bench stack DETAILS                 prints the stack that each uses
+   bench farms DETAILS PART            deals the books of 400 farms in turn, a part to each, for an instruction count: herd_call on images, and
+                                       plain C on structs of its own, without and with a test of the struct before each call
 
    A book is read in parts of PART bytes; 0 stands for the whole book at once, by herd_desk itself. */
 #include "../host/herd_desk.h"
@@ -244,6 +246,93 @@ static void print_stacks(const struct book *book) {
     }
 }
 
+enum { FARMS = 400 };
+
+static uint8_t images[FARMS][HERD_IMAGE_BYTES];
+static struct reader readers[FARMS];
+
+typedef struct reply farm_call(size_t farm, const uint8_t *part, size_t part_len, uint8_t *lines, size_t lines_len);
+
+static inline struct reply call_image(size_t farm, const uint8_t *part, size_t part_len, uint8_t *lines, size_t lines_len) {
+    uint64_t taken, number = herd_call(images[farm], HERD_IMAGE_BYTES, part, part_len, lines, lines_len, &taken);
+    return (struct reply){herd_desk_code(number) == HERD_DESK_UNFINISHED ? MORE : CLOSED, taken, herd_desk_written(number)};
+}
+
+static inline struct reply call_plain(size_t farm, const uint8_t *part, size_t part_len, uint8_t *lines, size_t lines_len) {
+    return reader_feed(&readers[farm], part, part_len, lines, lines_len);
+}
+
+static inline struct reply call_tested(size_t farm, const uint8_t *part, size_t part_len, uint8_t *lines, size_t lines_len) {
+    if (!reader_in_range(&readers[farm])) {
+        return (struct reply){REFUSED, 0, 0};
+    }
+    return reader_feed(&readers[farm], part, part_len, lines, lines_len);
+}
+
+/* A part to each farm in turn, until every book is read; gives the bytes written. */
+static inline __attribute__((always_inline)) size_t serve(farm_call *call, const struct book *books, uint8_t *lines, size_t room, size_t part) {
+    size_t at[FARMS] = {0}, written[FARMS] = {0}, open = FARMS, total = 0;
+    while (open > 0) {
+        open = 0;
+        for (size_t i = 0; i < FARMS; i++) {
+            size_t left = books[i].len - at[i];
+            if (left > 0) {
+                struct reply r = call(i, books[i].bytes + at[i], left < part ? left : part, lines + i * room + written[i], room - written[i]);
+                at[i] += r.taken;
+                written[i] += r.written;
+                total += r.written;
+                open += r.answer == MORE;
+            }
+        }
+    }
+    return total;
+}
+
+__attribute__((noinline)) size_t proved_farms(const struct book *books, uint8_t *lines, size_t room, size_t part) {
+    memset(images, 0, sizeof images);
+    return serve(call_image, books, lines, room, part);
+}
+
+__attribute__((noinline)) size_t plain_farms(const struct book *books, uint8_t *lines, size_t room, size_t part) {
+    memset(readers, 0, sizeof readers);
+    return serve(call_plain, books, lines, room, part);
+}
+
+__attribute__((noinline)) size_t tested_farms(const struct book *books, uint8_t *lines, size_t room, size_t part) {
+    memset(readers, 0, sizeof readers);
+    return serve(call_tested, books, lines, room, part);
+}
+
+/* Each twice: a run to check agreement, and one between marks. */
+static void run_farms(unsigned details, size_t part) {
+    static struct book books[FARMS];
+    size_t room = (size_t)details * 2 * 54 + HERD_CALL_ROOM, records = 0, calls = 0;
+    uint8_t *lines = calloc(FARMS, room), *wanted = calloc(FARMS, room);
+    if (lines == NULL || wanted == NULL) {
+        exit(2);
+    }
+    for (size_t i = 0; i < FARMS; i++) {
+        books[i] = make_book("farm", 0, details);
+        books[i].bytes = realloc(books[i].bytes, books[i].len);
+        records += books[i].records;
+        calls += (books[i].len + part - 1) / part;
+    }
+    size_t written = plain_farms(books, wanted, room, part);
+    if (proved_farms(books, lines, room, part) != written || memcmp(lines, wanted, FARMS * room) != 0 ||
+        tested_farms(books, lines, room, part) != written || memcmp(lines, wanted, FARMS * room) != 0) {
+        fputs("bench: farms: different answers\n", stderr);
+        exit(1);
+    }
+    mark();
+    proved_farms(books, lines, room, part);
+    mark();
+    plain_farms(books, lines, room, part);
+    mark();
+    tested_farms(books, lines, room, part);
+    mark();
+    printf("farms %s: %zu records %zu calls\n", mode_of(part), records, calls);
+}
+
 static struct book book_named(const char *name, unsigned details) {
     static const char *names[11] = {"mixed", NULL, NULL, "kind 3", "kind 4", "kind 5", "kind 6", "kind 7", NULL, "kind 9", "kind 10"};
     int kind = atoi(name);
@@ -273,12 +362,14 @@ int main(int argc, char **argv) {
         struct book book = book_named(argv[3], (unsigned)atoi(argv[2]));
         run_once(&book, (size_t)atoi(argv[4]));
         free(book.bytes);
+    } else if (argc == 4 && strcmp(argv[1], "farms") == 0) {
+        run_farms((unsigned)atoi(argv[2]), (size_t)atoi(argv[3]));
     } else if (argc == 3 && strcmp(argv[1], "stack") == 0) {
         struct book book = book_named("m", (unsigned)atoi(argv[2]));
         print_stacks(&book);
         free(book.bytes);
     } else {
-        fputs("usage: bench time ROUNDS DETAILS PART.. | count DETAILS BOOK PART | stack DETAILS\n", stderr);
+        fputs("usage: bench time ROUNDS DETAILS PART.. | count DETAILS BOOK PART | stack DETAILS | farms DETAILS PART\n", stderr);
         return 2;
     }
     return 0;

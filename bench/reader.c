@@ -502,6 +502,7 @@ static enum answer judge_held(struct reader *r, uint8_t *line, size_t room, size
         --*taken;
     } else {
         r->held_count = 0;
+        memset(r->held, 0, sizeof r->held); /* unused places are zero: reader_in_range asks it */
     }
     return answer;
 }
@@ -527,6 +528,49 @@ struct reply reader_feed(struct reader *r, const uint8_t *input, size_t input_le
     reply.taken = taken;
     reply.written = written;
     return reply;
+}
+
+/* Sums and subtotal are bounded by the records, and CO2 on both sides of zero. */
+static int within(const struct figures *f, uint64_t records) {
+    uint64_t most = records * 100000000000u;
+    int64_t co2_most = (int64_t)records * 10000000000000;
+    return f->ch4 <= most && f->n2o <= most / 10 && f->co2 >= -co2_most && f->co2 <= co2_most && f->excreted <= most && f->land <= most &&
+           f->grazing <= most;
+}
+
+static int heading_in_range(const struct reader *r) {
+    const struct heading *h = &r->heading;
+    const struct figures *t = &r->subtotal;
+    if (h->group == 0) {
+        return (h->class | h->head | h->days[0] | h->days[1] | h->days[2] | h->grazed) == 0 && (t->ch4 | t->n2o | t->excreted | t->land) == 0;
+    }
+    return r->records >= 2 && h->class >= 1 && h->class <= 4 && h->head <= 20000 && h->days[0] <= 366 && h->days[1] <= 366 &&
+           h->days[2] <= 366 && h->grazed <= 10000 && within(t, r->records);
+}
+
+static int held_in_range(const struct reader *r) {
+    static const uint8_t none[28];
+    if (r->held_count > 27 || (r->stage >= CLOSED_BOOK && r->held_count > 0)) {
+        return 0;
+    }
+    if (r->held_count >= 2 && (bad_length(be16(r->held)) || r->held_count >= be16(r->held) + 2)) {
+        return 0;
+    }
+    return memcmp(r->held + r->held_count, none, sizeof r->held - r->held_count) == 0;
+}
+
+int reader_in_range(const struct reader *r) {
+    unsigned least = r->stage == REFUSED_BOOK ? 0 : r->stage;
+    if (r->stage > REFUSED_BOOK || r->records > MOST_RECORDS || r->records < least || (r->stage == NO_RECORD && r->records > 0)) {
+        return 0;
+    }
+    if (r->per_ch4 > 1000 || r->per_n2o > 1000 || (r->per_ch4 == 0) != (r->records == 0) || (r->per_n2o == 0) != (r->records == 0)) {
+        return 0;
+    }
+    if (r->stage == REFUSED_BOOK ? r->code < 1 || r->code > 12 || r->field > 12 || (r->code == 7) != (r->field > 0) : (r->code | r->field) != 0) {
+        return 0;
+    }
+    return heading_in_range(r) && within(&r->sums, r->records) && held_in_range(r);
 }
 
 static uint64_t number(const struct reader *r, enum answer answer, int bytes_remain, size_t written) {

@@ -45,6 +45,9 @@ struct reply {
 
 struct reply reader_feed(struct reader *reader, const uint8_t *input, size_t input_len, uint8_t *lines, size_t lines_len);
 
+/* The test of a state that document 01 asks of every call (13); reader_feed leaves it to its caller. */
+int reader_in_range(const struct reader *reader);
+
 /* As herd_desk: the whole book at once, or in parts of so many bytes. */
 uint64_t plain_desk(const uint8_t *book, size_t book_len, uint8_t *lines, size_t lines_len);
 uint64_t plain_parts(const uint8_t *book, size_t book_len, uint8_t *lines, size_t lines_len, size_t part);

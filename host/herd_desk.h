@@ -1,4 +1,5 @@
-/* The herd desk: a whole farm book in, lines out, one number back.
+/* The herd desk: a whole farm book in, lines out, one number back (herd_desk); or many farms at a time, each with an image of its
+   state in bytes that the caller owns, and a part of its book in each call (herd_start, herd_call).
 
    Link with libdesk.a, which is for x86-64 and the System V calling convention; it wants nothing but memcpy and memset.
 
@@ -6,7 +7,42 @@
    gives back code × 2^32 + bytes written. The codes have names below; herd_desk_code and herd_desk_written take the number
    apart, and herd_desk_words gives a code's words, for people. docs/FORMAT.md has the rules, and what to do about each number.
 
-   Every book starts from no record: nothing is kept from one call to the next, and calls may run side by side.
+   herd_desk starts every book from no record: nothing is kept from one call to the next, and calls may run side by side.
+
+   Many farms.  A farm's state is HERD_IMAGE_BYTES bytes, its image, which the caller keeps wherever it likes: an array, a file, a row
+   of a table. An image may lie at any address, may be copied and stored, and has no pointers. The image of a farm without a
+   record is all zeros, so a cleared array needs no herd_start. Each state has one image: two farms are in the same state exactly
+   where their images are the same bytes.
+
+       herd_start(image, image_len)    lays out the state of no record
+       herd_call(image, image_len, part, part_len, lines, lines_len, &taken)
+                                       reads the next part of the farm's book, of any size, and leaves the image of the state after it
+
+   herd_call gives code × 2^32 + bytes written, and sets *taken, always. Its codes:
+
+       17 (more)     the whole part is taken; call again with what comes next. A cut record is kept in the image
+       16 (full)     the next record's lines do not fit: take the lines away, and call again with the part from *taken on. With 116
+                     bytes of room (HERD_CALL_ROOM) a call that has a byte always takes one
+       0 (closed)    the close is in; *taken is short where bytes stand behind it (there is no 18)
+       1 to 12       refused; *taken counts the byte that decides it
+       13            no image: another length than HERD_IMAGE_BYTES, or bytes that no state has. It is tried first; image, lines and part
+                     are untouched and *taken is 0. herd_start gives 13 for a wrong length alone
+
+   A closed or refused image gives its code again, takes nothing and writes nothing. However a book is cut into parts, and whatever
+   the rooms are, the lines one after the other and the last code are those of herd_desk on the whole book.
+
+   The layout, each number big-endian:
+
+       bytes 0..26     the held bytes of an unfinished record, zeros behind them; byte 27 how many
+       byte  28        stage: 0 no record yet, 1 open, 2 closed, 3 refused
+       bytes 29..34    records accepted; CH4 factor; N2O factor; 2 bytes each
+       bytes 35..39    heading: group 2, class 1, head 2
+       bytes 40..47    its days of kinds 3, 4 and 5, and its grazed fraction, 2 bytes each
+       bytes 48..79    its subtotal: CH4, N2O, excreted nitrogen, nitrogen for land, 8 bytes each
+       bytes 80..127   the sums: CH4, N2O, CO2 (signed, herd_desk_signed), excreted, land, grazing, 8 bytes each
+       bytes 128..131  the refusal: code 1, records accepted before it 2, field 1
+
+   Calls on different images may run side by side; two calls on one image may not.
 
    Lines.  A detail record (enteric, cattle nitrogen, pig, energy, soil, tillage, grazing) gives a line of 54 bytes, the close a
    total of 62. Where a group ends, at the next heading or at the close, a subtotal of 54 bytes comes first: the heading then gives
@@ -34,10 +70,10 @@
    HERD_DESK_LINES_MAX. (A book without a close can have 4,095 × 54, which is 8 bytes less.) For a book of n bytes so do
    n / 8 × 54 + 62, since neither heading nor detail record is shorter than 8 bytes.
 
-   Pointers.  Both must be good for their lengths. NULL is fine with length 0. The two must not overlap. The book is not
-   changed. Nothing is allocated, no file is touched, and every call ends.
+   Pointers.  All must be good for their lengths, `taken` for one number. NULL is fine with length 0, but not for `taken`. No two
+   of them may overlap. Book and part are not changed. Nothing is allocated, no file is touched, and every call ends.
 
-   host/example.c is a whole program; README.md has the lines that build one.
+   host/example.c is a whole program for one book, host/many.c one that serves many farms; README.md has the lines that build one.
 */
 #ifndef HERD_DESK_H
 #define HERD_DESK_H
@@ -64,6 +100,7 @@ enum {
     HERD_DESK_WRONG_SHARES = 10,        /* refused: cattle shares or pig parts that do not add up, or too much grazing under a heading */
     HERD_DESK_NITROGEN_BELOW_ZERO = 11, /* refused: more nitrogen in milk and gain than in the feed */
     HERD_DESK_WRONG_COUNT = 12,         /* refused: the close counts other records than there are before it */
+    HERD_DESK_NO_IMAGE = 13,            /* refused: the image is of another length, or no state's */
     HERD_DESK_FULL = 16,                /* no room: the lines of the next record do not fit */
     HERD_DESK_UNFINISHED = 17,          /* the bytes end before the close */
     HERD_DESK_MORE_BYTES = 18           /* the book is closed, and bytes stand behind its close */
@@ -73,7 +110,18 @@ enum {
 #define HERD_DESK_BOOK_MAX (4096 * 28)
 #define HERD_DESK_LINES_MAX (4094 * 54 + 62)
 
+/* The bytes of an image, and room in which a call that has a byte always takes one: a subtotal and the total. */
+#define HERD_IMAGE_BYTES 132
+#define HERD_CALL_ROOM (54 + 62)
+
 uint64_t herd_desk(const uint8_t *book, size_t book_len, uint8_t *lines, size_t lines_len);
+
+/* 0, or 13 × 2^32 where image_len is not HERD_IMAGE_BYTES. */
+uint64_t herd_start(uint8_t *image, size_t image_len);
+
+/* Code × 2^32 + bytes written; *taken = bytes taken. */
+uint64_t herd_call(uint8_t *image, size_t image_len, const uint8_t *part, size_t part_len, uint8_t *lines, size_t lines_len,
+                   uint64_t *taken);
 
 static inline uint32_t herd_desk_code(uint64_t answer) {
     return (uint32_t)(answer >> 32);
@@ -110,6 +158,7 @@ static inline const char *herd_desk_words(uint32_t code) {
                                     "a pig's volatilised and leached parts at most 1.000";
     case HERD_DESK_NITROGEN_BELOW_ZERO: return "more nitrogen in milk and gain than in the feed";
     case HERD_DESK_WRONG_COUNT: return "the close counts other records than there are before it; left out, the count is filled in";
+    case HERD_DESK_NO_IMAGE: return "the image is no state's";
     case HERD_DESK_FULL: return "no room";
     case HERD_DESK_UNFINISHED: return "the bytes end before the close";
     case HERD_DESK_MORE_BYTES: return "bytes stand behind the close";

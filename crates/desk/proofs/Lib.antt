@@ -1,3 +1,4 @@
 pub mod Sizes
+pub mod Images
 pub mod Number
 pub mod OneAnswer

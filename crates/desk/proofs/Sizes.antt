@@ -61,14 +61,18 @@ run-paid s xs = paid-by (suc (length (heldOf s ++ xs))) (s .account) (heldOf s +
 pub run-small : (s : State) (xs : List ℕ) → InRange s → length (joined (run s xs .lines)) ≤ linesMost * 4096
 run-small s xs v = omega (arith, run-paid s xs, run-leaves s xs v .range .account .counted .records-most)
 
+-- the lines of a call from a state in range
+pub call-few : (s : State) (xs : List ℕ) (room : ℕ) → InRange s → length (call s xs room .bytes) ≤ linesMost * 4096
+call-few s xs room v =
+    let n = longest (fits s xs room) (length xs) in
+    rw (call-at s xs room n (outcome (run s (take n xs))) v refl refl) (run-small s (take n xs) v)
+
 -- the state before any record is in range
 new-range : InRange noRecordYet
 new-range = range-idle noRecord in-range-none
 
 pub call-small : (xs : List ℕ) (room : ℕ) → length (call noRecordYet xs room .bytes) ≤ linesMost * 4096
-call-small xs room =
-    let n = longest (fits noRecordYet xs room) (length xs) in
-    rw (call-at noRecordYet xs room n (outcome (run noRecordYet (take n xs))) new-range refl refl) (run-small noRecordYet (take n xs) new-range)
+call-small xs room = call-few noRecordYet xs room new-range
 
 -- so the bytes written stay below 2^32
 pub written-fits : (xs : List ℕ) (room : ℕ) → length (call noRecordYet xs room .bytes) < 2 ^ 32

@@ -9,6 +9,8 @@ use Rattle.book.specs.declared.Answer.{Answer}
 use Rattle.book.specs.declared.Answer.the-variants.{More, Full, Closed, Refused}
 use Rattle.book.specs.State.{noRecordYet}
 use Rattle.book.specs.Call.{Call, call}
+use Rattle.image.specs.Image.{imageSize}
+use Rattle.image.specs.Calls as image
 
 -- the code of an answer, with so many bytes of the book left
 abbrev pub codeOf : Answer → ℕ → ℕ
@@ -27,3 +29,13 @@ numberOf c n = codeOf (c .answer) (n - c .taken) * 2 ^ 32 + length (c .bytes)
 
 abbrev pub deskNumber : List ℕ → ℕ → ℕ
 deskNumber book room = numberOf (deskCall book room) (length book)
+
+-- ---- change request W12: calls on an image
+
+-- no 18 here: bytes after the close show in the count taken
+abbrev pub callNumber : Call → ℕ
+callNumber c = image.codeOf (c .answer) * 2 ^ 32 + length (c .bytes)
+
+-- 0, or 13 times 2^32 where the image's length is another
+abbrev pub startNumber : List ℕ → ℕ
+startNumber image = pick (eqb (length image) imageSize) 0 (13 * 2 ^ 32)

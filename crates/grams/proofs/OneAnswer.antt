@@ -32,6 +32,8 @@ use Rattle.grams.proofs.rounding.round_div.Kinds as division
 use Rattle.grams.proofs.rounding.round_div.Reads as division-contract
 use Rattle.grams.proofs.tillage.tillage.Kinds as ploughed
 use Rattle.grams.proofs.tillage.tillage.Reads as ploughed-contract
+use Rattle.grams.proofs.units.Co2.from_word.Kinds as told-air
+use Rattle.grams.proofs.units.Co2.from_word.Reads as told-air-contract
 use Rattle.grams.proofs.units.Co2.of.Kinds as air
 use Rattle.grams.proofs.units.Co2.of.Reads as air-contract
 use Rattle.grams.proofs.units.Co2.plus.Kinds as air-sum
@@ -77,6 +79,9 @@ co2-same-asks-nothing κs args = tt
 pub co2-word-asks-nothing : (κs : Lfts 0) (args : Dens κs laid-air.ps) → laid-air-contract.Asked κs args
 co2-word-asks-nothing κs args = tt
 
+pub co2-from-word-asks-nothing : (κs : Lfts 0) (args : Dens κs told-air.ps) → told-air-contract.Asked κs args
+co2-from-word-asks-nothing κs args = tt
+
 pub grazed-of-asks-nothing : (κs : Lfts 0) (args : Dens κs grazed.ps) → grazed-contract.Asked κs args
 grazed-of-asks-nothing κs args = tt
 
@@ -117,6 +122,10 @@ one-co2-same κs args f g e e′ p q = p ∙ sym q
 pub one-co2-word : (κs : Lfts 0) (args : Dens κs laid-air.ps) (f g : ℕ) (e e′ : AtExit (endedOf 0 laid-air.ps laid-air.r) κs)
     → laid-air-contract.Learnt κs args f e → laid-air-contract.Learnt κs args g e′ → f ≡ g
 one-co2-word κs args f g e e′ p q = p ∙ sym q
+
+pub one-co2-from-word : (κs : Lfts 0) (args : Dens κs told-air.ps) (f g : Co2) (e e′ : AtExit (endedOf 0 told-air.ps told-air.r) κs)
+    → told-air-contract.Learnt κs args f e → told-air-contract.Learnt κs args g e′ → f ≡ g
+one-co2-from-word κs args f g e e′ p q = p ∙ sym q
 
 -- CO2 added.
 pub one-co2-plus : (κs : Lfts 0) (args : Dens κs air-sum.ps) (f g : Co2) (e e′ : AtExit (endedOf 0 air-sum.ps air-sum.r) κs)

@@ -38,6 +38,10 @@ co2Within records c = leb (natAbs (co2Grams c)) (records * 10 ^ 13)
 abbrev pub co2Word : Co2 → ℕ
 co2Word c = c .0
 
+-- and the CO2 that such a number stands for
+abbrev pub co2OfWord : ℕ → Co2
+co2OfWord word = record { 0 = word }
+
 -- ---- N2O
 
 -- so many grams of N2O

@@ -3,7 +3,7 @@ use crate::rounding::round_div;
 ghost use mathlib.Core.Path.{_≡_};
 ghost use Prim.Native.Nat.{_+_, _*_, _^_, _<_, _≤_};
 ghost use lib.IntN.{pos, negℤ};
-ghost use Rattle.grams.specs.Units.{gramsCo2, plusCo2, Co2Within, co2Within, co2Word, gramsN2o, gramsGrazed, partsN2oN, asN2o};
+ghost use Rattle.grams.specs.Units.{gramsCo2, plusCo2, Co2Within, co2Within, co2Word, co2OfWord, gramsN2o, gramsGrazed, partsN2oN, asN2o};
 
 // Grams of CO2, a word in two's complement. How they are added, bounded and laid into 8 bytes is said here alone.
 pub struct Co2(u64);
@@ -54,6 +54,13 @@ impl Co2 {
         ensures { λ r. ⌜ r ≡ co2Word self ⌝ }
     {
         self.0
+    }
+
+    // And back: the CO2 that a number of 8 bytes stands for.
+    pub fn from_word(word: u64) -> Co2
+        ensures { λ r. ⌜ r ≡ co2OfWord word ⌝ }
+    {
+        Co2(word)
     }
 }
 
