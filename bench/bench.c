@@ -39,6 +39,29 @@ __attribute__((noinline)) uint64_t plain_reading(const struct book *book, uint8_
                          : plain_parts(book->bytes, book->len, lines, LARGE, part);
 }
 
+/* Plain C that tests its state before each part, as document 01 asks of every call. */
+__attribute__((noinline)) uint64_t tested_reading(const struct book *book, uint8_t *lines, size_t part) {
+    return part == WHOLE ? plain_desk(book->bytes, book->len, lines, LARGE)
+                         : tested_parts(book->bytes, book->len, lines, LARGE, part);
+}
+
+/* One book on one image, a part a call. */
+__attribute__((noinline)) uint64_t image_reading(const struct book *book, uint8_t *lines, size_t part) {
+    uint8_t image[HERD_IMAGE_BYTES] = {0};
+    uint64_t number = 0, taken;
+    size_t at = 0, written = 0;
+    while (at < book->len) {
+        size_t left = book->len - at;
+        number = herd_call(image, sizeof image, book->bytes + at, part == WHOLE || left < part ? left : part, lines + written, LARGE - written, &taken);
+        at += taken;
+        written += herd_desk_written(number);
+        if (herd_desk_code(number) != HERD_DESK_UNFINISHED) {
+            break;
+        }
+    }
+    return (uint64_t)herd_desk_code(number) << 32 | written;
+}
+
 static uint64_t seed = 88172645463325252u;
 
 static uint64_t below(uint64_t n) {
@@ -158,15 +181,23 @@ static const char *mode_of(size_t part) {
     return name;
 }
 
-static void check_agreement(const struct book *book, size_t part) {
+/* Whether a reading gives what plain C has given. */
+static void check_one(reading *read, const struct book *book, size_t part, uint64_t by_plain) {
     memset(proved_lines, PAINT, LARGE);
-    memset(plain_lines, PAINT, LARGE);
-    uint64_t by_proved = proved_reading(book, proved_lines, part), by_plain = plain_reading(book, plain_lines, part);
-    if (by_proved != by_plain || memcmp(proved_lines, plain_lines, LARGE) != 0 || herd_desk_code(by_plain) != 0) {
-        fprintf(stderr, "bench: %s, %s: different answers, %llx and %llx\n", book->name, mode_of(part),
-                (unsigned long long)by_proved, (unsigned long long)by_plain);
+    uint64_t by_read = read(book, proved_lines, part);
+    if (by_read != by_plain || memcmp(proved_lines, plain_lines, LARGE) != 0 || herd_desk_code(by_plain) != 0) {
+        fprintf(stderr, "bench: %s, %s: different answers, %llx and %llx\n", book->name, mode_of(part), (unsigned long long)by_read,
+                (unsigned long long)by_plain);
         exit(1);
     }
+}
+
+static void check_agreement(const struct book *book, size_t part) {
+    memset(plain_lines, PAINT, LARGE);
+    uint64_t by_plain = plain_reading(book, plain_lines, part);
+    check_one(proved_reading, book, part, by_plain);
+    check_one(tested_reading, book, part, by_plain);
+    check_one(image_reading, book, part, by_plain);
 }
 
 static double now_ns(void) {
@@ -209,6 +240,10 @@ static void run_once(const struct book *book, size_t part) {
     proved_reading(book, proved_lines, part);
     mark();
     plain_reading(book, plain_lines, part);
+    mark();
+    tested_reading(book, plain_lines, part);
+    mark();
+    image_reading(book, proved_lines, part);
     mark();
     printf("%s %s: %zu records %zu calls\n", book->name, mode_of(part), book->records, calls);
 }

@@ -588,15 +588,27 @@ uint64_t plain_desk(const uint8_t *book, size_t book_len, uint8_t *lines, size_t
     return number(&r, reply.answer, reply.taken < book_len, reply.written);
 }
 
-uint64_t plain_parts(const uint8_t *book, size_t book_len, uint8_t *lines, size_t lines_len, size_t part) {
+static inline __attribute__((always_inline)) uint64_t parts_read(const uint8_t *book, size_t book_len, uint8_t *lines, size_t lines_len,
+                                                                 size_t part, int tests) {
     struct reader r = {0};
     struct reply reply = {MORE, 0, 0};
     size_t taken = 0, written = 0;
     while (reply.answer == MORE && taken < book_len) {
         size_t offer = book_len - taken < part ? book_len - taken : part;
+        if (tests && !reader_in_range(&r)) {
+            return (uint64_t)13 << 32;
+        }
         reply = reader_feed(&r, book + taken, offer, lines + written, lines_len - written);
         taken += reply.taken;
         written += reply.written;
     }
     return number(&r, reply.answer, taken < book_len, written);
+}
+
+uint64_t plain_parts(const uint8_t *book, size_t book_len, uint8_t *lines, size_t lines_len, size_t part) {
+    return parts_read(book, book_len, lines, lines_len, part, 0);
+}
+
+uint64_t tested_parts(const uint8_t *book, size_t book_len, uint8_t *lines, size_t lines_len, size_t part) {
+    return parts_read(book, book_len, lines, lines_len, part, 1);
 }

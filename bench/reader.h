@@ -52,4 +52,7 @@ int reader_in_range(const struct reader *reader);
 uint64_t plain_desk(const uint8_t *book, size_t book_len, uint8_t *lines, size_t lines_len);
 uint64_t plain_parts(const uint8_t *book, size_t book_len, uint8_t *lines, size_t lines_len, size_t part);
 
+/* The same, with the test of the state before each part. */
+uint64_t tested_parts(const uint8_t *book, size_t book_len, uint8_t *lines, size_t lines_len, size_t part);
+
 #endif
