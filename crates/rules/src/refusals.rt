@@ -22,20 +22,20 @@ pub(crate) fn wrong(a: Account, code: u8, field: u8) -> Judged
     }
 }
 
-// Refusals 5, 6 and 7, or 0.
+// Refusals 5, 6 and 7, or 0. Most records pass all three: tested together first, else the compiler makes up the number at each record.
 pub(crate) fn barred(records: u16, placed: bool, bad: u8) -> u8
     ensures { λ r. ⌜ r ≡ first ((leb 4096 records, 5) ∷ (not placed, 6) ∷ (not (eqb bad 0), 7) ∷ []) ⌝ }
 {
+    if (records < 4096) & placed & (bad == 0) {
+        return 0;
+    }
     if 4096 <= records {
         return 5;
     }
     if !placed {
         return 6;
     }
-    if bad != 0 {
-        return 7;
-    }
-    0
+    7
 }
 
 // Refused by 5, 6 or 7; 7 alone gives its field.

@@ -3,6 +3,7 @@
 use mathlib.Core.Path.{sym, _∙_}
 use lib.Dec.{lit<}
 use native.Mathlib.Omega.{arith}
+use borrow.Author.Tests.{eqb-true}
 use Rattle.codec.specs.Table.{table, fields}
 use Rattle.codec.proofs.Within.{passed, too-low, too-high}
 use Rattle.codec.proofs.pig.first_bad.Statement.{statement}
@@ -13,6 +14,8 @@ unfolding table
 first-bad-spec =
     tie.close
     (tie.spec
+    (λ c κs. tt)
+    (λ c. sym (eqb-true _ 0 (sym (c .before .in-ranges .ensures) ∙ c .if1 .taken)))
     (λ c. omega arith)
     (λ c. too-low 0 (fields 5) _ 0 (omega arith) (lit< tt) (omega arith))
     (λ c. omega arith)
