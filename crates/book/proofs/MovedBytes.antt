@@ -1,5 +1,5 @@
 -- Laws of bytes that are moved and looked at: kept behind the state, filled in, gathered, zero.
-use Prim.Native.Nat.{ℕ, suc, _+_, _*_, _-_, _≤_, _<_}
+use Prim.Native.Nat.{ℕ, suc, _+_, _*_, _-_, _≤_, _<_, min}
 use mathlib.Core.Path.{_≡_, ap, sym, _∙_}
 use mathlib.Core.List.{List, _++_}
 use mathlib.Core.Bool.{Bool, true, _&&_}
@@ -11,11 +11,13 @@ use borrow.Author.Tests.{eq-eqb}
 use lib.Dec.{eqb}
 use lib.ListN.{length, getD, take, drop, set, replicate}
 use lib.Seq.{paste, paste-suc, length-paste, take-paste, take-suc, set-at, append-snoc, drop-cons}
-use lib.Seq.{length-take-le, take-length, take-take, take-append-seam}
+use lib.Seq.{length-take-le, take-length, take-take, take-append-seam, take-append-add}
 use Rattle.base.proofs.Tests.{lt-or-ge}
 use Rattle.codec.specs.Codec.{valAt}
+use Rattle.book.specs.Front.{unfinished, need, front}
 use Rattle.book.specs.State.{zeros}
 use Rattle.book.specs.Inner.{Filled, Gathered}
+use Rattle.book.proofs.FrontLaws.{meaning, unfinished-short, length-take-two, held-whole}
 
 -- one byte more is kept
 pub keep-on : (held s : List ℕ) (j : ℕ) → held ≡ take j s ++ replicate (27 - j) 0 → j < length s → j < 27
@@ -51,14 +53,57 @@ gathered held count src r0 r1 r2 h k l27 short some l28 f1 f2 =
     let lh : length (take count held) ≡ count = length-take-le count held (omega arith) in
     let more : 0 < k = ⊎-elim (λ (q : 0 < k). q) (λ (q : k ≤ 0). let z = f2 .end (omega arith) in absurd (omega arith)) (lt-or-ge 0 k) in
     let d : count + k - length (take count held) ≡ k = omega arith in
+    let all-taken : length (take (count + k) r2) ≡ count + k = length-take-le (count + k) r2 (omega (arith, f2 .array, f2 .bound)) in
     record {
       least = omega arith;
       array = omega (arith, f2 .array, f2 .bound);
       places = f2 .array;
       inside = omega (arith, f2 .inside);
       bytes = rw d t2;
-      end = λ q. rw d (f2 .end q);
+      end = λ u. rw d (f2 .end (omega (arith, unfinished-short (take (count + k) r2) u, all-taken)));
     }
+
+-- of those gathered, the bytes of the first record alone
+module _ (held xs rec : List ℕ) (n k : ℕ) (g : Gathered held xs rec n) (b : front held ≡ unfinished) (is : k ≡ min n (need rec)) where
+  first-least : length held < k
+  first-least =
+      ⊎-elim (λ (q : n < 2). omega (arith, g .least, is))
+      (λ (q : 2 ≤ n).
+      let w : length held < need rec =
+      rw (length-take-two rec n q) at (rw (← g .bytes) at (held-whole held (take (n - length held) xs) b)) in
+      omega (arith, g .least, is))
+      (lt-or-ge n 2)
+
+  first-bytes : take k rec ≡ held ++ take (k - length held) xs
+  first-bytes =
+      let d : length held + (k - length held) ≡ k = omega (arith, first-least) in
+      sym (take-take k n rec (omega (arith, is)))
+      ∙ ap (λ (l : List ℕ). take k l) (g .bytes)
+      ∙ ap (λ (m : ℕ). take m (held ++ take (n - length held) xs)) (sym d)
+      ∙ take-append-add held (take (n - length held) xs) (k - length held)
+      ∙ ap (λ (l : List ℕ). held ++ l) (take-take (k - length held) (n - length held) xs (omega (arith, is)))
+
+  first-end : front (take k rec) ≡ unfinished → k - length held ≡ length xs
+  first-end u =
+      ⊎-elim (λ (q : need rec < n).
+      let e : k ≡ need rec = omega (arith, is) in
+      let l : length (take k rec) ≡ k = length-take-le k rec (omega (arith, g .array)) in
+      let m = meaning (take k rec) unfinished u (omega arith) in
+      let v : valAt (take k rec) 0 2 ≡ valAt rec 0 2 = length-take-two rec k (omega arith) in
+      absurd (omega (arith, m .2)))
+      (λ (q : n ≤ need rec). let e : k ≡ n = omega (arith, is) in rw e (g .end (rw e at u)))
+      (lt-or-ge (need rec) n)
+
+  pub gathered-first : Gathered held xs rec k
+  gathered-first =
+      record {
+        least = first-least;
+        array = omega (arith, g .array, is);
+        places = g .places;
+        inside = omega (arith, g .inside, is);
+        bytes = first-bytes;
+        end = first-end;
+      }
 
 module _ (held xs rec src : List ℕ) (n count : ℕ) (g : Gathered held xs rec n) (e : src ≡ take n rec) (l : length held ≡ count) where
   pub gathered-held : take count src ≡ held
@@ -67,11 +112,9 @@ module _ (held xs rec src : List ℕ) (n count : ℕ) (g : Gathered held xs rec 
   pub gathered-more : count < length src
   gathered-more = omega (arith, ap length e, length-take-le n rec (g .array), g .least, l)
 
-  -- fewer than the longest record has are all there are
-  pub gathered-all : length src ≤ 27 → src ≡ held ++ xs
-  gathered-all h =
-      let d : n - length held ≡ length xs = g .end (omega (arith, ap length e, length-take-le n rec (g .array))) in
-      rw (e, g .bytes, d, take-length xs)
+  -- an unfinished record has all there are
+  pub gathered-all : front src ≡ unfinished → src ≡ held ++ xs
+  gathered-all u = let d : n - length held ≡ length xs = g .end (rw e at u) in rw (e, g .bytes, d, take-length xs)
 
 -- ---- places that are zero
 

@@ -20,7 +20,7 @@ use Rattle.book.specs.State.{heldOf, holding}
 use Rattle.book.specs.Run.{outcome, book, run}
 use Rattle.book.specs.Inner.{Gathered, Ran, Offered, Begins, Turned, leftBy}
 use Rattle.book.proofs.MovedBytes.{gathered-held, gathered-more, gathered-all}
-use Rattle.book.proofs.FrontLaws.{meaning, good-length, unfinished-short, is-unfinished, is-bad, length-take-two, held-bad, held-whole}
+use Rattle.book.proofs.FrontLaws.{meaning, good-length, is-unfinished, is-bad, length-take-two, held-bad, held-whole}
 use Rattle.book.proofs.RangeLaws.{held-length, range-holding, range-idle}
 use Rattle.book.proofs.RunLaws.{book-unfinished, book-bad}
 use Rattle.book.proofs.RecordLaws.{book-one, nothing-yet}
@@ -203,7 +203,7 @@ module _ {s : State} {input : List ℕ} {i : ℕ} (o : Offered s input i) {src :
           early = o .early;
           held = gathered-held (heldOf s) rest rec src n (s .count) g h l;
           more = gathered-more (heldOf s) rest rec src n (s .count) g h l;
-          finished = λ u. o .finished (rw (← e, ← gathered-all (heldOf s) rest rec src n (s .count) g h l (unfinished-short src u)) u);
+          finished = λ u. o .finished (rw (← e, ← gathered-all (heldOf s) rest rec src n (s .count) g h l u) u);
         }
 
     pub turned-gathered : {out out′ : List ℕ} {t : Turn} → Does s src out out′ t → Turned (λ n. run s (take n (drop i input))) (length input - i) out out′ t

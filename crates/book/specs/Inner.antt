@@ -39,14 +39,14 @@ pub record Filled (rec rec′ : List ℕ) (n goal : ℕ) (src : List ℕ) (k : �
   pub upto : n ≤ goal → n + k ≤ goal
   pub end : n + k < goal → k ≡ length src
 
--- the first n bytes of rec are those held and the next of xs, one at least
+-- the first n bytes of rec are those held and the next of xs, one at least; all of them where they leave the record unfinished
 pub record Gathered (held xs rec : List ℕ) (n : ℕ) : Type 0 where
   pub least : length held < n
   pub array : n ≤ length rec
   pub places : length rec ≡ recordMost
   pub inside : n - length held ≤ length xs
   pub bytes : take n rec ≡ held ++ take (n - length held) xs
-  pub end : n < recordMost → n - length held ≡ length xs
+  pub end : front (take n rec) ≡ unfinished → n - length held ≡ length xs
 
 -- i bytes of the input are read and w bytes of lines written, from the state s₀ to s: what rule 2 gives for those i bytes
 pub record Reading (input out₀ : List ℕ) (s₀ : State) (out : List ℕ) (s : State) (i w : ℕ) : Type 0 where

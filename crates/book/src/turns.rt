@@ -6,15 +6,17 @@ use crate::front::bad_length;
 use crate::records::judge_all;
 use account::Account;
 use base::first_of;
+use base::least;
 use base::rest_of;
+use codec::LENGTH_MOST;
 use codec::RECORD_MOST;
 use codec::numbers::be16;
 ghost use mathlib.Core.Path.{_≡_};
 ghost use mathlib.Core.List.{[]};
-ghost use Prim.Native.Nat.{_+_, _-_, _≤_, _<_};
+ghost use Prim.Native.Nat.{_+_, _-_, _≤_, _<_, min};
 ghost use lib.ListN.{length, take, drop};
 ghost use Rattle.codec.specs.Table.{recordMost};
-ghost use Rattle.book.specs.Front.{bad};
+ghost use Rattle.book.specs.Front.{bad, need};
 ghost use Rattle.book.specs.State.{InRange, heldOf, holding};
 ghost use Rattle.book.specs.Run.{book, run};
 ghost use Rattle.book.specs.Inner.{Begins, Gathered, Offered, Turned, leftBy};
@@ -51,6 +53,18 @@ fn idle(account: Account) -> State
         held: [0; 27],
         count: 0,
     }
+}
+
+// Of n bytes at the front of s, those of the first record alone.
+fn first_record(s: &[u8], n: usize) -> usize
+    requires { ⌜ (2 ≤ length (now s)) × (n ≤ recordMost) ⌝ }
+    ensures { λ r. ⌜ r ≡ min n (need (now (s .entry))) ⌝ }
+{
+    let length = be16(s, 0);
+    if LENGTH_MOST < length {
+        return n;
+    }
+    least(n, (length as usize) + 2)
 }
 
 impl State {
@@ -123,7 +137,9 @@ impl State {
         } else {
             let mut bytes = [0u8; RECORD_MOST];
             let n = self.gather(&mut bytes, rest);
-            let src = first_of(&bytes, n);
+            // only the record that was cut: those behind it are judged where they lie
+            let cut = first_record(&bytes, n);
+            let src = first_of(&bytes, cut);
             self.turn(src, out)
         }
     }
