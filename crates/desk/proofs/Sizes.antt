@@ -13,11 +13,10 @@ use Rattle.codec.specs.Table.{linesMost}
 use Rattle.account.proofs.Counts.{judge-counts}
 use Rattle.account.proofs.Keeps.{in-range-none}
 use Rattle.book.specs.declared.State.{State}
-use Rattle.book.specs.declared.Fed.{Fed}
 use Rattle.book.specs.Front.{Front, unfinished, badLength, whole, need, front}
 use Rattle.book.specs.State.{heldOf, noRecordYet, InRange}
 use Rattle.book.specs.Run.{Run, outcome, book, run}
-use Rattle.book.specs.Call.{longest, fits, call, fedOf}
+use Rattle.book.specs.Call.{longest, fits, call}
 use Rattle.book.proofs.FrontLaws.{meaning}
 use Rattle.book.proofs.RangeLaws.{range-idle}
 use Rattle.book.proofs.RunLaws.{book-ended, book-unfinished, book-bad, book-whole}
@@ -77,6 +76,3 @@ call-small xs room = call-few noRecordYet xs room new-range
 -- so the bytes written stay below 2^32
 pub written-fits : (xs : List ℕ) (room : ℕ) → length (call noRecordYet xs room .bytes) < 2 ^ 32
 written-fits xs room = omega (arith, call-small xs room)
-
-pub written-small : {s : State} {f : Fed} (xs : List ℕ) (room : ℕ) → s ≡ noRecordYet → f ≡ fedOf (call s xs room) → f .written < 2 ^ 32
-written-small xs room n e = rw (e, n) (written-fits xs room)

@@ -1,6 +1,5 @@
 // The herd desk: a whole book and a line buffer from a C program, one number back; or an image that it keeps, and a part of a book.
 use book::Answer;
-use book::State;
 use image::call;
 use image::start;
 ghost use mathlib.Core.Path.{_≡_};
@@ -28,10 +27,12 @@ pub extern "C" fn herd_desk(book: &[u8], lines: &mut [u8]) -> u64
     ensures number { λ r. ⌜ r ≡ deskNumber (now (book .entry)) (length (now (lines .entry))) ⌝ }
     ensures lines { λ r. ⌜ now (lines .exit) ≡ laid (deskCall (now (book .entry)) (length (now (lines .entry)))) (now (lines .entry)) ⌝ }
 {
-    let fed = State::new().feed(book, lines);
-    let answer = fed.answer;
-    let code = code_of(answer, book.len() - fed.taken);
-    code * 4294967296 + fed.written as u64
+    // No record yet is an image of zeros. With herd_call there is one caller of the reader, so that the compiler makes both of them one function.
+    let mut image = [0u8; 132];
+    let whole = call(&mut image, book, lines);
+    let answer = whole.answer;
+    let code = code_of(answer, book.len() - whole.taken);
+    code * 4294967296 + whole.written as u64
 }
 
 // The image of no record yet: 0, or 13 times 2^32 where its length is another, and the image untouched.

@@ -1,7 +1,8 @@
+use mathlib.Core.Path.{refl}
 use native.Mathlib.Omega.{arith}
 use borrow.Author.Needs.{needs}
-use Rattle.desk.proofs.Sizes.{written-small}
-use Rattle.desk.proofs.Number.{is-number}
+use Rattle.desk.proofs.Images.{called-few}
+use Rattle.desk.proofs.Number.{from-zeros, is-number}
 use Rattle.desk.proofs.herd_desk.Statement.{statement}
 use Rattle.desk.proofs.herd_desk.Tie as tie
 
@@ -9,16 +10,13 @@ pub herd-desk-spec : {M : Type 1} → statement M
 herd-desk-spec =
     tie.close
     (tie.spec
-    (λ c κs. search needs)
-    (λ c κs. search needs)
-    (λ c. search needs)
-    (λ c κs. search needs)
+    (λ c. refl)
+    (λ c κs. tt)
+    (λ c. c .before .before .before .before .call .ensures .1 .1 .1 .0)
+    (λ c κs. tt)
     (λ c. omega (arith, c .code-of .ensures .1))
-    (λ c.
-    let f = c .before .before .before .before in
-    omega (arith, c .code-of .ensures .1, written-small _ _ (f .before .before .new .ensures) (f .feed .ensures .0)))
+    (λ c. omega (arith, c .code-of .ensures .1, called-few _ _ _ (c .before .before .before .before .before .call .ensures .0)))
     (λ c. search needs)
     (λ c.
-    let f = c .before .before .before .before in
-    let n = f .before .before .new .ensures in
-    (is-number _ _ n (f .feed .ensures .0) (c .code-of .ensures .0), rw n at (f .feed .ensures .1 .0))))
+    let e = c .before .before .before .before .before .call .ensures in
+    (is-number _ _ (e .0) (c .code-of .ensures .0), rw (from-zeros _ _) at (e .1 .1 .0))))
