@@ -1,4 +1,5 @@
 pub mod Bounds
+mod Steps
 pub mod Parts
 pub mod Places
 pub mod TillagePairs

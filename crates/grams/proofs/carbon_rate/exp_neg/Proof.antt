@@ -2,26 +2,15 @@
 use borrow.Author.Needs.{needs}
 use native.Mathlib.Omega.{arith}
 use mathlib.Core.Path.{_≡_, refl, sym, _∙_}
-use Prim.Native.Nat.{ℕ, zero, suc, _-_, _*_, _/_, _<_, _≤_}
-use native.Mathlib.Nat.{not-suc-le-zero}
+use Prim.Native.Nat.{_≤_}
 use Rattle.grams.specs.CarbonRate.{scale, steps, expOf}
 use Rattle.grams.proofs.Bounds.{_⊗_, fits}
+use Rattle.grams.proofs.Steps.{turn, ended}
 use Rattle.grams.proofs.carbon_rate.exp_neg.Statement.{statement}
 use Rattle.grams.proofs.carbon_rate.exp_neg.Tie as tie
 
--- a turn of the loop is a step of the rule
-turn : (x i e : ℕ) → 0 < i → steps x i e ≡ steps x (i - 1) (scale - e * x / (10000 * i))
-unfolding steps
-turn x zero e h = absurd (not-suc-le-zero h)
-turn x (suc i) e h = let p : suc i - 1 ≡ i = omega arith in rw p
-
--- no step is left
-ended : (x e : ℕ) → steps x 0 e ≡ e
-unfolding steps
-ended x e = refl
-
 abbrev Inv-loop : tie.InvT-loop
-Inv-loop x e₀ i₀ e i = (i ≤ 20) × (e ≤ scale) × (steps x i e ≡ steps x 20 scale)
+Inv-loop x e₀ i₀ e i = (i ≤ 4) × (e ≤ scale) × (steps x i e ≡ expOf x)
 
 abbrev μ-loop : tie.MeasureT-loop
 μ-loop x e₀ i₀ e i = i
@@ -29,7 +18,7 @@ abbrev μ-loop : tie.MeasureT-loop
 again : tie.Need-loop-again Inv-loop μ-loop
 again c =
     let l = c .before .before .loop in
-    let x = c .before .before .before .args .x in
+    let x = c .before .before .before .before .args .x in
     (omega arith, omega arith, rw (c .less .ensures) (sym (turn x (l .i) (l .e) (c .before .loop-test .taken)) ∙ l .inv .2))
 
 returns : tie.Need-returns Inv-loop μ-loop
@@ -45,8 +34,9 @@ exp-neg-spec =
     (tie.spec
     Inv-loop
     μ-loop
-    (λ c. (omega arith, omega arith, refl))
-    (λ c. fits (c .before .loop .inv .1 ⊗ c .before .before .pre) tt)
+    (λ c κs. c .pre)
+    (λ c. (omega arith, c .first-steps .ensures .1, c .first-steps .ensures .0))
+    (λ c. fits (c .before .loop .inv .1 ⊗ c .before .before .before .pre) tt)
     (λ c. omega arith)
     (λ c. search needs)
     (λ c κs. tt)
