@@ -31,7 +31,7 @@ zeros (x ∷ xs) = eqb x 0 && zeros xs
 
 -- the state is inside the ranges
 pub record InRange (s : State) : Type 0 where
-  -- stage, records, warming set, heading, day sums, sums and refusal are each in their ranges
+  -- stage, records, factors, heading, day sums, fraction sum, sums and refusal are each in their ranges
   pub account : AccountInRange (s .account)
   -- the places for held bytes are 27
   pub places : length (s .held) ≡ 27
