@@ -25,7 +25,11 @@ const DAYS: Spoken = spoken("days", 0, "1 to 366");
 
 const FARM_NUMBER: Spoken = spoken("farm number", 0, "0 to 4294967295");
 const YEAR: Spoken = spoken("year", 0, "1900 to 2200");
-const FARM: [Spoken; 3] = [FARM_NUMBER, YEAR, spoken("warming set", 0, "1 or 2")];
+const FARM: [Spoken; 3] = [
+    FARM_NUMBER,
+    YEAR,
+    spoken("warming set", 0, "1 or 2 (or the CH4 and the N2O factor in its place)"),
+];
 const FARM_2: [Spoken; 4] =
     [FARM_NUMBER, YEAR, spoken("CH4 factor", 0, "1 to 1000"), spoken("N2O factor", 0, "1 to 1000")];
 const HEADING: [Spoken; 3] = [
