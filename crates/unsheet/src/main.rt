@@ -78,9 +78,9 @@ fn send(lines: &[u8]) -> bool {
     false
 }
 
-// The last word.
+// A sentence where it is refused, and the last word.
 fn tell_end(text: &[u8], answer: Answer) {
-    let mut said = [0u8; 128];
+    let mut said = [0u8; 512];
     let n = remarks::say_end(&mut said, text, answer);
     io::write_all(STDERR_FILENO, &said[..n]);
 }
