@@ -4,6 +4,7 @@ use crate::dice::Dice;
 use crate::feed::feed;
 use crate::programs::listed;
 use crate::state::{State, LARGE};
+use crate::words::sentence;
 
 pub const HEADER: &str = "kind,group,ch4,n2o,co2,excreted,land,grazing,co2e\r\n";
 
@@ -126,9 +127,11 @@ pub fn import(text: &[u8]) -> Result<(Vec<u8>, usize), Refusal> {
 /// What a program writes, what it says, and whether its status is 0.
 pub type Told = (Vec<u8>, String, bool);
 
-fn refused(refusal: Refusal) -> Told {
-    let row = refusal.row.map(|row| format!(" row {row}")).unwrap_or_default();
-    (Vec::new(), format!("refused {}{row}\n", refusal.code), false)
+/// A sentence for people, and then the line for machines.
+fn refused(Refusal { code, row }: Refusal) -> Told {
+    let head = row.map(|row| format!("row {row}: ")).unwrap_or_default();
+    let row = row.map(|row| format!(" row {row}")).unwrap_or_default();
+    (Vec::new(), format!("{head}{}\nrefused {code}{row}\n", sentence(code)), false)
 }
 
 fn too_long(what: &str) -> Told {

@@ -72,17 +72,16 @@ fn read_values(kind: u64, words: Vec<&[u8]>) -> Reading<'_> {
     let mut values = Vec::new();
     for (place, word) in words.iter().enumerate() {
         let field = fields.get(place);
-        match number_of(word, field.map_or(0, |f| f.decimals)) {
+        let decimals = field.map_or(0, |f| f.decimals);
+        match number_of(word, decimals) {
             Some(value) => values.push(value),
             None => {
                 let (kind_said, word) = (kind_name(kind), shown(word));
-                let why = match field {
-                    Some(f) => format!(
-                        "{kind_said}, {}: \"{word}\" is no number; expected {}",
-                        f.name, f.expected
-                    ),
-                    None => format!("{kind_said}: \"{word}\" is no number"),
-                };
+                let whole = if decimals == 0 { "whole " } else { "" };
+                let (name, expected) = field.map_or_else(Default::default, |f| {
+                    (format!(", {}", f.name), format!("; expected {}", f.expected))
+                });
+                let why = format!("{kind_said}{name}: \"{word}\" is no {whole}number{expected}");
                 return Reading::NotRead(kind, why);
             }
         }

@@ -52,7 +52,11 @@ fn what_is_compared(state: &State, record: &[u8], code: u8, field: u8) -> Option
         3 => return outside("the kind", u128::from(kind), 1, u128::from(*kind::ALL.end())),
         4 => {
             let right = u128::from(length_of(kind, version));
-            return compared("the length", length, Asked::Exactly, right);
+            let subject = match kind {
+                kind::FARM => format!("the length (of version {version})"),
+                _ => "the length".to_string(),
+            };
+            return compared(&subject, length, Asked::Exactly, right);
         }
         _ => {}
     }

@@ -25,7 +25,11 @@ const DAYS: Spoken = spoken("days", 0, "1 to 366");
 
 const FARM_NUMBER: Spoken = spoken("farm number", 0, "0 to 4294967295");
 const YEAR: Spoken = spoken("year", 0, "1900 to 2200");
-const FARM: [Spoken; 3] = [FARM_NUMBER, YEAR, spoken("warming set", 0, "1 or 2")];
+const FARM: [Spoken; 3] = [
+    FARM_NUMBER,
+    YEAR,
+    spoken("warming set", 0, "1 or 2 (or the CH4 and the N2O factor in its place)"),
+];
 const FARM_2: [Spoken; 4] =
     [FARM_NUMBER, YEAR, spoken("CH4 factor", 0, "1 to 1000"), spoken("N2O factor", 0, "1 to 1000")];
 const HEADING: [Spoken; 3] = [
@@ -122,7 +126,7 @@ pub fn class_name(class: u8) -> &'static str {
     CLASSES[usize::from(class) - 1]
 }
 
-/// The sentence of a number that the writer can give to a typed line; 4 and 7 have longer ones.
+/// The sentence of a number that the writer can give to a typed line, where 4 and 7 have longer ones, or that a sheet or lines can get.
 pub fn sentence(code: u8) -> &'static str {
     match code {
         3 => "no such kind of record: kinds are 1 to 10",
@@ -139,8 +143,17 @@ pub fn sentence(code: u8) -> &'static str {
         ),
         11 => "more nitrogen in milk and gain than in the feed",
         12 => "the close counts other records than there are before it; left out, the count is filled in",
+        20 => concat!(
+            "not of a sheet's form: first the row kind,group,ch4,n2o,co2,excreted,land,grazing,co2e, ",
+            "then rows of nine columns, digits without leading zeros, the last empty but on kind 8; CRLF behind each"
+        ),
+        21 => concat!(
+            "a number is outside its field: kind is 3 to 10 or 16, group up to 65535, ",
+            "a figure up to 18446744073709551615, co2 and co2e -9223372036854775808 to 9223372036854775807"
+        ),
         22 => "the book is closed already",
-        _ => panic!("the number {code} is given to no typed line"),
+        23 => "the bytes are no run of whole lines, as the herd desk gives them: a book is none",
+        _ => panic!("the number {code} is given to no typed line, sheet or lines"),
     }
 }
 

@@ -15,45 +15,11 @@ const NEW_FILENO: i32 = 5;
 // The records that are told with one write.
 const PART: usize = 64;
 
-// How many bytes of a book were read, and whether no read failed.
-struct Input {
-    len: usize,
-    good: bool,
-}
-
 // The 4,096 records that a book may have and one more, of 28 bytes each: what stands behind them changes no answer.
 fn book_buffer() -> [u8; 114716]
     ensures { λ r. ⌜ length r ≡ 114716 ⌝ }
 {
     [0u8; 114716]
-}
-
-fn at_most(a: usize, b: usize) -> usize
-    ensures { λ r. ⌜ (r ≤ a) × (r ≤ b) ⌝ }
-{
-    if a < b { a } else { b }
-}
-
-// Reads up to the book's end, or until the buffer is full. A proved loop has to end: each read takes a byte, or is the last.
-fn read_all(fd: i32, buf: &mut [u8]) -> Input
-    ensures { λ r. ⌜ r .len ≤ length (now (buf .exit)) ⌝ }
-{
-    let mut n = 0;
-    while n < buf.len() {
-        let got = libc::read(fd, &mut buf[n..]);
-        if got < 0 {
-            return Input {
-                len: n,
-                good: false,
-            };
-        }
-        let more = at_most(io::count(got, &buf[n..]), buf.len() - n);
-        if more == 0 {
-            return Input { len: n, good: true };
-        }
-        n += more;
-    }
-    Input { len: n, good: true }
 }
 
 // Where the text can't go out it is told.
@@ -227,9 +193,8 @@ fn tell_status(read: bool, written: bool) {
 // The new book, where the old one was read.
 fn with_new(old: &[u8]) {
     let mut book = book_buffer();
-    let input = read_all(NEW_FILENO, &mut book);
+    let input = inputs::read_all(NEW_FILENO, b"the new book", &mut book);
     if !input.good {
-        os::fail(b"the new book");
         tell_status(false, false);
         return;
     }
@@ -239,9 +204,8 @@ fn with_new(old: &[u8]) {
 
 fn main() {
     let mut book = book_buffer();
-    let input = read_all(STDIN_FILENO, &mut book);
+    let input = inputs::read_all(STDIN_FILENO, b"the old book", &mut book);
     if !input.good {
-        os::fail(b"the old book");
         tell_status(false, false);
         return;
     }

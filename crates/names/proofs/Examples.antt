@@ -56,9 +56,11 @@ numbers-told : (sentence 0 ≡ ascii "closed") × (sentence 8 ≡ ascii "the gro
     × (sentence 2 ≡ ascii "the version is not 1, nor 2 of a farm record")
     × (sentence 22 ≡ ascii "the book is closed already")
     × (sentence 19 ≡ ascii "no such number")
+    × (sentence 23 ≡ ascii "the bytes are no run of whole lines, as the herd desk gives them: a book is none")
+    × (sentence 24 ≡ ascii "no such number")
     × (sentence 1000 ≡ ascii "no such number")
 unfolding sentenceTable nthPart indexOf indexAfter
-numbers-told = (refl, refl, refl, refl, refl, refl)
+numbers-told = (refl, refl, refl, refl, refl, refl, refl, refl)
 
 -- the word of bytes 51, 7 and 200
 word-shown : shown (51 ∷ 7 ∷ 200 ∷ []) ≡ ascii "3??"

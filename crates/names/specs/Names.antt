@@ -61,7 +61,7 @@ fieldName k i = nthPart 44 i (fieldNames k)
 unfoldable pub expectedTable : List ℕ
 expectedTable =
     ascii "\n"
-    ++ ascii " 0 to 4294967295; 1900 to 2200; 1 or 2\n"
+    ++ ascii " 0 to 4294967295; 1900 to 2200; 1 or 2 (or the CH4 and the N2O factor in its place)\n"
     ++ ascii " 1 to 65535; 1 to 4 (milking, dry, heifer, pig); 0 to 20000\n"
     ++ ascii " 1 to 366; 0 to 1000.00 MJ per head and day; 0 to 20.00 per cent\n"
     ++ ascii " 1 to 366; 0 to 50.00 kg per head and day; 0 to 40.00 per cent; 0 to 80.00 kg per head and day; 0 to 8.00 per cent"
@@ -126,13 +126,16 @@ sentenceTable =
     ++ ascii "the bytes end before the close\n"
     ++ ascii "bytes stand behind the close\n"
     ++ ascii "no such number\n"
-    ++ ascii "no such number\n"
-    ++ ascii "no such number\n"
+    ++ ascii "not of a sheet's form: first the row kind,group,ch4,n2o,co2,excreted,land,grazing,co2e"
+    ++ ascii ", then rows of nine columns, digits without leading zeros, the last empty but on kind 8; CRLF behind each\n"
+    ++ ascii "a number is outside its field: kind is 3 to 10 or 16, group up to 65535"
+    ++ ascii ", a figure up to 18446744073709551615, co2 and co2e -9223372036854775808 to 9223372036854775807\n"
     ++ ascii "the book is closed already\n"
+    ++ ascii "the bytes are no run of whole lines, as the herd desk gives them: a book is none\n"
     ++ ascii "no such number"
 
 abbrev pub sentence : ℕ → List ℕ
-sentence code = lineOf 23 code sentenceTable
+sentence code = lineOf 24 code sentenceTable
 
 -- ---- a word that is told back
 

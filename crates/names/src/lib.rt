@@ -128,7 +128,7 @@ pub fn say_expected(out: &mut [u8], at: usize, kind: u64, i: usize) -> usize
 {
     let texts = line_of(
         b"
- 0 to 4294967295; 1900 to 2200; 1 or 2
+ 0 to 4294967295; 1900 to 2200; 1 or 2 (or the CH4 and the N2O factor in its place)
  1 to 65535; 1 to 4 (milking, dry, heifer, pig); 0 to 20000
  1 to 366; 0 to 1000.00 MJ per head and day; 0 to 20.00 per cent
  1 to 366; 0 to 50.00 kg per head and day; 0 to 40.00 per cent; 0 to 80.00 kg per head and day; 0 to 8.00 per cent; \
@@ -228,11 +228,14 @@ no room
 the bytes end before the close
 bytes stand behind the close
 no such number
-no such number
-no such number
+not of a sheet's form: first the row kind,group,ch4,n2o,co2,excreted,land,grazing,co2e, \
+then rows of nine columns, digits without leading zeros, the last empty but on kind 8; CRLF behind each
+a number is outside its field: kind is 3 to 10 or 16, group up to 65535, \
+a figure up to 18446744073709551615, co2 and co2e -9223372036854775808 to 9223372036854775807
 the book is closed already
+the bytes are no run of whole lines, as the herd desk gives them: a book is none
 no such number",
-        23,
+        24,
         code,
     );
     say(out, at, words)

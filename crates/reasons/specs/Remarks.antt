@@ -51,14 +51,19 @@ unfoldable pub whereText : ℕ → ℕ → ℕ → ℕ → List ℕ
 whereText number kind first last =
     ascii "record " ++ (decimal number ++ (nameText kind ++ (ascii ", bytes " ++ (decimal first ++ (ascii " to " ++ decimal last)))))
 
--- what the value is of, by the number of the rule and the row; a pig's parts and the grazed fractions have lines of their own
+-- what the value is of, by the number of the rule and the row; a pig's parts, the grazed fractions and a farm record's length have lines of their own
 unfoldable pub subjectTable : List ℕ
 subjectTable =
     ascii "\n the length\n the version\n the kind\n the length\n\n\n\n the group\n the sum of days with this record\n the sum of the shares\n\n"
-    ++ ascii " the count\n the sum of the volatilised and leached parts\n the sum of fractions with this record"
+    ++ ascii " the count\n the sum of the volatilised and leached parts\n the sum of fractions with this record\n"
+    ++ ascii " the length (of version 1)\n the length (of version 2)"
 
 abbrev pub subjectLine : ℕ → ℕ → ℕ
-subjectLine code row = pick (eqb code 10 && eqb row 5) 13 (pick (eqb code 10 && eqb row 10) 14 code)
+subjectLine code row =
+    pick (eqb code 10 && eqb row 5) 13
+    (pick (eqb code 10 && eqb row 10) 14
+    (pick (eqb code 4 && eqb row 1) 15
+    (pick (eqb code 4 && eqb row 11) 16 code)))
 
 abbrev pub subjectText : ℕ → ℕ → ℕ → List ℕ
 subjectText code row field =

@@ -109,7 +109,7 @@ fn say_where(out: &mut [u8], number: u64, kind: u64, first: u64, last: u64) -> u
     say_number(out, f, last)
 }
 
-// Which line of the subjects: a pig's parts and the grazed fractions have their own.
+// Which line of the subjects: a pig's parts, the grazed fractions and the lengths of either farm record have their own.
 fn subject(code: u64, row: u64) -> usize
     ensures { λ r. ⌜ r ≡ subjectLine code row ⌝ }
 {
@@ -118,6 +118,12 @@ fn subject(code: u64, row: u64) -> usize
     }
     if (code == 10) & (row == 10) {
         return 14;
+    }
+    if (code == 4) & (row == 1) {
+        return 15;
+    }
+    if (code == 4) & (row == 11) {
+        return 16;
     }
     code as usize
 }
@@ -145,7 +151,9 @@ fn say_subject(out: &mut [u8], at: usize, code: u64, row: u64, field: usize) -> 
 
  the count
  the sum of the volatilised and leached parts
- the sum of fractions with this record",
+ the sum of fractions with this record
+ the length (of version 1)
+ the length (of version 2)",
         b'\n',
         subject(code, row),
     );

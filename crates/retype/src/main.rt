@@ -1,5 +1,6 @@
 // Reads a book on standard input and prints it as typed lines, one for each accepted record. The last word goes to standard error.
 use book::State;
+use inputs::Input;
 use libc::STDERR_FILENO;
 use libc::STDIN_FILENO;
 use libc::STDOUT_FILENO;
@@ -9,12 +10,6 @@ ghost use lib.ListN.{length};
 
 // Where a caller that gives an argument, the word `status`, wants the status byte.
 const STATUS_FILENO: i32 = 3;
-
-// How many bytes of the input were read, and whether no read failed.
-struct Input {
-    len: usize,
-    good: bool,
-}
 
 // The state behind the records that were typed, the bytes taken, whether no write failed, and whether more may come.
 struct Work {
@@ -29,35 +24,6 @@ fn book_buffer() -> [u8; 131072]
     ensures { λ r. ⌜ length r ≡ 131072 ⌝ }
 {
     [0u8; 131072]
-}
-
-fn at_most(a: usize, b: usize) -> usize
-    ensures { λ r. ⌜ (r ≤ a) × (r ≤ b) ⌝ }
-{
-    if a < b { a } else { b }
-}
-
-// Reads up to the input's end, or until the buffer is full. A proved loop has to end: each read takes a byte, or is the last.
-fn read_all(buf: &mut [u8]) -> Input
-    ensures { λ r. ⌜ r .len ≤ length (now (buf .exit)) ⌝ }
-{
-    let mut n = 0;
-    while n < buf.len() {
-        let got = libc::read(STDIN_FILENO, &mut buf[n..]);
-        if got < 0 {
-            os::fail(b"standard input");
-            return Input {
-                len: n,
-                good: false,
-            };
-        }
-        let more = at_most(io::count(got, &buf[n..]), buf.len() - n);
-        if more == 0 {
-            return Input { len: n, good: true };
-        }
-        n += more;
-    }
-    Input { len: n, good: true }
 }
 
 // Where the text can't go out it is told.
@@ -134,7 +100,7 @@ fn tell_status(w: Work, input: Input) {
 fn main() {
     let mut book = book_buffer();
     let mut text = io::large_buffer();
-    let input = read_all(&mut book);
+    let input = inputs::read_all(STDIN_FILENO, b"standard input", &mut book);
     let start = Work {
         state: State::new(),
         at: 0,

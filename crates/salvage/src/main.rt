@@ -17,12 +17,6 @@ const MOST: usize = 131072;
 // The bytes of the list that are told with one write: 256 entries.
 const PART: usize = 2304;
 
-// How many bytes of the input were read, and whether no read failed.
-struct Input {
-    len: usize,
-    good: bool,
-}
-
 // Whether a book was saved, and whether all was read and written.
 struct Done {
     saved: bool,
@@ -48,35 +42,6 @@ fn list_buffer() -> [u8; 196608]
     ensures { λ r. ⌜ length r ≡ 196608 ⌝ }
 {
     [0u8; 196608]
-}
-
-fn at_most(a: usize, b: usize) -> usize
-    ensures { λ r. ⌜ (r ≤ a) × (r ≤ b) ⌝ }
-{
-    if a < b { a } else { b }
-}
-
-// Reads up to the input's end, or until the buffer is full. A proved loop has to end: each read takes a byte, or is the last.
-fn read_all(buf: &mut [u8]) -> Input
-    ensures { λ r. ⌜ r .len ≤ length (now (buf .exit)) ⌝ }
-{
-    let mut n = 0;
-    while n < buf.len() {
-        let got = libc::read(STDIN_FILENO, &mut buf[n..]);
-        if got < 0 {
-            os::fail(b"standard input");
-            return Input {
-                len: n,
-                good: false,
-            };
-        }
-        let more = at_most(io::count(got, &buf[n..]), buf.len() - n);
-        if more == 0 {
-            return Input { len: n, good: true };
-        }
-        n += more;
-    }
-    Input { len: n, good: true }
 }
 
 // Where the book can't go out it is told.
@@ -174,7 +139,7 @@ fn tell_status(done: Done) {
 
 fn main() {
     let mut damaged = damaged_buffer();
-    let input = read_all(&mut damaged);
+    let input = inputs::read_all(STDIN_FILENO, b"standard input", &mut damaged);
     if !input.good {
         tell_status(unsaved());
         return;

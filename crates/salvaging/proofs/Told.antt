@@ -179,17 +179,17 @@ at-below (suc n) p t k h =
     (true-or-false (eqb k n))
 
 abbrev short : ℕ → Bool
-short k = leb (length (nthPart 10 k sentenceTable)) 160
+short k = leb (length (nthPart 10 k sentenceTable)) 196
 
-sentences-short : T (allBelow 24 short)
+sentences-short : T (allBelow 25 short)
 unfolding allBelow nthPart indexOf indexAfter sentenceTable
 sentences-short = tt
 
-sentence-short : (c : ℕ) → length (sentence c) ≤ 160
-sentence-short c = leb→le _ _ (at-below 24 short sentences-short (min c 23) (omega arith))
+sentence-short : (c : ℕ) → length (sentence c) ≤ 196
+sentence-short c = leb→le _ _ (at-below 25 short sentences-short (min c 24) (omega arith))
 
--- a line has at most 220 bytes
-line-short : (number code : ℕ) → number < 2 ^ 64 → code < 2 ^ 64 → length (droppedText number code) ≤ 220
+-- a line has at most 256 bytes
+line-short : (number code : ℕ) → number < 2 ^ 64 → code < 2 ^ 64 → length (droppedText number code) ≤ 256
 unfolding droppedText
 line-short number code h k =
     let n = length-u64 number h in
@@ -203,11 +203,11 @@ line-short number code h k =
 bytes-drop : (n : ℕ) (xs : List ℕ) → Bytes xs → Bytes (drop n xs)
 bytes-drop n xs y i = rw (getD-drop n xs i 0) (y (n + i))
 
-lines-short : (n : ℕ) (list : List ℕ) → Bytes list → 9 * length (listTextBy n list) ≤ 220 * length list
+lines-short : (n : ℕ) (list : List ℕ) → Bytes list → 9 * length (listTextBy n list) ≤ 256 * length list
 unfolding listTextBy bytesHold
 lines-short zero list b = omega arith
 lines-short (suc n) list b =
-    of-choice (λ (t : List ℕ). 9 * length t ≤ 220 * length list) (ltb (length list) 9) (λ e. omega arith)
+    of-choice (λ (t : List ℕ). 9 * length t ≤ 256 * length list) (ltb (length list) 9) (λ e. omega arith)
     (λ e.
     let h = ltb-false (length list) 9 e in
     let line = line-short (valAt list 0 8) (valAt list 8 1) (valAt-lt list b 0 8) (omega (arith, valAt-lt list b 8 1)) in

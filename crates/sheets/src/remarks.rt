@@ -1,14 +1,16 @@
-// What is told of a sheet that is read: the last word, and the status.
+// What is told of a sheet that is read: a sentence where it is refused, the last word, and the status.
 use crate::Answer;
 use printing::say;
 use printing::say_number;
 ghost use mathlib.Core.Path.{_≡_};
+ghost use mathlib.Core.List.{_++_};
 ghost use Prim.Native.Nat.{_-_, _≤_};
 ghost use lib.Dec.{eqb};
 ghost use lib.ListN.{length};
 ghost use Rattle.base.specs.Choice.{pick};
 ghost use Rattle.printing.specs.Said.{Said};
-ghost use Rattle.sheets.specs.Remarks.{feeds, lineCount, linesText, rowWord, refusedText, endText, tooLongText, linesTooLongText, statusByte};
+ghost use Rattle.sheets.specs.Remarks.{feeds, lineCount, linesText, rowHead, sentenceText, rowWord, refusedText, endText};
+ghost use Rattle.sheets.specs.Remarks.{tooLongText, linesTooLongText, statusByte};
 
 fn one_if_feed(b: u8) -> usize
     ensures { λ r. ⌜ r ≡ pick (eqb b 10) 1 0 ⌝ }
@@ -47,6 +49,26 @@ fn say_lines(out: &mut [u8], lines: usize) -> usize
     say(out, end, b" lines\n")
 }
 
+fn say_row_head(out: &mut [u8], row: usize) -> usize
+    ensures { λ r. ⌜ Said (now (out .entry)) (now (out .exit)) 0 (rowHead row) r ⌝ }
+{
+    if row == 0 {
+        return 0;
+    }
+    let word = say(out, 0, b"row ");
+    let number = say_number(out, word, row as u64);
+    say(out, number, b": ")
+}
+
+// The sentence for people.
+fn say_people(out: &mut [u8], code: u8, row: usize) -> usize
+    ensures { λ r. ⌜ Said (now (out .entry)) (now (out .exit)) 0 (sentenceText code row) r ⌝ }
+{
+    let head = say_row_head(out, row);
+    let words = names::say_sentence(out, head, code as u64);
+    say(out, words, b"\n")
+}
+
 fn say_row(out: &mut [u8], at: usize, row: usize) -> usize
     requires { ⌜ at ≤ length (now out) ⌝ }
     ensures { λ r. ⌜ Said (now (out .entry)) (now (out .exit)) at (rowWord row) r ⌝ }
@@ -59,15 +81,16 @@ fn say_row(out: &mut [u8], at: usize, row: usize) -> usize
 }
 
 fn say_refused(out: &mut [u8], code: u8, row: usize) -> usize
-    ensures { λ r. ⌜ Said (now (out .entry)) (now (out .exit)) 0 (refusedText code row) r ⌝ }
+    ensures { λ r. ⌜ Said (now (out .entry)) (now (out .exit)) 0 (sentenceText code row ++ refusedText code row) r ⌝ }
 {
-    let word = say(out, 0, b"refused ");
+    let people = say_people(out, code, row);
+    let word = say(out, people, b"refused ");
     let number = say_number(out, word, code as u64);
     let end = say_row(out, number, row);
     say(out, end, b"\n")
 }
 
-// The last word, of the text and the answer, from the start of out.
+// What is said at the end, of the text and the answer, from the start of out.
 pub fn say_end(out: &mut [u8], text: &[u8], answer: Answer) -> usize
     ensures { λ r. ⌜ Said (now (out .entry)) (now (out .exit)) 0 (endText (now (text .entry)) answer) r ⌝ }
 {

@@ -9,7 +9,7 @@ use Rattle.printing.specs.Ascii.{ascii}
 use Rattle.printing.specs.Decimal.{decimal}
 use Rattle.typed_words.specs.Words.{nthWord}
 use Rattle.codec.specs.Table.{fields}
-use Rattle.names.specs.Names.{kindName, kindNames, fieldName, fieldNames, expected, className, sentence, shown}
+use Rattle.names.specs.Names.{kindName, kindNames, fieldName, fieldNames, expected, decimalsAt, className, sentence, shown}
 use Rattle.typed_line.specs.Line.{rowOfLine}
 use Rattle.account.specs.declared.Account.{Account}
 use Rattle.account.specs.declared.Days.{Days}
@@ -40,11 +40,15 @@ fieldText k i = pick (hasField k i) (ascii "," ++ fieldName k i) []
 abbrev pub expectedText : ℕ → ℕ → List ℕ
 expectedText k i = pick (hasField k i) (ascii "; expected" ++ expected k i) []
 
+-- 27.9 is a number, but none for a field without decimals
+abbrev pub noneText : ℕ → ℕ → List ℕ
+noneText k i = pick (eqb (decimalsAt k i) 0) (ascii " is no whole number") (ascii " is no number")
+
 -- the word behind i others in a line of the row k is no number: the field i - 1 is the value's, since the kind's word comes first
 abbrev pub noNumberText : ℕ → ℕ → List ℕ → List ℕ
 noNumberText k i xs =
     ascii "not read: "
-    ++ (kindName k ++ (fieldText k (i - 1) ++ (ascii ": " ++ (quoted (nthWord i xs) ++ (ascii " is no number" ++ expectedText k (i - 1))))))
+    ++ (kindName k ++ (fieldText k (i - 1) ++ (ascii ": " ++ (quoted (nthWord i xs) ++ (noneText k (i - 1) ++ expectedText k (i - 1))))))
 
 -- a line of kind k, by the place of the wrong word, counted from 1
 unfoldable pub unreadText : ℕ → ℕ → List ℕ → List ℕ

@@ -17,10 +17,12 @@ ghost use Rattle.printing.specs.Ascii.{ascii};
 ghost use Rattle.printing.specs.Decimal.{decimal};
 ghost use Rattle.printing.specs.Said.{Said};
 ghost use Rattle.typed_words.specs.Words.{nthWord};
-ghost use Rattle.typed_book.specs.Remarks.{quoted, hasField, longText, noKindText, fieldText, expectedText, noNumberText, unreadText, withheldText, withoutText};
+ghost use Rattle.typed_book.specs.Remarks.{quoted, hasField, longText, noKindText, fieldText, expectedText, noneText, noNumberText};
+ghost use Rattle.typed_book.specs.Remarks.{unreadText, withheldText, withoutText};
 ghost use Rattle.names.specs.Names.{fieldNames, expected, sentence};
 ghost use Rattle.typed_line.specs.Line.{rowOfLine};
-ghost use Rattle.typed_book.specs.Remarks.{rangeText, eitherText, countText, groundText, refusedText, ofYear, daysText, noDays, allDays, headText, groupText, lineHead, isTold, kindWritten, wordsOf, endedText, remarkText};
+ghost use Rattle.typed_book.specs.Remarks.{rangeText, eitherText, countText, groundText, refusedText, ofYear, daysText, noDays, allDays};
+ghost use Rattle.typed_book.specs.Remarks.{headText, groupText, lineHead, isTold, kindWritten, wordsOf, endedText, remarkText};
 ghost use Rattle.typed_book.specs.Remarks.{statusOf, moreText, countsText, openText, verdictText};
 
 fn say_quoted(out: &mut [u8], at: usize, word: &[u8]) -> usize
@@ -79,17 +81,29 @@ fn say_expected(out: &mut [u8], at: usize, row: u64, i: usize) -> usize
     names::say_expected(out, head, row, i)
 }
 
+// A number with a point is none for a field without decimals.
+fn say_none(out: &mut [u8], at: usize, row: u64, i: usize) -> usize
+    requires { ⌜ at ≤ length (now out) ⌝ }
+    ensures { λ r. ⌜ Said (now (out .entry)) (now (out .exit)) at (noneText row i) r ⌝ }
+{
+    if names::decimals(row, i) == 0 {
+        return say(out, at, b" is no whole number");
+    }
+    say(out, at, b" is no number")
+}
+
 fn say_no_number(out: &mut [u8], at: usize, row: u64, i: usize, text: &[u8]) -> usize
     requires { ⌜ (at ≤ length (now out)) × (1 ≤ i) ⌝ }
     ensures { λ r. ⌜ Said (now (out .entry)) (now (out .exit)) at (noNumberText row i (now (text .entry))) r ⌝ }
 {
+    let value = i - 1;
     let head = say(out, at, b"not read: ");
     let name = names::say_kind(out, head, row);
-    let field = say_field(out, name, row, i - 1);
+    let field = say_field(out, name, row, value);
     let colon = say(out, field, b": ");
     let word = say_word(out, colon, text, i);
-    let none = say(out, word, b" is no number");
-    say_expected(out, none, row, i - 1)
+    let none = say_none(out, word, row, value);
+    say_expected(out, none, row, value)
 }
 
 fn say_unread(out: &mut [u8], at: usize, kind: u64, place: usize, text: &[u8]) -> usize

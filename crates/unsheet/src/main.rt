@@ -5,7 +5,6 @@ use libc::STDOUT_FILENO;
 use sheets::Answer;
 use sheets::remarks;
 ghost use mathlib.Core.Path.{_≡_};
-ghost use Prim.Native.Nat.{_≤_};
 ghost use lib.ListN.{length};
 
 // Where a caller that gives an argument, the word `status`, wants the status byte.
@@ -13,12 +12,6 @@ const STATUS_FILENO: i32 = 3;
 
 // The most bytes of a sheet.
 const MOST: usize = 131072;
-
-// How many bytes of the input were read, and whether no read failed.
-struct Input {
-    len: usize,
-    good: bool,
-}
 
 // Whether the sheet was accepted, and whether all was read and written.
 struct Done {
@@ -40,35 +33,6 @@ fn lines_buffer() -> [u8; 427712]
     [0u8; 427712]
 }
 
-fn at_most(a: usize, b: usize) -> usize
-    ensures { λ r. ⌜ (r ≤ a) × (r ≤ b) ⌝ }
-{
-    if a < b { a } else { b }
-}
-
-// Reads up to the input's end, or until the buffer is full. A proved loop has to end: each read takes a byte, or is the last.
-fn read_all(buf: &mut [u8]) -> Input
-    ensures { λ r. ⌜ r .len ≤ length (now (buf .exit)) ⌝ }
-{
-    let mut n = 0;
-    while n < buf.len() {
-        let got = libc::read(STDIN_FILENO, &mut buf[n..]);
-        if got < 0 {
-            os::fail(b"standard input");
-            return Input {
-                len: n,
-                good: false,
-            };
-        }
-        let more = at_most(io::count(got, &buf[n..]), buf.len() - n);
-        if more == 0 {
-            return Input { len: n, good: true };
-        }
-        n += more;
-    }
-    Input { len: n, good: true }
-}
-
 // Where the lines can't go out it is told.
 fn send(lines: &[u8]) -> bool {
     if io::write_all(STDOUT_FILENO, lines) {
@@ -78,9 +42,9 @@ fn send(lines: &[u8]) -> bool {
     false
 }
 
-// The last word.
+// A sentence where it is refused, and the last word.
 fn tell_end(text: &[u8], answer: Answer) {
-    let mut said = [0u8; 128];
+    let mut said = [0u8; 512];
     let n = remarks::say_end(&mut said, text, answer);
     io::write_all(STDERR_FILENO, &said[..n]);
 }
@@ -138,7 +102,7 @@ fn tell_status(done: Done) {
 
 fn main() {
     let mut sheet = sheet_buffer();
-    let input = read_all(&mut sheet);
+    let input = inputs::read_all(STDIN_FILENO, b"standard input", &mut sheet);
     if !input.good {
         tell_status(refused());
         return;

@@ -4,52 +4,16 @@ use libc::STDOUT_FILENO;
 use reasons::Verdict;
 use reasons::remarks;
 ghost use mathlib.Core.Path.{_≡_};
-ghost use Prim.Native.Nat.{_≤_};
 ghost use lib.ListN.{length};
 
 // Where a caller that gives an argument, the word `status`, wants the status byte.
 const STATUS_FILENO: i32 = 3;
-
-// How many bytes of the input were read, and whether no read failed.
-struct Input {
-    len: usize,
-    good: bool,
-}
 
 // The 4,096 records that a book may have and one more, of 28 bytes each: what stands behind them changes no answer.
 fn book_buffer() -> [u8; 114716]
     ensures { λ r. ⌜ length r ≡ 114716 ⌝ }
 {
     [0u8; 114716]
-}
-
-fn at_most(a: usize, b: usize) -> usize
-    ensures { λ r. ⌜ (r ≤ a) × (r ≤ b) ⌝ }
-{
-    if a < b { a } else { b }
-}
-
-// Reads up to the input's end, or until the buffer is full. A proved loop has to end: each read takes a byte, or is the last.
-fn read_all(buf: &mut [u8]) -> Input
-    ensures { λ r. ⌜ r .len ≤ length (now (buf .exit)) ⌝ }
-{
-    let mut n = 0;
-    while n < buf.len() {
-        let got = libc::read(STDIN_FILENO, &mut buf[n..]);
-        if got < 0 {
-            os::fail(b"standard input");
-            return Input {
-                len: n,
-                good: false,
-            };
-        }
-        let more = at_most(io::count(got, &buf[n..]), buf.len() - n);
-        if more == 0 {
-            return Input { len: n, good: true };
-        }
-        n += more;
-    }
-    Input { len: n, good: true }
 }
 
 fn tell_first(v: Verdict) -> bool {
@@ -86,7 +50,7 @@ fn tell_status(accepted: bool, written: bool) {
 
 fn main() {
     let mut book = book_buffer();
-    let input = read_all(&mut book);
+    let input = inputs::read_all(STDIN_FILENO, b"standard input", &mut book);
     if !input.good {
         tell_status(false, false);
         return;

@@ -219,7 +219,7 @@ fn grazing_as_it_is_typed() {
         ("grazing 3 4 600 5\n", "refused 7 field 2: column: \"4\" is out of its range; expected 1 to 3 (cows, heifers, calves)"),
         ("grazing 3 1 2001 5\n", "refused 7 field 3: live weight: \"2001\" is out of its range; expected 0 to 2000 kg"),
         ("grazing 3 1 600 100.01\n", "refused 7 field 4: fraction: \"100.01\" is out of its range; expected 0 to 100.00 per cent"),
-        ("grazing 3 1 600.0 5\n", "not read: grazing, live weight: \"600.0\" is no number; expected 0 to 2000 kg"),
+        ("grazing 3 1 600.0 5\n", "not read: grazing, live weight: \"600.0\" is no whole number; expected 0 to 2000 kg"),
     ] {
         assert_eq!(remarks(line), format!("line 3: {words}\n"));
     }

@@ -3,9 +3,14 @@
 use crate::sheets::{lines, sheet, sheeted, unsheeted, HEADER};
 use std::collections::BTreeSet;
 
-/// What is said of the header and these rows.
+/// The last line, which is for machines, of what is said of a text.
+fn answer(text: &[u8]) -> String {
+    unsheeted(text).1.lines().last().unwrap_or_default().to_string()
+}
+
+/// The same of the header and these rows.
 fn said(rows: &str) -> String {
-    unsheeted(format!("{HEADER}{rows}").as_bytes()).1
+    answer(format!("{HEADER}{rows}").as_bytes())
 }
 
 #[test]
@@ -15,41 +20,54 @@ fn a_line_to_text_to_a_line() {
     let (bytes, words, right) = unsheeted(text.as_bytes());
     assert_eq!((bytes.len(), words.as_str(), right), (54 + 62, "2 lines\n", true));
     assert_eq!(sheeted(&bytes).0, text.into_bytes());
-    assert_eq!(sheeted(&bytes[..53]).1, "refused 23\n");
+    let none = "the bytes are no run of whole lines, as the herd desk gives them: a book is none\nrefused 23\n";
+    assert_eq!(sheeted(&bytes[..53]).1, none);
     assert_eq!(sheeted(&[]), (HEADER.as_bytes().to_vec(), "0 lines\n".to_string(), true));
 }
 
 #[test]
 fn text_that_is_not_of_the_form() {
     for co2 in ["-0", "00", "+1", "01", "-01", "", "-", " 1", "\"1\"", "1.0"] {
-        assert_eq!(said(&format!("3,7,0,0,{co2},0,0,0,\r\n")), "refused 20 row 2\n", "{co2}");
+        assert_eq!(said(&format!("3,7,0,0,{co2},0,0,0,\r\n")), "refused 20 row 2", "{co2}");
     }
     for rows in ["\r\n", "3,7,0,0,0,0,0,0,\n", "3,7,0,0,0,0,0,0,", "3,7,-1,0,0,0,0,0,\r\n", "3,7,0,0,0,0,0,0,0\r\n", "8,0,0,0,0,0,0,0,\r\n"] {
-        assert_eq!(said(rows), "refused 20 row 2\n", "{rows}");
+        assert_eq!(said(rows), "refused 20 row 2", "{rows}");
     }
-    assert_eq!(unsheeted(b"").1, "refused 20 row 1\n");
-    assert_eq!(said("11,0,0,0,0,0,0,0,5\r\n"), "refused 20 row 2\n");
+    assert_eq!(answer(b""), "refused 20 row 1");
+    assert_eq!(said("11,0,0,0,0,0,0,0,5\r\n"), "refused 20 row 2");
 }
 
 #[test]
 fn numbers_outside_their_fields() {
     for rows in ["2,7,0,0,0,0,0,0,\r\n", "11,7,0,0,0,0,0,0,\r\n", "3,65536,0,0,0,0,0,0,\r\n", "3,7,18446744073709551616,0,0,0,0,0,\r\n"] {
-        assert_eq!(said(rows), "refused 21 row 2\n", "{rows}");
+        assert_eq!(said(rows), "refused 21 row 2", "{rows}");
     }
-    assert_eq!(said("3,7,0,0,9223372036854775808,0,0,0,\r\n"), "refused 21 row 2\n");
-    assert_eq!(said("3,7,0,0,-9223372036854775808,0,0,0,\r\n"), "1 lines\n");
+    assert_eq!(said("3,7,0,0,9223372036854775808,0,0,0,\r\n"), "refused 21 row 2");
+    assert_eq!(said("3,7,0,0,-9223372036854775808,0,0,0,\r\n"), "1 lines");
     let both = "3,65536,0,0,-0,0,0,0,\r\n";
-    assert_eq!(said(both), "refused 20 row 2\n");
-    assert_eq!(said(&format!("3,65536,0,0,0,0,0,0,\r\n{both}")), "refused 21 row 2\n");
+    assert_eq!(said(both), "refused 20 row 2");
+    assert_eq!(said(&format!("3,65536,0,0,0,0,0,0,\r\n{both}")), "refused 21 row 2");
+}
+
+#[test]
+fn a_sentence_stands_before_a_refusal() {
+    let form = "row 1: not of a sheet's form: first the row kind,group,ch4,n2o,co2,excreted,land,grazing,co2e, \
+        then rows of nine columns, digits without leading zeros, the last empty but on kind 8; CRLF behind each\n\
+        refused 20 row 1\n";
+    assert_eq!(unsheeted(b"").1, form);
+    let field = "row 2: a number is outside its field: kind is 3 to 10 or 16, group up to 65535, \
+        a figure up to 18446744073709551615, co2 and co2e -9223372036854775808 to 9223372036854775807\n\
+        refused 21 row 2\n";
+    assert_eq!(unsheeted(format!("{HEADER}3,65536,0,0,0,0,0,0,\r\n").as_bytes()).1, field);
 }
 
 #[test]
 fn the_makers_meet_every_answer() {
     let answers: BTreeSet<String> = (0..400)
         .flat_map(|index| [unsheeted(&sheet(1, index)).1, sheeted(&lines(1, index)).1])
-        .map(|said| said.split(' ').take(2).collect::<Vec<_>>().join(" "))
+        .filter_map(|said| said.lines().last().map(str::to_string))
         .filter(|said| said.starts_with("refused"))
-        .map(|said| said.trim_end().to_string())
+        .map(|said| said.split(' ').take(2).collect::<Vec<_>>().join(" "))
         .collect();
     assert_eq!(answers.into_iter().collect::<Vec<_>>(), ["refused 20", "refused 21", "refused 23"]);
 }

@@ -218,7 +218,7 @@ fn tillage_as_it_is_typed() {
         ("tillage 1 2 7 10 5\n", "refused 7 field 3: change: \"7\" is out of its range; expected 1 to 6"),
         ("tillage 1 2 3 101 5\n", "refused 7 field 4: years: \"101\" is out of its range; expected 1 to 100"),
         ("tillage 1 2 3 10 100000.01\n", "refused 7 field 5: area: \"100000.01\" is out of its range; expected 0 to 100000.00 ha"),
-        ("tillage 1 coarse 3 10 5\n", "not read: tillage, texture: \"coarse\" is no number; expected 1 to 3 (coarse, medium, fine)"),
+        ("tillage 1 coarse 3 10 5\n", "not read: tillage, texture: \"coarse\" is no whole number; expected 1 to 3 (coarse, medium, fine)"),
     ] {
         assert_eq!(remarks(line), format!("line 3: {words}\n"));
     }

@@ -156,7 +156,7 @@ fn a_book_with_a_failed_line_is_not_closed() {
     )));
     assert!(said("headng\nclose\n").contains("line 2: refused 6: "));
     assert!(said("headng\nclose x\n").contains(
-        "line 2: not read: close, records before it: \"x\" is no number; expected 0 to 65535\n"
+        "line 2: not read: close, records before it: \"x\" is no whole number; expected 0 to 65535\n"
     ));
 }
 

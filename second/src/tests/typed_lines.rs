@@ -130,14 +130,14 @@ fn highest_expected(expected: &str) -> String {
 
 #[test]
 fn every_word_is_looked_at() {
-    assert_eq!(remarks("soil 1 2 3 x\n"), "line 3: not read: soil: \"x\" is no number\n");
-    assert_eq!(remarks("soil 1 2.5\n"), "line 3: not read: soil: \"2.5\" is no number\n");
+    assert_eq!(remarks("soil 1 2 3 x\n"), "line 3: not read: soil: \"x\" is no whole number\n");
+    assert_eq!(remarks("soil 1 2.5\n"), "line 3: not read: soil: \"2.5\" is no whole number\n");
     assert_eq!(
         remarks("soil 1 2\n"),
         "line 3: refused 4: a wrong count of values; expected area\n"
     );
-    assert_eq!(remarks("77 1 2.5\n"), "line 3: not read: record: \"2.5\" is no number\n");
-    assert_eq!(remarks("0 x\n"), "line 3: not read: record: \"x\" is no number\n");
+    assert_eq!(remarks("77 1 2.5\n"), "line 3: not read: record: \"2.5\" is no whole number\n");
+    assert_eq!(remarks("0 x\n"), "line 3: not read: record: \"x\" is no whole number\n");
     assert_eq!(
         remarks("soil y x\n"),
         "line 3: not read: soil, area: \"y\" is no number; expected 0 to 100000.00 ha\n"

@@ -257,17 +257,17 @@ fn a_typed_farm_line() {
         ("farm", count),
         ("farm 7 2010", count),
         ("farm 7 2010 21 310 1", count),
-        ("farm 7 2010 21", "refused 7 field 3: warming set: \"21\" is out of its range; expected 1 or 2"),
+        ("farm 7 2010 21", "refused 7 field 3: warming set: \"21\" is out of its range; expected 1 or 2 (or the CH4 and the N2O factor in its place)"),
         ("farm 7 2010 0 310", "refused 7 field 3: CH4 factor: \"0\" is out of its range; expected 1 to 1000"),
         ("farm 7 2010 1001 0", "refused 7 field 3: CH4 factor: \"1001\" is out of its range; expected 1 to 1000"),
         ("1 7 2010 1000 1001", "refused 7 field 4: N2O factor: \"1001\" is out of its range; expected 1 to 1000"),
         ("farm 7 2201 0 0", "refused 7 field 2: year: \"2201\" is out of its range; expected 1900 to 2200"),
         ("farm 4294967296 2010 1 1", "refused 7 field 1: farm number: \"4294967296\" is out of its range; expected 0 to 4294967295"),
-        ("farm 7 2010 21.0 310", "not read: farm, CH4 factor: \"21.0\" is no number; expected 1 to 1000"),
-        ("farm 7 2010 21 x", "not read: farm, N2O factor: \"x\" is no number; expected 1 to 1000"),
-        ("farm 7 2010 x", "not read: farm, warming set: \"x\" is no number; expected 1 or 2"),
-        ("farm 7 2010 x 310 1", "not read: farm, warming set: \"x\" is no number; expected 1 or 2"),
-        ("farm 7 2010 1 x 1", "not read: farm: \"x\" is no number"),
+        ("farm 7 2010 21.0 310", "not read: farm, CH4 factor: \"21.0\" is no whole number; expected 1 to 1000"),
+        ("farm 7 2010 21 x", "not read: farm, N2O factor: \"x\" is no whole number; expected 1 to 1000"),
+        ("farm 7 2010 x", "not read: farm, warming set: \"x\" is no whole number; expected 1 or 2 (or the CH4 and the N2O factor in its place)"),
+        ("farm 7 2010 x 310 1", "not read: farm, warming set: \"x\" is no whole number; expected 1 or 2 (or the CH4 and the N2O factor in its place)"),
+        ("farm 7 2010 1 x 1", "not read: farm: \"x\" is no whole number"),
     ] {
         assert!(said(line).starts_with(&format!("line 1: {words}\n")), "{line}: {}", said(line));
     }
@@ -306,8 +306,8 @@ fn why_a_version_or_a_length_is_refused() {
         (with(3, 2), 2, "0 to 13", " (heading)", 2, 1, "the version is 2; it must be 1"),
         (with(3, 11), 2, "0 to 13", "", 2, 1, "the version is 2; it must be 1"),
         (with(3, 0), 2, "0 to 13", "", 2, 1, "the version is 2; it must be 1"),
-        (short, 4, "0 to 10", " (farm)", 9, 12, "the length is 9; it must be 12"),
-        (long, 4, "0 to 13", " (farm)", 12, 9, "the length is 12; it must be 9"),
+        (short, 4, "0 to 10", " (farm)", 9, 12, "the length (of version 2) is 9; it must be 12"),
+        (long, 4, "0 to 13", " (farm)", 12, 9, "the length (of version 1) is 12; it must be 9"),
     ] {
         let wanted = format!(
             "refused {code} record 0 bytes {bytes} value {value} limit {limit}\nrecord 0{name}, bytes {bytes}: {words}\n"
@@ -404,8 +404,8 @@ fn why_is_asked_of_every_version() {
         assert!(said.contains(&format!(" value {value} limit {limit}\nrecord ")), "{value}");
     }
     for words in [
-        "(farm), bytes 0 to 10: the length is 9; it must be 12",
-        "(farm), bytes 0 to 13: the length is 12; it must be 9",
+        "(farm), bytes 0 to 10: the length (of version 2) is 9; it must be 12",
+        "(farm), bytes 0 to 13: the length (of version 1) is 12; it must be 9",
         "bytes 0 to 13 field 2 value 2201 limit 2200\n",
         "bytes 0 to 13 field 3 value 0 limit 1\n",
         "bytes 0 to 13 field 3 value 1001 limit 1000\n",

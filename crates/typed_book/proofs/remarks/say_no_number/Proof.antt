@@ -1,5 +1,4 @@
 -- One text behind another. Assumes nothing.
-use native.Mathlib.Omega.{arith}
 use Rattle.printing.proofs.Sayings.{_⟫_}
 use borrow.Author.Needs.{needs}
 use Rattle.typed_book.proofs.remarks.say_no_number.Statement.{statement}
@@ -10,24 +9,23 @@ say-no-number-spec =
     tie.close
     (tie.spec
     (λ c. search needs)
+    (λ c. search needs)
+    (λ c κs. search needs)
     (λ c κs. search needs)
     (λ c κs. search needs)
     (λ c. search needs)
     (λ c κs. search needs)
-    (λ c. search needs)
     (λ c κs. search needs)
     (λ c κs. search needs)
-    (λ c. search needs)
-    (λ c κs. search needs)
-    (λ c. omega (arith, c .before .before .before .before .before .before .before .before .before .before .before .before .before .before .before .before .before .before .before .before .before .before .before .before .before .before .before .before .before .before .pre .1))
     (λ c κs. search needs)
     (λ c. search needs)
     (λ c.
     let p1 = c .before .before in
     let p2 = p1 .before .before .before .before in
-    let p3 = p2 .before .before .before .before .before in
+    let p3 = p2 .before .before .before .before in
     let p4 = p3 .before .before .before .before in
     let p5 = p4 .before .before .before .before .before in
     let p6 = p5 .before .before .before .before in
     let p7 = p6 .before .before .before .before in
-    p7 .say .ensures ⟫ p6 .say-kind .ensures ⟫ p5 .say-field .ensures ⟫ p4 .say2 .ensures ⟫ p3 .say-word .ensures ⟫ p2 .say3 .ensures ⟫ p1 .say-expected .ensures))
+    p7 .say .ensures ⟫ p6 .say-kind .ensures ⟫ p5 .say-field .ensures
+    ⟫ p4 .say2 .ensures ⟫ p3 .say-word .ensures ⟫ p2 .say-none .ensures ⟫ p1 .say-expected .ensures))

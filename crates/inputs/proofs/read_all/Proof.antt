@@ -3,14 +3,14 @@ use Prim.Native.Nat.{_-_, _≤_}
 use mathlib.Core.Path.{_≡_}
 use borrow.Author.Needs.{needs}
 use lib.ListN.{length}
-use Rattle.sheet_lines.proofs.read_all.Statement.{statement}
-use Rattle.sheet_lines.proofs.read_all.Tie as tie
+use Rattle.inputs.proofs.read_all.Statement.{statement}
+use Rattle.inputs.proofs.read_all.Tie as tie
 
 abbrev Inv-loop : tie.InvT-loop
-Inv-loop buf₀ n₀ word buf n = (n ≤ length buf) × (length buf ≡ length buf₀)
+Inv-loop fd name buf₀ n₀ buf n = (n ≤ length buf) × (length buf ≡ length buf₀)
 
 abbrev μ-loop : tie.MeasureT-loop
-μ-loop buf₀ n₀ word buf n = length buf - n
+μ-loop fd name buf₀ n₀ buf n = length buf - n
 
 pub read-all-spec : {M : Type 1} → statement M
 read-all-spec =
@@ -23,7 +23,6 @@ read-all-spec =
     (λ c. search needs)
     (λ c. search needs)
     (λ c κs. search needs)
-    (λ c. search needs)
     (λ c κs. search needs)
     (λ c. search needs)
     (λ c. search needs)
