@@ -8,3 +8,4 @@ pub mod MovedLaws
 pub mod Truths
 pub mod SameDetails
 pub mod MovedTruth
+pub mod OneAnswer

@@ -2,4 +2,5 @@ pub mod Examples
 pub mod Lines
 pub mod Telling
 pub mod InParts
+pub mod BehindEnd
 pub mod OneAnswer

@@ -4,6 +4,7 @@ pub mod RuleThree
 pub mod SureStep
 pub mod StaysInRange
 pub mod Answers
+pub mod Endings
 pub mod OneAnswer
 pub mod Headings
 pub mod Paper

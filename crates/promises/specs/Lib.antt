@@ -7,5 +7,6 @@ pub mod Halves
 pub mod Totals
 pub mod WholeLines
 pub mod Answers
+pub mod Endings
 pub mod SameLine
 pub mod Warming
