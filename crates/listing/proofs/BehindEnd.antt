@@ -1,5 +1,5 @@
--- Document 01, "Figures to meet", of the lister: "Bytes after the close are ignored." Behind a close, and behind a refusal too, bytes change nothing of
--- what is printed.
+-- Document 01, "Figures to meet", of the lister: "Bytes after the close are ignored." Behind a close, and behind a refusal too, bytes change nothing
+-- of what is printed.
 -- Assumes nothing.
 use Prim.Native.Nat.{ℕ, _≤_}
 use mathlib.Core.Path.{_≡_, refl, ap, _∙_}

@@ -25,13 +25,13 @@ use Rattle.book.specs.Run.{Run, then, run}
 use Rattle.book.proofs.FrontLaws.{meaning, held-bad, held-whole, good-length}
 use Rattle.book.proofs.RunLaws.{book-unfinished, book-bad, book-whole, book-none, run-none, run-ended, run-append}
 use Rattle.book.proofs.RunLeaves.{run-leaves}
-use Rattle.promises.specs.Endings.{accountAfter, refusedBy, refusing, closing, EndsBy, KeepsRest}
+use Rattle.promises.specs.Endings.{accountAfter, refusedFor, refusing, closing, EndsBy, KeepsRest}
 
 -- ---- one record
 
 -- where r ends the book, it is what a refusal of zs gives, or the close
 record Decided (a : Account) (zs : List ℕ) (r : Run) : Type 0 where
-  refuses : r .state .account .stage ≡ 3 → r ≡ record { state = holding (refusedBy a zs) []; lines = []; left = [] }
+  refuses : r .state .account .stage ≡ 3 → r ≡ record { state = holding (refusedFor a zs) []; lines = []; left = [] }
   closes : r .state .account .stage ≡ 2 → r ≡ record { state = holding (closed a) []; lines = subtotals a ++ (totalOf a ∷ []); left = [] }
 
 open-yet : (a : Account) (zs : List ℕ) (r : Run) → r .state .account .stage < 2 → Decided a zs r
@@ -160,7 +160,7 @@ close-keeps s xs v early q =
 
 -- ---- all the rest, part by part
 
-refused-all : (a : Account) (zs : List ℕ) → KeepsRest a (refusedBy a zs)
+refused-all : (a : Account) (zs : List ℕ) → KeepsRest a (refusedFor a zs)
 refused-all a zs = record { factors = refl; heading = refl; days = refl; grazed = refl; subtotal = refl; sums = refl }
 
 closed-all : (a : Account) → KeepsRest a (closed a)

@@ -26,22 +26,22 @@ abbrev pub withByte : State → List ℕ → ℕ → List ℕ
 withByte s ys byte = heldOf (run s ys .state) ++ (byte ∷ [])
 
 -- the code of the refusal of zs after the account a: 1 where their length is none of a record, else the number of the first test that refuses
-abbrev pub codeOf : Account → List ℕ → ℕ
-codeOf a zs = pick (bad zs) 1 (first (refusals a zs))
+abbrev pub codeFor : Account → List ℕ → ℕ
+codeFor a zs = pick (bad zs) 1 (first (refusals a zs))
 
 -- its field, 0 but for 7
-abbrev pub fieldOf : Account → List ℕ → ℕ
-fieldOf a zs = pick (eqb (codeOf a zs) 7) (firstBad (fields (kindOf zs)) (valuesOf zs) 0) 0
+abbrev pub fieldFor : Account → List ℕ → ℕ
+fieldFor a zs = pick (eqb (codeFor a zs) 7) (firstBad (fields (kindOf zs)) (valuesOf zs) 0) 0
 
 -- refused so: code, records accepted so far and field are stored, all the rest is kept
-abbrev pub refusedBy : Account → List ℕ → Account
-refusedBy a zs = refused a (codeOf a zs) (fieldOf a zs)
+abbrev pub refusedFor : Account → List ℕ → Account
+refusedFor a zs = refused a (codeFor a zs) (fieldFor a zs)
 
 -- a byte refuses: it is taken, and none behind it; nothing is held, the account before is kept but for the refusal stored, and there is no line more
 abbrev pub refusing : State → List ℕ → ℕ → List ℕ → Run
 refusing s before byte behind =
     record {
-      state = holding (refusedBy (accountAfter s before) (withByte s before byte)) [];
+      state = holding (refusedFor (accountAfter s before) (withByte s before byte)) [];
       lines = run s before .lines;
       left = behind;
     }
