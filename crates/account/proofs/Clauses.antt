@@ -16,7 +16,9 @@ use Rattle.account.specs.declared.Days.{Days}
 use Rattle.account.specs.declared.Figures.{Figures}
 use Rattle.account.specs.declared.Subtotal.{Subtotal}
 use Rattle.account.specs.declared.Refusal.{Refusal}
-use Rattle.account.specs.Range.{Counted, FactorIn, Headed, Unheaded, Bounded, Grouped, Ungrouped, Numbered, Unrefused, GrazedIn, AccountInRange, countedTest, factorTest, headedTest, unheadedTest, boundedTest, groupedTest, ungroupedTest, numberedTest, unrefusedTest, grazedTest, accountInRange}
+use Rattle.account.specs.Range.{Counted, FactorIn, Headed, Unheaded, Bounded, Grouped, Ungrouped, Numbered, Unrefused, GrazedIn}
+use Rattle.account.specs.Range.{AccountInRange, countedTest, factorTest, headedTest, unheadedTest, boundedTest, groupedTest, ungroupedTest}
+use Rattle.account.specs.Range.{numberedTest, unrefusedTest, grazedTest, accountInRange}
 
 -- ---- clause by clause, from the test
 
@@ -104,8 +106,16 @@ module _ (h : Heading) (d : Days) where
 
   headed-test : (records : ℕ) → Headed h d records → headedTest h d records ≡ true
   headed-test records p =
-      let u : Each (leb (h .head) 20000 ∷ leb (d .enteric) 366 ∷ leb (d .nitrogen) 366 ∷ leb (d .pig) 366 ∷ leb 2 records ∷ []) =
-      (le-leb _ _ (p .head-most), (le-leb _ _ (p .enteric-most), (le-leb _ _ (p .nitrogen-most), (le-leb _ _ (p .pig-most), (le-leb _ _ (p .records-least), tt))))) in
+      let u : Each (leb (h .head) 20000 ∷ leb (d .enteric) 366 ∷ leb (d .nitrogen) 366 ∷ leb (d .pig) 366 ∷ leb 2 records ∷ []) = (
+        le-leb _ _ (p .head-most),
+        (
+          le-leb _ _ (p .enteric-most),
+          (
+            le-leb _ _ (p .nitrogen-most),
+            (le-leb _ _ (p .pig-most), (le-leb _ _ (p .records-least), tt)),
+          ),
+        ),
+      ) in
       each-all (leb 1 (h .group)) (headedRest records) (le-leb _ _ (p .group-least))
       (le-leb _ _ (p .group-most), (le-leb _ _ (p .class-least), (le-leb _ _ (p .class-most), u)))
 
@@ -200,7 +210,8 @@ module _ (s : Subtotal) where
       each-all (eqb (s .ch4) 0) ungroupedRest (eq-eqb _ _ (u .ch4)) (eq-eqb _ _ (u .n2o), (eq-eqb _ _ (u .excreted), (eq-eqb _ _ (u .land), tt)))
 
   -- bounded, and zero where there is no group
-  subtotal-test : (group records : ℕ) → Grouped s records → (group ≡ 0 → Ungrouped s) → groupedTest s records && (not (eqb group 0) || ungroupedTest s) ≡ true
+  subtotal-test : (group records : ℕ) → Grouped s records → (group ≡ 0 → Ungrouped s)
+      → groupedTest s records && (not (eqb group 0) || ungroupedTest s) ≡ true
   subtotal-test group records g u =
       each-all (groupedTest s records) ((not (eqb group 0) || ungroupedTest s) ∷ []) (grouped-test records g)
       (implies (eqb group 0) (ungroupedTest s) (λ h. ungrouped-test (u (eqb-true _ _ h))), tt)
@@ -250,7 +261,8 @@ module _ (r : Refusal) where
 
   unrefused-test : Unrefused r → unrefusedTest r ≡ true
   unrefused-test u =
-      each-all (eqb (r .code) 0) (eqb (r .accepted) 0 ∷ eqb (r .field) 0 ∷ []) (eq-eqb _ _ (u .code)) (eq-eqb _ _ (u .accepted), (eq-eqb _ _ (u .field), tt))
+      each-all (eqb (r .code) 0) (eqb (r .accepted) 0 ∷ eqb (r .field) 0 ∷ []) (eq-eqb _ _ (u .code))
+      (eq-eqb _ _ (u .accepted), (eq-eqb _ _ (u .field), tt))
 
 module _ (group grazed : ℕ) where
   grazed-parts : grazedTest group grazed ≡ true → GrazedIn group grazed
@@ -289,7 +301,8 @@ module _ (a : Account) where
         heading = heading-parts (a .heading) (a .days) (a .records) (t .1 .1 .1 .0);
         sums = bounded-parts (a .sums) (a .records) (t .1 .1 .1 .1 .0);
         grouped = grouped-parts (a .subtotal) (a .records) (and-l _ _ (t .1 .1 .1 .1 .1 .0));
-        ungrouped = λ h. ungrouped-parts (a .subtotal) (implied _ _ (and-r (groupedTest (a .subtotal) (a .records)) _ (t .1 .1 .1 .1 .1 .0)) (eq-eqb _ _ h));
+        ungrouped =
+            λ h. ungrouped-parts (a .subtotal) (implied _ _ (and-r (groupedTest (a .subtotal) (a .records)) _ (t .1 .1 .1 .1 .1 .0)) (eq-eqb _ _ h));
         refused = λ h. numbered-parts (a .refusal) (a .records) (implied _ _ (t .1 .1 .1 .1 .1 .1 .0) (eq-eqb _ _ h));
         unrefused = λ h. unrefused-parts (a .refusal) (or-right _ _ (t .1 .1 .1 .1 .1 .1 .1 .0) (ne-eqb _ _ h));
         grazed = grazed-parts _ _ (t .1 .1 .1 .1 .1 .1 .1 .1 .0);
@@ -309,8 +322,12 @@ module _ (a : Account) where
               (
                 subtotal-test (a .subtotal) (a .heading .group) (a .records) (f .grouped) (f .ungrouped),
                 (
-                  implies (eqb (a .stage) 3) (numberedTest (a .refusal) (a .records)) (λ h. numbered-test (a .refusal) (a .records) (f .refused (eqb-true _ _ h))),
-                  (or-left (eqb (a .stage) 3) (unrefusedTest (a .refusal)) (λ h. unrefused-test (a .refusal) (f .unrefused (eqb-false _ _ h))), (grazed-test _ _ (f .grazed), tt)),
+                  implies (eqb (a .stage) 3) (numberedTest (a .refusal) (a .records))
+                      (λ h. numbered-test (a .refusal) (a .records) (f .refused (eqb-true _ _ h))),
+                  (
+                    or-left (eqb (a .stage) 3) (unrefusedTest (a .refusal)) (λ h. unrefused-test (a .refusal) (f .unrefused (eqb-false _ _ h))),
+                    (grazed-test _ _ (f .grazed), tt),
+                  ),
                 ),
               ),
             ),

@@ -18,7 +18,8 @@ use Rattle.codec.specs.Codec.{valAt, firstBad}
 use Rattle.account.specs.declared.Account.{Account}
 use Rattle.account.specs.declared.Days.{Days}
 use Rattle.account.specs.Judge.{versionOf, kindByte, kindOf, valuesOf, daysOver, partsWrong, grazedOver, RefusedBy}
-use Rattle.account.specs.Compared.{Compared, numbers, noNumbers, outside, rangeOf, valueAt, badField, daysWith, sharesOf, partsOf, grazedWith, valuesCompared, compared}
+use Rattle.account.specs.Compared.{Compared, numbers, noNumbers, outside, rangeOf, valueAt, badField, daysWith, sharesOf, partsOf, grazedWith}
+use Rattle.account.specs.Compared.{valuesCompared, compared}
 use Rattle.account.specs.Compared.{BeyondEnd, ComparesWrongly}
 
 -- ---- a range
@@ -85,12 +86,15 @@ kind-off k e = go (leb 1 k) (leb k lastKind) refl refl e
 version-wrong : (v k : ℕ) → (eqb v 1 || (eqb v 2 && eqb k 1)) ≡ false
     → ((k ≡ 1) × (pick (eqb k 1) (outside 1 2 v) (numbers v 1) .some ≡ true) × (pick (eqb k 1) (outside 1 2 v) (numbers v 1) .value ≡ v)
     × BeyondEnd 1 2 (pick (eqb k 1) (outside 1 2 v) (numbers v 1)))
-    ⊎ ((k ≡ 1 → ⊥) × (pick (eqb k 1) (outside 1 2 v) (numbers v 1) ≡ numbers v 1) × (pick (eqb k 1) (outside 1 2 v) (numbers v 1) .value ≡ pick (eqb k 1) (outside 1 2 v) (numbers v 1) .limit → ⊥))
+    ⊎ ((k ≡ 1 → ⊥) × (pick (eqb k 1) (outside 1 2 v) (numbers v 1) ≡ numbers v 1) ×
+    (pick (eqb k 1) (outside 1 2 v) (numbers v 1) .value ≡ pick (eqb k 1) (outside 1 2 v) (numbers v 1) .limit → ⊥))
 version-wrong v k h = go (eqb k 1) refl (eqb-false _ _ (or-l (eqb v 1) _ h)) (or-r (eqb v 1) (eqb v 2 && eqb k 1) h)
   where
     go : (b : Bool) → eqb k 1 ≡ b → (v ≡ 1 → ⊥) → eqb v 2 && b ≡ false
-        → ((k ≡ 1) × (pick b (outside 1 2 v) (numbers v 1) .some ≡ true) × (pick b (outside 1 2 v) (numbers v 1) .value ≡ v) × BeyondEnd 1 2 (pick b (outside 1 2 v) (numbers v 1)))
-        ⊎ ((k ≡ 1 → ⊥) × (pick b (outside 1 2 v) (numbers v 1) ≡ numbers v 1) × (pick b (outside 1 2 v) (numbers v 1) .value ≡ pick b (outside 1 2 v) (numbers v 1) .limit → ⊥))
+        → ((k ≡ 1) × (pick b (outside 1 2 v) (numbers v 1) .some ≡ true) × (pick b (outside 1 2 v) (numbers v 1) .value ≡ v) × BeyondEnd 1 2
+        (pick b (outside 1 2 v) (numbers v 1)))
+        ⊎ ((k ≡ 1 → ⊥) × (pick b (outside 1 2 v) (numbers v 1) ≡ numbers v 1) ×
+        (pick b (outside 1 2 v) (numbers v 1) .value ≡ pick b (outside 1 2 v) (numbers v 1) .limit → ⊥))
     go true e n m = inl (eqb-true _ _ e, refl, refl, beyond 1 2 v (version-off v n (eqb-false _ _ (and-true-l (eqb v 2) m))))
     go false e n m = inr (eqb-false _ _ e, refl, n)
 
@@ -100,7 +104,8 @@ days-above : (d : Days) (k : ℕ) (v : List ℕ) → daysOver d k v ≡ true →
 days-above d k v = go (eqb k 3) (eqb k 4) (eqb k 5)
   where
     go : (x y z : Bool)
-        → pick x (ltb 366 (d .enteric + getD v 0 0)) (pick y (ltb 366 (d .nitrogen + getD v 0 0)) (pick z (ltb 366 (d .pig + getD v 0 0)) false)) ≡ true
+        → pick x (ltb 366 (d .enteric + getD v 0 0)) (pick y (ltb 366 (d .nitrogen + getD v 0 0))
+        (pick z (ltb 366 (d .pig + getD v 0 0)) false)) ≡ true
         → 366 < pick x (d .enteric + getD v 0 0) (pick y (d .nitrogen + getD v 0 0) (d .pig + getD v 0 0))
     go true y z e = ltb-true _ _ e
     go false true z e = ltb-true _ _ e

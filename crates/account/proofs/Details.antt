@@ -258,4 +258,5 @@ module _ (a : Account) (r s : List ℕ) (dr : DetailKind (kindOf r)) (ds : Detai
   pub first-second : NotRefused (withRecord a s) r
   first-second =
       let f = found (withRecord a r) s ds ts in
-      accepted-too a (withRecord a s) r dr refl (f .begun) (f .room) tr (within-fits (withRecord a s .days) (withRecord a s .grazed) (kindOf r) (valuesOf r) within-both)
+      accepted-too a (withRecord a s) r dr refl (f .begun) (f .room) tr
+      (within-fits (withRecord a s .days) (withRecord a s .grazed) (kindOf r) (valuesOf r) within-both)

@@ -29,7 +29,8 @@ use Rattle.account.specs.Sorts.{isFarm, sortOf}
 use Rattle.account.specs.Figures.{figuresOf, grouped, groupFigures}
 use Rattle.account.specs.Line.{joined, lineWith, lineOf, subtotals, totalOf}
 use Rattle.account.specs.Range.{FactorIn, Headed, Unheaded, Grouped, Ungrouped, Unrefused, GrazedIn, AccountInRange}
-use Rattle.account.specs.Judge.{versionOf, kindByte, kindOf, valuesOf, noRecord, refused, opened, underHeading, withDetail, closed, headingServes, inPlace, refusals}
+use Rattle.account.specs.Judge.{versionOf, kindByte, kindOf, valuesOf, noRecord, refused, opened, underHeading, withDetail, closed}
+use Rattle.account.specs.Judge.{headingServes, inPlace, refusals}
 use Rattle.account.specs.Judge.{first, ValuesPass, Step, accepted, judge}
 use Rattle.account.specs.Told.{Small}
 use Rattle.account.proofs.Sorts.{by-sort}
@@ -48,7 +49,14 @@ stage-most a f = f .counted .stage-most
 pub in-range-none : AccountInRange noRecord
 in-range-none =
     record {
-      counted = record { stage-most = omega arith; records-most = omega arith; in-zero = λ e. refl; in-one = λ e. absurd (omega arith); in-two = λ e. absurd (omega arith) };
+      counted =
+          record {
+            stage-most = omega arith;
+            records-most = omega arith;
+            in-zero = λ e. refl;
+            in-one = λ e. absurd (omega arith);
+            in-two = λ e. absurd (omega arith);
+          };
       ch4-factor = record { most = omega arith; none = λ e. refl; some = λ e. refl };
       n2o-factor = record { most = omega arith; none = λ e. refl; some = λ e. refl };
       heading = inr (record { group = refl; class = refl; head = refl; enteric = refl; nitrogen = refl; pig = refl });
@@ -60,10 +68,18 @@ in-range-none =
       grazed = record { most = omega arith; none = λ e. refl };
     }
 
-in-range-refused : (a : Account) (code field : ℕ) → AccountInRange a → 1 ≤ code → code ≤ 12 → field ≤ 12 → (code ≡ 7 → 1 ≤ field) → ((code ≡ 7 → ⊥) → field ≡ 0) → AccountInRange (refused a code field)
+in-range-refused : (a : Account) (code field : ℕ) → AccountInRange a → 1 ≤ code → code ≤ 12 → field ≤ 12 → (code ≡ 7 → 1 ≤ field)
+    → ((code ≡ 7 → ⊥) → field ≡ 0) → AccountInRange (refused a code field)
 in-range-refused a code field f low high most some none =
     record {
-      counted = record { stage-most = omega arith; records-most = f .counted .records-most; in-zero = λ e. absurd (omega arith); in-one = λ e. absurd (omega arith); in-two = λ e. absurd (omega arith) };
+      counted =
+          record {
+            stage-most = omega arith;
+            records-most = f .counted .records-most;
+            in-zero = λ e. absurd (omega arith);
+            in-one = λ e. absurd (omega arith);
+            in-two = λ e. absurd (omega arith);
+          };
       ch4-factor = f .ch4-factor;
       n2o-factor = f .n2o-factor;
       heading = f .heading;
@@ -95,7 +111,19 @@ short-at (r ∷ t) (suc k) s = short-at t k (s .1)
 row-short : (k : ℕ) → length (fields k) ≤ 12
 unfolding table Short
 row-short k =
-    short-at table k (omega arith, (omega arith, (omega arith, (omega arith, (omega arith, (omega arith, (omega arith, (omega arith, (omega arith, (omega arith, (omega arith, (omega arith, tt))))))))))))
+    short-at table k (
+      omega arith,
+      (
+        omega arith,
+        (
+          omega arith,
+          (
+            omega arith,
+            (omega arith, (omega arith, (omega arith, (omega arith, (omega arith, (omega arith, (omega arith, (omega arith, tt)))))))),
+          ),
+        ),
+      ),
+    )
 
 -- 7 is the number only where a field is out of range
 seven-field : (a : Account) (r : List ℕ) → first (refusals a r) ≡ 7 → firstBad (fields (kindOf r)) (valuesOf r) 0 ≡ 0 → ⊥
@@ -120,10 +148,19 @@ module _ (a : Account) (f : AccountInRange a) (early : a .stage < 2) where
   in-range-opened : (w : Factors) → 1 ≤ w .ch4 → w .ch4 ≤ 1000 → 1 ≤ w .n2o → w .n2o ≤ 1000 → a .records ≡ 0 → AccountInRange (opened a w)
   in-range-opened w c1 c2 n1 n2 none =
       record {
-        counted = record { stage-most = omega arith; records-most = omega arith; in-zero = λ e. absurd (omega arith); in-one = λ e. omega arith; in-two = λ e. absurd (omega arith) };
+        counted =
+            record {
+              stage-most = omega arith;
+              records-most = omega arith;
+              in-zero = λ e. absurd (omega arith);
+              in-one = λ e. omega arith;
+              in-two = λ e. absurd (omega arith);
+            };
         ch4-factor = first-factor (w .ch4) c1 c2;
         n2o-factor = first-factor (w .n2o) n1 n2;
-        heading = ⊎-elim (λ (h : Headed (a .heading) (a .days) (a .records)). absurd (omega arith)) (λ (u : Unheaded (a .heading) (a .days)). inr u) (f .heading);
+        heading =
+            ⊎-elim (λ (h : Headed (a .heading) (a .days) (a .records)). absurd (omega arith)) (λ (u : Unheaded (a .heading) (a .days)). inr u)
+            (f .heading);
         sums = bounded-next (f .sums);
         grouped = grouped-next (f .grouped);
         ungrouped = f .ungrouped;
@@ -137,10 +174,18 @@ module _ (a : Account) (f : AccountInRange a) (early : a .stage < 2) where
     factor-on : (factor : ℕ) → FactorIn factor (a .records) → FactorIn factor (a .records + 1)
     factor-on factor w = record { most = w .most; none = λ e. let z = w .none e in absurd (omega arith); some = λ e. absurd (omega arith) }
 
-    in-range-heading : (group class head : ℕ) → 1 ≤ group → group ≤ 65535 → 1 ≤ class → class ≤ 4 → head ≤ 20000 → AccountInRange (underHeading a group class head)
+    in-range-heading : (group class head : ℕ) → 1 ≤ group → group ≤ 65535 → 1 ≤ class → class ≤ 4 → head ≤ 20000
+        → AccountInRange (underHeading a group class head)
     in-range-heading group class head g1 g2 c1 c2 h =
         record {
-          counted = record { stage-most = omega arith; records-most = omega arith; in-zero = λ e. let z = f .counted .in-zero e in absurd (omega arith); in-one = λ e. omega arith; in-two = λ e. absurd (omega arith) };
+          counted =
+              record {
+                stage-most = omega arith;
+                records-most = omega arith;
+                in-zero = λ e. let z = f .counted .in-zero e in absurd (omega arith);
+                in-one = λ e. omega arith;
+                in-two = λ e. absurd (omega arith);
+              };
           ch4-factor = factor-on _ (f .ch4-factor);
           n2o-factor = factor-on _ (f .n2o-factor);
           heading = inl (record {
@@ -185,12 +230,20 @@ module _ (a : Account) (f : AccountInRange a) (early : a .stage < 2) where
 
     -- a class means a heading
     headed-by : 1 ≤ a .heading .class → Headed (a .heading) (a .days) (a .records)
-    headed-by c = ⊎-elim (λ (h : Headed (a .heading) (a .days) (a .records)). h) (λ (u : Unheaded (a .heading) (a .days)). absurd (omega arith)) (f .heading)
+    headed-by c =
+        ⊎-elim (λ (h : Headed (a .heading) (a .days) (a .records)). h) (λ (u : Unheaded (a .heading) (a .days)). absurd (omega arith)) (f .heading)
 
     in-range-closed : AccountInRange (closed a)
     in-range-closed =
         record {
-          counted = record { stage-most = omega arith; records-most = omega arith; in-zero = λ e. absurd (omega arith); in-one = λ e. absurd (omega arith); in-two = λ e. omega arith };
+          counted =
+              record {
+                stage-most = omega arith;
+                records-most = omega arith;
+                in-zero = λ e. absurd (omega arith);
+                in-one = λ e. absurd (omega arith);
+                in-two = λ e. omega arith;
+              };
           ch4-factor = factor-on _ (f .ch4-factor);
           n2o-factor = factor-on _ (f .n2o-factor);
           heading = heading-on;
@@ -202,11 +255,19 @@ module _ (a : Account) (f : AccountInRange a) (early : a .stage < 2) where
           grazed = f .grazed;
         }
 
-    in-range-detail : (d : Days) (z : ℕ) (t : Subtotal) (g : Figures) → Small g → Headed (a .heading) d (a .records + 1) ⊎ Unheaded (a .heading) d → Grouped t (a .records + 1)
+    in-range-detail : (d : Days) (z : ℕ) (t : Subtotal) (g : Figures) → Small g → Headed (a .heading) d (a .records + 1) ⊎ Unheaded (a .heading) d
+        → Grouped t (a .records + 1)
         → (a .heading .group ≡ 0 → Ungrouped t) → GrazedIn (a .heading .group) z → AccountInRange (withDetail a d z t g)
     in-range-detail d z t g small h grouped ungrouped grazed-in =
         record {
-          counted = record { stage-most = omega arith; records-most = omega arith; in-zero = λ e. let z = f .counted .in-zero e in absurd (omega arith); in-one = λ e. omega arith; in-two = λ e. absurd (omega arith) };
+          counted =
+              record {
+                stage-most = omega arith;
+                records-most = omega arith;
+                in-zero = λ e. let z = f .counted .in-zero e in absurd (omega arith);
+                in-one = λ e. omega arith;
+                in-two = λ e. absurd (omega arith);
+              };
           ch4-factor = factor-on _ (f .ch4-factor);
           n2o-factor = factor-on _ (f .n2o-factor);
           heading = h;
@@ -279,7 +340,8 @@ module _ (a : Account) (f : AccountInRange a) (early : a .stage < 2) where
       detail-tillage : ValuesPass a 9 v → Kept (accepted a 9 v)
       unfolding figuresOf accepted sortOf
       detail-tillage c =
-          in-range-farm _ (co2-small (tillageOf (getD v 0 0) (getD v 1 0) (getD v 2 0) (getD v 3 0) (getD v 4 0)) (tillage-small (tillage-in v (passed a 9 v c .ranges))))
+          in-range-farm _ (co2-small (tillageOf (getD v 0 0) (getD v 1 0) (getD v 2 0) (getD v 3 0) (getD v 4 0))
+          (tillage-small (tillage-in v (passed a 9 v c .ranges))))
 
       kept-heading : ValuesPass a 2 v → Kept (accepted a 2 v)
       unfolding accepted sortOf
@@ -315,7 +377,8 @@ module _ (a : Account) (f : AccountInRange a) (early : a .stage < 2) where
       omega arith
 
   -- from the second record on
-  later : (k : ℕ) (v : List ℕ) → isFarm k ≡ false → ((begun : 1 ≤ a .records) (room : a .records < 4096) (v : List ℕ) → ValuesPass a k v → Kept (accepted a k v))
+  later : (k : ℕ) (v : List ℕ) → isFarm k ≡ false
+      → ((begun : 1 ≤ a .records) (room : a .records < 4096) (v : List ℕ) → ValuesPass a k v → Kept (accepted a k v))
       → ValuesPass a k v → Kept (accepted a k v)
   later k v e kept c = kept (after-first k v c e) (passed a k v c .room) v c
 
@@ -337,7 +400,8 @@ in-range-judge a r f early =
     let bad = firstBad (fields (kindOf r)) (valuesOf r) 0 in
     let short : bad ≤ 12 = omega (arith, bad-position (fields (kindOf r)) (valuesOf r) 0, row-short (kindOf r)) in
     of-choice Kept (eqb code 0)
-    (λ e. let t = not-refused a r (eqb-true _ _ e) in in-range-accepted a f early (kindOf r) (valuesOf r) (t .values) (row-of-kind (versionOf r) (kindByte r) (not-false _ (t .kind))))
+    (λ e. let t = not-refused a r (eqb-true _ _ e) in
+    in-range-accepted a f early (kindOf r) (valuesOf r) (t .values) (row-of-kind (versionOf r) (kindByte r) (not-false _ (t .kind))))
     (λ e.
     let some : code ≡ 0 → ⊥ = eqb-false _ _ e in
     in-range-refused a code (pick (eqb code 7) bad 0) f (omega arith) (number-most a r) (field-of code bad short)

@@ -11,7 +11,8 @@ use Rattle.base.specs.Choice.{pick}
 use Rattle.base.proofs.Tests.{not-false}
 use Rattle.account.specs.declared.Account.{Account}
 use Rattle.account.specs.Judge.{kindOf, valuesOf, valueRefusals, refusals, first, ValueTests, Tests, LetsThrough, ValuesPass, NotRefused}
-use Rattle.account.specs.Judge.{wrongVersion, wrongKind, wrongLength, bookFull, outOfPlace, outOfRange, notRising, daysOver, partsWrong, grazedOver, feedBelow, wrongCount}
+use Rattle.account.specs.Judge.{wrongVersion, wrongKind, wrongLength, bookFull, outOfPlace, outOfRange, notRising, daysOver, partsWrong}
+use Rattle.account.specs.Judge.{grazedOver, feedBelow, wrongCount}
 use Rattle.account.specs.Judge.{DecidedBy, RefusedBy, Step, accepted, weigh, judge}
 use Rattle.account.proofs.First.{Within, Each, Rising, first-most, first-none, none-first, first-by, first-either}
 use Rattle.account.proofs.Told.{Passes}

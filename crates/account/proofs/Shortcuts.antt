@@ -13,9 +13,11 @@ use Rattle.account.specs.declared.Account.{Account}
 use Rattle.account.specs.declared.Heading.{Heading}
 use Rattle.account.specs.declared.Days.{Days}
 use Rattle.account.specs.declared.Subtotal.{Subtotal}
-use Rattle.account.specs.Range.{countedTest, factorTest, headedTest, unheadedTest, boundedTest, grazedTest, groupedTest, ungroupedTest, numberedTest, unrefusedTest, accountInRange}
+use Rattle.account.specs.Range.{countedTest, factorTest, headedTest, unheadedTest, boundedTest, grazedTest, groupedTest, ungroupedTest}
+use Rattle.account.specs.Range.{numberedTest, unrefusedTest, accountInRange}
 use Rattle.account.proofs.Sums.{ungrouped-bounded}
-use Rattle.account.proofs.Clauses.{counted-parts, counted-test, factor-parts, factor-test, headed-parts, unheaded-parts, grouped-test, ungrouped-parts}
+use Rattle.account.proofs.Clauses.{counted-parts, counted-test, factor-parts, factor-test, headed-parts, unheaded-parts, grouped-test}
+use Rattle.account.proofs.Clauses.{ungrouped-parts}
 
 -- two tests that say each other are the same
 same-test : (x y : Bool) → (x ≡ true → y ≡ true) → (y ≡ true → x ≡ true) → x ≡ y
@@ -52,7 +54,8 @@ module _ (records ch4 n2o : ℕ) where
   not-none n (suc m) l h = le-leb 1 (suc m) (omega arith)
 
   some-factor : (factor : ℕ) → 1 ≤ records → 1 ≤ factor → factor ≤ 1000 → factorTest factor records ≡ true
-  some-factor factor r low high = factor-test factor records (record { most = high; none = λ h. absurd (omega arith); some = λ h. absurd (omega arith) })
+  some-factor factor r low high =
+      factor-test factor records (record { most = high; none = λ h. absurd (omega arith); some = λ h. absurd (omega arith) })
 
   there : leb 1 records && leb records 4096 && leb 1 ch4 && leb ch4 1000 && leb 1 n2o && leb n2o 1000 ≡ true → asWhole ≡ true
   there e =
@@ -76,8 +79,13 @@ module _ (records ch4 n2o : ℕ) where
       let w = factor-parts ch4 records (and-r (countedTest 1 records) (factorTest ch4 records) front) in
       let v = factor-parts n2o records (and-r (countedTest 1 records && factorTest ch4 records) (factorTest n2o records) e) in
       let one = c .in-one refl in
-      each-all (leb 1 records) openRest (le-leb _ _ one)
-      (le-leb _ _ (c .records-most), (not-none records ch4 one (w .none), (le-leb _ _ (w .most), (not-none records n2o one (v .none), (le-leb _ _ (v .most), tt)))))
+      each-all (leb 1 records) openRest (le-leb _ _ one) (
+        le-leb _ _ (c .records-most),
+        (
+          not-none records ch4 one (w .none),
+          (le-leb _ _ (w .most), (not-none records n2o one (v .none), (le-leb _ _ (v .most), tt))),
+        ),
+      )
 
   pub open-started : leb 1 records && leb records 4096 && leb 1 ch4 && leb ch4 1000 && leb 1 n2o && leb n2o 1000 ≡ asWhole
   open-started = same-test _ _ there back
@@ -129,7 +137,8 @@ module _ (h : Heading) (d : Days) (s : Subtotal) (records : ℕ) where
       back e =
           both (headedTest h d records) (groupedTest s records)
           (⊎-elim (λ (t : headedTest h d records ≡ true). t)
-          (λ (t : unheadedTest h d ≡ true). absurd (n (unheaded-parts h d t .group))) (or-cases (headedTest h d records) (unheadedTest h d) (headings e)))
+          (λ (t : unheadedTest h d ≡ true). absurd (n (unheaded-parts h d t .group)))
+          (or-cases (headedTest h d records) (unheadedTest h d) (headings e)))
           (and-l (groupedTest s records) _ (subtotals e))
 
 module _ (a : Account) where

@@ -35,17 +35,33 @@ grazing-small g h = record { ch4 = omega arith; n2o = omega arith; co2 = within-
 -- ---- the sums
 
 pub bounded-none : (n : ℕ) → Bounded noFigures n
-bounded-none n = record { ch4 = omega arith; n2o = omega arith; co2 = within-none n; excreted = omega arith; land = omega arith; grazing = omega arith }
+bounded-none n =
+    record { ch4 = omega arith; n2o = omega arith; co2 = within-none n; excreted = omega arith; land = omega arith; grazing = omega arith }
 
 pub bounded-more : {f : Figures} {n m : ℕ} → n ≤ m → Bounded f n → Bounded f m
-bounded-more {f} h b = record { ch4 = omega arith; n2o = omega arith; co2 = within-more (f .co2) _ _ h (b .co2); excreted = omega arith; land = omega arith; grazing = omega arith }
+bounded-more {f} h b =
+    record {
+      ch4 = omega arith;
+      n2o = omega arith;
+      co2 = within-more (f .co2) _ _ h (b .co2);
+      excreted = omega arith;
+      land = omega arith;
+      grazing = omega arith;
+    }
 
 pub bounded-next : {f : Figures} {n : ℕ} → Bounded f n → Bounded f (n + 1)
 bounded-next {f} {n} b = let h : n ≤ n + 1 = omega arith in bounded-more h b
 
 pub bounded-added : {f g : Figures} {n : ℕ} → Bounded f n → Small g → Bounded (added f g) (n + 1)
 bounded-added {f} {g} b s =
-    record { ch4 = omega arith; n2o = omega arith; co2 = within-plus (f .co2) (g .co2) _ 1 (b .co2) (s .co2); excreted = omega arith; land = omega arith; grazing = omega arith }
+    record {
+      ch4 = omega arith;
+      n2o = omega arith;
+      co2 = within-plus (f .co2) (g .co2) _ 1 (b .co2) (s .co2);
+      excreted = omega arith;
+      land = omega arith;
+      grazing = omega arith;
+    }
 
 -- ---- a group's subtotal
 

@@ -33,7 +33,8 @@ use Rattle.account.specs.declared.Judged.{Judged}
 use Rattle.account.specs.Figures.{groupFigures, ch4Alone, co2Alone, grazingAlone, cattleFigures, pigFigures}
 use Rattle.account.specs.Line.{joined, bytesOf, lineWith, totalWith, co2eIn, subtotals, totalOf}
 use Rattle.account.specs.Range.{Headed, Unheaded, Bounded, Grouped, AccountInRange}
-use Rattle.account.specs.Judge.{kindOf, wrongVersion, wrongKind, judge, first, inPlace, notRising, daysOver, partsWrong, grazedOver, feedBelow, wrongCount, valueRefusals}
+use Rattle.account.specs.Judge.{kindOf, wrongVersion, wrongKind, judge, first, inPlace, notRising, daysOver, partsWrong, grazedOver, feedBelow}
+use Rattle.account.specs.Judge.{wrongCount, valueRefusals}
 use Rattle.account.specs.Judge.{refused, underHeading, withDetail, closed, Step, accepted, weigh}
 use Rattle.account.specs.Told.{Tells, TellsIn, inRoom, Kind, Small, noLine, quiet, refusing, detailing, heading, closing}
 use Rattle.account.proofs.Sums.{ch4-small, co2-small, grazing-small, cattle-small, pig-small, bounded-more, grouped-more}
@@ -42,7 +43,8 @@ use Rattle.account.proofs.First.{three-clear, three-first}
 -- ---- an account in range, in what the arithmetic asks
 
 pub head-most : (a : Account) → AccountInRange a → a .heading .head ≤ 20000
-head-most a f = ⊎-elim (λ (h : Headed (a .heading) (a .days) (a .records)). h .head-most) (λ (u : Unheaded (a .heading) (a .days)). omega arith) (f .heading)
+head-most a f =
+    ⊎-elim (λ (h : Headed (a .heading) (a .days) (a .records)). h .head-most) (λ (u : Unheaded (a .heading) (a .days)). omega arith) (f .heading)
 
 pub record DaysMost (d : Days) : Type 0 where
   pub enteric : d .enteric ≤ 366
@@ -135,7 +137,13 @@ tells-heading a group class head = go (eqb (a .heading .group) 0)
         → Tells (step (underHeading a group class head) (pick b [] (lineWith 16 (a .heading .group) (groupFigures (a .subtotal)) ∷ [])))
         (record {
           account = underHeading a group class head;
-          line = pick b noLine (record { given = lineSize; kind = 16; group = a .heading .group; figures = groupFigures (a .subtotal); co2e = noCo2 });
+          line = pick b noLine (record {
+            given = lineSize;
+            kind = 16;
+            group = a .heading .group;
+            figures = groupFigures (a .subtotal);
+            co2e = noCo2;
+          });
         })
     go true = record { account = refl; bytes = refl; long = refl; short = omega arith }
     go false = record { account = refl; bytes = sym (append-nil _); long = line-long _ _ _; short = omega arith }
@@ -149,7 +157,13 @@ tells-close a = go (eqb (a .heading .group) 0)
         → Tells (step (closed a) (pick b [] (lineWith 16 (a .heading .group) (groupFigures (a .subtotal)) ∷ []) ++ (totalOf a ∷ [])))
         (record {
           account = closed a;
-          line = record { given = pick b totalSize linesMost; kind = 16; group = a .heading .group; figures = groupFigures (a .subtotal); co2e = co2eIn a };
+          line = record {
+            given = pick b totalSize linesMost;
+            kind = 16;
+            group = a .heading .group;
+            figures = groupFigures (a .subtotal);
+            co2e = co2eIn a;
+          };
         })
     go true = record { account = refl; bytes = sym (append-nil _); long = total-long _ _; short = omega arith }
     go false =
@@ -244,7 +258,8 @@ module _ (a : Account) (k : ℕ) (v : List ℕ) (p : Passes a k v) where
   unfolding first
   later = rw (lt-leb _ _ (p .room), p .place, p .ranges)
 
-  pub refuses : (room c : ℕ) (r : Judged) → first (laterRefusals a k v) ≡ c → (eqb c 0 ≡ false) → (eqb c 7 ≡ false) → r ≡ refusing a c 0 → TellsIn room a (weigh a k v) r
+  pub refuses : (room c : ℕ) (r : Judged) → first (laterRefusals a k v) ≡ c → (eqb c 0 ≡ false) → (eqb c 7 ≡ false) → r ≡ refusing a c 0
+      → TellsIn room a (weigh a k v) r
   unfolding weigh
   refuses room c r e n m q = quiet-in room a _ (weigh a k v) r q (rw (later, e, n, m, q) (tells-quiet (refused a c 0)))
 
@@ -274,6 +289,7 @@ pub wrong-version : (room : ℕ) (a : Account) (r : List ℕ) (j : Judged) → w
 unfolding judge first
 wrong-version room a r j h e = quiet-in room a _ (judge a r) j e (rw (h, e) (tells-quiet (refused a 2 0)))
 
-pub wrong-kind : (room : ℕ) (a : Account) (r : List ℕ) (j : Judged) → wrongVersion r ≡ false → wrongKind r ≡ true → j ≡ refusing a 3 0 → TellsIn room a (judge a r) j
+pub wrong-kind : (room : ℕ) (a : Account) (r : List ℕ) (j : Judged) → wrongVersion r ≡ false → wrongKind r ≡ true → j ≡ refusing a 3 0
+    → TellsIn room a (judge a r) j
 unfolding judge first
 wrong-kind room a r j v h e = quiet-in room a _ (judge a r) j e (rw (v, h, e) (tells-quiet (refused a 3 0)))

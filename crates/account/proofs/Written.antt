@@ -38,7 +38,8 @@ module _ (out : List ℕ) (w : ℕ) (j : Judged) where
     unfolding bytesOf
     total-written e = rw e (pasted (total j) out w totalSize (total-long _ _) (omega arith))
 
-    module _ (zero : j .line .given ≡ 0 → ⊥) (other : j .line .given ≡ lineSize → ⊥) (third : j .line .given ≡ totalSize → ⊥) (long : length (bytesOf j) ≡ j .line .given) where
+    module _ (zero : j .line .given ≡ 0 → ⊥) (other : j .line .given ≡ lineSize → ⊥) (third : j .line .given ≡ totalSize → ⊥)
+        (long : length (bytesOf j) ≡ j .line .given) where
       are-both : bytesOf j ≡ leading j ++ total j
       unfolding bytesOf
       are-both = rw (ne-eqb _ 0 zero, ne-eqb _ lineSize other, ne-eqb _ totalSize third)
@@ -50,5 +51,6 @@ module _ (out : List ℕ) (w : ℕ) (j : Judged) where
       pub both-written : sets (sets out w (leading j)) (w + lineSize) (total j) ≡ paste out w (bytesOf j) (j .line .given)
       both-written =
           let l : length (leading j) ≡ lineSize = line-long _ _ _ in
-          let s : sets (sets out w (leading j)) (w + length (leading j)) (total j) ≡ sets out w (leading j ++ total j) = sym (sets-append (leading j) (total j) out w) in
+          let s : sets (sets out w (leading j)) (w + length (leading j)) (total j) ≡ sets out w (leading j ++ total j) =
+          sym (sets-append (leading j) (total j) out w) in
           (rw l at s) ∙ rw (are-both, both-are) (pasted (leading j ++ total j) out w linesMost (both-long _ _ _ _ _) (omega (arith, both-are)))

@@ -1,5 +1,5 @@
--- Document 02, W6: "the field's value and the limit it crossed, or for 8, 9, 10 and 12 both numbers compared, none for 5, 6 and 11": what each test of
--- specs/Judge.antt compares, over the same parts of the record and the account that the test itself has.
+-- Document 02, W6: "the field's value and the limit it crossed, or for 8, 9, 10 and 12 both numbers compared, none for 5, 6 and 11": what each test
+-- of specs/Judge.antt compares, over the same parts of the record and the account that the test itself has.
 -- Assumes nothing.
 use Prim.Native.Nat.{ℕ, _+_, _-_, _≤_, _<_}
 use mathlib.Core.Path.{_≡_}

@@ -8,7 +8,8 @@ use crate::Subtotal;
 ghost use mathlib.Core.Path.{_≡_};
 ghost use mathlib.Core.Bool.{_&&_, _||_, not};
 ghost use lib.Dec.{eqb};
-ghost use Rattle.account.specs.Range.{countedTest, factorTest, headedTest, unheadedTest, boundedTest, grazedTest, groupedTest, ungroupedTest, numberedTest, unrefusedTest, accountInRange};
+ghost use Rattle.account.specs.Range.{countedTest, factorTest, headedTest, unheadedTest, boundedTest, grazedTest, groupedTest, ungroupedTest};
+ghost use Rattle.account.specs.Range.{numberedTest, unrefusedTest, accountInRange};
 
 fn counted(stage: u8, records: u16) -> bool
     ensures { λ r. ⌜ r ≡ countedTest stage records ⌝ }

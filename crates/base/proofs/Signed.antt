@@ -22,7 +22,8 @@ signed-word (negsuc n) h =
 
 -- a word is that of the number it stands for
 pub word-signed : (w : ℕ) → w < 2 ^ 64 → wordOf (signedOf w) ≡ w
-word-signed w h = ⊎-elim (λ (e : ltb w (2 ^ 63) ≡ true). rw e refl) (λ (e : ltb w (2 ^ 63) ≡ false). rw e (omega arith)) (true-or-false (ltb w (2 ^ 63)))
+word-signed w h =
+    ⊎-elim (λ (e : ltb w (2 ^ 63) ≡ true). rw e refl) (λ (e : ltb w (2 ^ 63) ≡ false). rw e (omega arith)) (true-or-false (ltb w (2 ^ 63)))
 
 abs-sub : (a b : ℕ) → natAbs (subℕ a b) ≤ a + b
 abs-sub a b = by-test (ltb a b) refl

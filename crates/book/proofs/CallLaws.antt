@@ -21,8 +21,14 @@ use Rattle.book.proofs.Longest.{longest-is, longest-top}
 use Rattle.book.proofs.Outcomes.{more-lines}
 use Rattle.book.proofs.ReadingLaws.{reads-on}
 
-pub call-at : (s : State) (xs : List ℕ) (room n : ℕ) (o : Outcome) → InRange s → longest (fits s xs room) (length xs) ≡ n → outcome (run s (take n xs)) ≡ o
-    → call s xs room ≡ record { state = o .state; taken = n - length (o .left); bytes = o .bytes; answer = answerOf (o .state .account) (n - length (o .left)) (length xs) }
+pub call-at : (s : State) (xs : List ℕ) (room n : ℕ) (o : Outcome) → InRange s → longest (fits s xs room) (length xs) ≡ n
+    → outcome (run s (take n xs)) ≡ o
+    → call s xs room ≡ record {
+      state = o .state;
+      taken = n - length (o .left);
+      bytes = o .bytes;
+      answer = answerOf (o .state .account) (n - length (o .left)) (length xs);
+    }
 unfolding call
 call-at s xs room n o v e f = rw (range-test s v, e, ← f)
 
@@ -32,7 +38,8 @@ Done s₀ input room s i bytes = call s₀ input room ≡ record { state = s; ta
 
 module _ {input out₀ : List ℕ} {s₀ : State} {out : List ℕ} {s : State} {i w : ℕ} (r : Reading input out₀ s₀ out s i w) where
   -- lines of the first n bytes that are those written fit the buffer
-  in-room : (n : ℕ) (l : List ℕ) → outcome (run s₀ (take n input)) ≡ record { state = s; bytes = take w out; left = l } → fits s₀ input (length out₀) n ≡ true
+  in-room : (n : ℕ) (l : List ℕ) → outcome (run s₀ (take n input)) ≡ record { state = s; bytes = take w out; left = l }
+      → fits s₀ input (length out₀) n ≡ true
   in-room n l e =
       let b : joined (run s₀ (take n input) .lines) ≡ take w out = ap (λ (o : Outcome). o .bytes) e in
       let k : length (joined (run s₀ (take n input) .lines)) ≤ length out₀ = rw b (omega (arith, length-take-le w out (r .fits), r .fits, r .long)) in
@@ -49,13 +56,15 @@ module _ {input out₀ : List ℕ} {s₀ : State} {out : List ℕ} {s : State} {
       rw sub-zero at (call-at s₀ input (length out₀) i (record { state = s; bytes = take w out; left = [] }) (r .first) e (r .so-far))
 
   -- all the rest gives nothing more
-  done-all : (l : List ℕ) → i + length l ≡ length input → outcome (run s (take (length input - i) (drop i input))) ≡ record { state = s; bytes = []; left = l }
+  done-all : (l : List ℕ) → i + length l ≡ length input
+      → outcome (run s (take (length input - i) (drop i input))) ≡ record { state = s; bytes = []; left = l }
       → Done s₀ input (length out₀) s i (take w out)
   done-all l k f =
       let n : i + (length input - i) ≡ length input = omega (arith, r .within) in
       let o : outcome (run s₀ (take (length input) input)) ≡ record { state = s; bytes = take w out; left = l } =
       rw (n, append-nil) at (reads-on r (length input - i) (record { state = s; bytes = []; left = l }) f) in
-      let e : longest (fits s₀ input (length out₀)) (length input) ≡ length input = longest-top (fits s₀ input (length out₀)) (length input) (in-room (length input) l o) in
+      let e : longest (fits s₀ input (length out₀)) (length input) ≡ length input =
+      longest-top (fits s₀ input (length out₀)) (length input) (in-room (length input) l o) in
       let m : length input - length l ≡ i = omega arith in
       rw m at (call-at s₀ input (length out₀) (length input) (record { state = s; bytes = take w out; left = l }) (r .first) e o)
 
@@ -67,11 +76,13 @@ module _ {input out₀ : List ℕ} {s₀ : State} {out : List ℕ} {s : State} {
   pub done-ended : 2 ≤ s .account .stage → Done s₀ input (length out₀) s i (take w out)
   done-ended h =
       let l = take (length input - i) (drop i input) in
-      done-all l (omega (arith, r .within, length-drop i input, length-take-le (length input - i) (drop i input) (rw length-drop (omega arith)))) (rw (run-ended s l (r .range) h))
+      done-all l (omega (arith, r .within, length-drop i input, length-take-le (length input - i) (drop i input) (rw length-drop (omega arith))))
+      (rw (run-ended s l (r .range) h))
 
   -- the three clauses of feed's contract
   pub meets : {f : Fed} → f ≡ fed s i w (length input) → Done s₀ input (length out₀) s i (take w out)
-      → (f ≡ fedOf (call s₀ input (length out₀))) × ((out ≡ laid (call s₀ input (length out₀)) out₀) × ((f .taken ≤ length input) × (f .written ≤ length out₀)))
+      → (f ≡ fedOf (call s₀ input (length out₀))) × ((out ≡ laid (call s₀ input (length out₀)) out₀) ×
+      ((f .taken ≤ length input) × (f .written ≤ length out₀)))
   meets g e =
       let l = length-take-le w out (r .fits) in
       rw (g, e, l) (refl, (rw (← r .rest) (sym (take-append-drop w out)), (r .within, omega (arith, r .fits, r .long))))

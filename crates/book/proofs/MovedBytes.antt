@@ -24,7 +24,14 @@ pub keep-on : (held s : List ℕ) (j : ℕ) → held ≡ take j s ++ replicate (
     → set held j (getD s j 0) ≡ take (j + 1) s ++ replicate (27 - (j + 1)) 0
 keep-on held s j e h k =
     let r : 27 - j ≡ suc (27 - (j + 1)) = omega arith in
-    rw (e, r, set-at (take j s) 0 (replicate (27 - (j + 1)) 0) (getD s j 0) j (length-take-le j s (omega arith)), add-one, take-suc s j 0, append-snoc)
+    rw (
+      e,
+      r,
+      set-at (take j s) 0 (replicate (27 - (j + 1)) 0) (getD s j 0) j (length-take-le j s (omega arith)),
+      add-one,
+      take-suc s j 0,
+      append-snoc,
+    )
 
 -- one byte more is filled in
 pub fill-on : (rec₀ rec : List ℕ) (n : ℕ) (src : List ℕ) (k : ℕ) → rec ≡ paste rec₀ n src k → n + k < length rec₀ → k < length src
@@ -34,10 +41,18 @@ fill-on rec₀ rec n src k e p q = rw (e, add-one) (paste-suc rec₀ n src k 0 p
 pub filled : {rec rec′ : List ℕ} {n goal : ℕ} {src : List ℕ} {k : ℕ} → length rec ≡ 28 → k ≤ length src → n + k ≤ 28 → rec′ ≡ paste rec n src k
     → (n ≤ goal → n + k ≤ goal) → (n + k < goal → k ≡ length src) → Filled rec rec′ n goal src k
 filled {rec} {rec′} {n} {goal} {src} {k} l inside bound bytes upto end =
-    record { inside = inside; bound = bound; array = rw bytes (length-paste rec n src k (omega arith) inside ∙ l); bytes = bytes; upto = upto; end = end }
+    record {
+      inside = inside;
+      bound = bound;
+      array = rw bytes (length-paste rec n src k (omega arith) inside ∙ l);
+      bytes = bytes;
+      upto = upto;
+      end = end;
+    }
 
 -- what is filled in stands behind what was there
-take-filled : (rec rec′ : List ℕ) (n goal : ℕ) (src : List ℕ) (k : ℕ) → length rec ≡ 28 → Filled rec rec′ n goal src k → take (n + k) rec′ ≡ take n rec ++ take k src
+take-filled : (rec rec′ : List ℕ) (n goal : ℕ) (src : List ℕ) (k : ℕ) → length rec ≡ 28 → Filled rec rec′ n goal src k
+    → take (n + k) rec′ ≡ take n rec ++ take k src
 take-filled rec rec′ n goal src k l f = rw (f .bytes) (take-paste rec n src k (omega (arith, f .bound)) (f .inside))
 
 -- all places for held bytes filled in, and then the next ones behind those held
@@ -45,11 +60,13 @@ pub gathered : (held : List ℕ) (count : ℕ) (src r0 r1 r2 : List ℕ) (h k : 
     → Filled r0 r1 0 27 held h → Filled r1 r2 count 28 src k → Gathered (take count held) src r2 (count + k)
 gathered held count src r0 r1 r2 h k l27 short some l28 f1 f2 =
     let e0 : h ≡ 27 =
-    ⊎-elim (λ (q : h < 27). let z = f1 .end (omega arith) in absurd (omega arith)) (λ (q : 27 ≤ h). let z = f1 .upto (omega arith) in omega arith) (lt-or-ge h 27) in
+    ⊎-elim (λ (q : h < 27). let z = f1 .end (omega arith) in absurd (omega arith)) (λ (q : 27 ≤ h). let z = f1 .upto (omega arith) in omega arith)
+    (lt-or-ge h 27) in
     let all : take 27 r1 ≡ take 27 held = rw (zero-add, e0) at (take-filled r0 r1 0 27 held h l28 f1) in
     let t1 : take count r1 ≡ take count held =
     sym (take-take count 27 r1 short) ∙ ap (λ (l : List ℕ). take count l) all ∙ take-take count 27 held short in
-    let t2 : take (count + k) r2 ≡ take count held ++ take k src = take-filled r1 r2 count 28 src k (f1 .array) f2 ∙ ap (λ (l : List ℕ). l ++ take k src) t1 in
+    let t2 : take (count + k) r2 ≡ take count held ++ take k src =
+    take-filled r1 r2 count 28 src k (f1 .array) f2 ∙ ap (λ (l : List ℕ). l ++ take k src) t1 in
     let lh : length (take count held) ≡ count = length-take-le count held (omega arith) in
     let more : 0 < k = ⊎-elim (λ (q : 0 < k). q) (λ (q : k ≤ 0). let z = f2 .end (omega arith) in absurd (omega arith)) (lt-or-ge 0 k) in
     let d : count + k - length (take count held) ≡ k = omega arith in

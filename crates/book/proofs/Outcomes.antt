@@ -28,6 +28,8 @@ more-lines s xs n m h =
     let e : n + (m - n) ≡ m = omega arith in
     let r = run s (take n xs) in
     let q = run (r .state) (r .left ++ take (m - n) (drop n xs)) in
-    let a : outcome (run s (take n xs ++ take (m - n) (drop n xs))) ≡ join (outcome r) (outcome q) = outcome-append s (take n xs) (take (m - n) (drop n xs)) (outcome r) refl in
-    let b : joined (run s (take m xs) .lines) ≡ joined (r .lines) ++ joined (q .lines) = rw (← take-add n (m - n) xs, e) at (ap (λ (o : Outcome). o .bytes) a) in
+    let a : outcome (run s (take n xs ++ take (m - n) (drop n xs))) ≡ join (outcome r) (outcome q) =
+    outcome-append s (take n xs) (take (m - n) (drop n xs)) (outcome r) refl in
+    let b : joined (run s (take m xs) .lines) ≡ joined (r .lines) ++ joined (q .lines) =
+    rw (← take-add n (m - n) xs, e) at (ap (λ (o : Outcome). o .bytes) a) in
     omega (arith, ap length b, length-append (joined (r .lines)) (joined (q .lines)))

@@ -25,9 +25,11 @@ reading-none input out s v =
 
 -- k bytes more
 pub reads-on : {input out₀ : List ℕ} {s₀ : State} {out : List ℕ} {s : State} {i w : ℕ} → Reading input out₀ s₀ out s i w → (k : ℕ) (o : Outcome)
-    → outcome (run s (take k (drop i input))) ≡ o → outcome (run s₀ (take (i + k) input)) ≡ record { state = o .state; bytes = take w out ++ o .bytes; left = o .left }
+    → outcome (run s (take k (drop i input))) ≡ o
+    → outcome (run s₀ (take (i + k) input)) ≡ record { state = o .state; bytes = take w out ++ o .bytes; left = o .left }
 reads-on {input} {out₀} {s₀} {out} {s} {i} {w} r k o e =
-    rw (take-add i k input, ← e) (outcome-append s₀ (take i input) (take k (drop i input)) (record { state = s; bytes = take w out; left = [] }) (r .so-far))
+    rw (take-add i k input, ← e) (outcome-append s₀ (take i input) (take k (drop i input)) (record { state = s; bytes = take w out; left = [] })
+    (r .so-far))
 
 -- so many bytes more are read, and the buffer goes on with the lines so far, those of these bytes, and what stood behind them
 pub reading-on : {input out₀ : List ℕ} {s₀ : State} {out : List ℕ} {s : State} {i w : ℕ} → Reading input out₀ s₀ out s i w
@@ -76,7 +78,8 @@ read-rest {input} {out₀} {s₀} {out} {s} {i} {w} r early e =
 module _ {input out₀ : List ℕ} {s₀ : State} {out : List ℕ} {s : State} {i w : ℕ} (r : Reading input out₀ s₀ out s i w)
     {t : Turn} {sub : List ℕ} (lent : Turned (λ n. run s (take n (drop i input))) (length input - i) (take (length out - w) (drop w out)) sub t) where
   part : Turned (λ n. run s (take n (drop i input))) (length input - i) (drop w out) sub t
-  part = let e : take (length out - w) (drop w out) ≡ drop w out = take-all (length out - w) (drop w out) (rw length-drop (omega arith)) in rw e at lent
+  part = let e : take (length out - w) (drop w out) ≡ drop w out = take-all (length out - w) (drop w out) (rw length-drop (omega arith)) in
+      rw e at lent
 
   back : putMid w (length out - w) out sub ≡ take w out ++ sub
   back =

@@ -44,11 +44,13 @@ pub book-ended : (a : Account) (xs : List ℕ) → 2 ≤ a .stage → book a xs 
 unfolding book bookBy
 book-ended a xs h = rw (le-ltb _ _ h)
 
-pub book-unfinished : (a : Account) (xs : List ℕ) → a .stage < 2 → front xs ≡ unfinished → book a xs ≡ record { state = holding a xs; lines = []; left = [] }
+pub book-unfinished : (a : Account) (xs : List ℕ) → a .stage < 2 → front xs ≡ unfinished
+    → book a xs ≡ record { state = holding a xs; lines = []; left = [] }
 unfolding book bookBy
 book-unfinished a xs h e = rw (lt-ltb _ _ h, e)
 
-pub book-bad : (a : Account) (xs : List ℕ) → a .stage < 2 → front xs ≡ badLength → book a xs ≡ record { state = holding (refused a 1 0) []; lines = []; left = drop 2 xs }
+pub book-bad : (a : Account) (xs : List ℕ) → a .stage < 2 → front xs ≡ badLength
+    → book a xs ≡ record { state = holding (refused a 1 0) []; lines = []; left = drop 2 xs }
 unfolding book bookBy
 book-bad a xs h e = rw (lt-ltb _ _ h, e)
 
@@ -92,14 +94,20 @@ whole-on : (a : Account) (xs ys : List ℕ) → a .stage < 2 → front xs ≡ wh
     → book a (xs ++ ys) ≡ then (judge a (take (need xs) xs) .lines) (book (judge a (take (need xs) xs) .account) (drop (need xs) xs ++ ys))
 whole-on a xs ys k e =
     let m = meaning xs whole e in
-    rw (length-append-two xs ys (m .0), take-append-le (need xs) xs ys (m .3), drop-append-le (need xs) xs ys (m .3)) at (book-whole a (xs ++ ys) k (whole-append xs ys e))
+    rw (length-append-two xs ys (m .0), take-append-le (need xs) xs ys (m .3), drop-append-le (need xs) xs ys (m .3)) at
+    (book-whole a (xs ++ ys) k (whole-append xs ys e))
 
 goes-at : (a : Account) (xs ys : List ℕ) → a .stage < 2
     → ((b : Account) (zs : List ℕ) → length zs < length xs → Goes b zs ys) → (f : Front) → front xs ≡ f → Goes a xs ys
 goes-at a xs ys k ih unfinished e = rw (book-unfinished a xs k e, held-holding a xs)
 goes-at a xs ys k ih badLength e =
     let m = meaning xs badLength e in
-    rw (book-bad a xs k e, book-bad a (xs ++ ys) k (bad-append xs ys e), book-ended (refused a 1 0) (drop 2 xs ++ ys) (omega arith), drop-append-le 2 xs ys (m .0))
+    rw (
+      book-bad a xs k e,
+      book-bad a (xs ++ ys) k (bad-append xs ys e),
+      book-ended (refused a 1 0) (drop 2 xs ++ ys) (omega arith),
+      drop-append-le 2 xs ys (m .0),
+    )
 goes-at a xs ys k ih whole e =
     let m = meaning xs whole e in
     let j = judge a (take (need xs) xs) in

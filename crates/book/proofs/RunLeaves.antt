@@ -41,16 +41,25 @@ tail-drop : (l xs : List ℕ) (k : ℕ) → k ≤ length xs → Tail l (drop k x
 tail-drop l xs k h t = record { at = k + t .at; inside = omega (arith, length-drop k xs, t .inside); is = t .is ∙ drop-drop (t .at) k xs }
 
 leaves-at : (a : Account) (xs : List ℕ) → AccountInRange a → a .stage < 2
-    → ((b : Account) (zs : List ℕ) → length zs < length xs → AccountInRange b → Leaves zs (book b zs)) → (f : Front) → front xs ≡ f → Leaves xs (book a xs)
+    → ((b : Account) (zs : List ℕ) → length zs < length xs → AccountInRange b → Leaves zs (book b zs)) → (f : Front) → front xs ≡ f
+    → Leaves xs (book a xs)
 leaves-at a xs v k ih unfinished e = rw (book-unfinished a xs k e) (record { range = range-holding a xs v k e; tail = tail-none xs; all = λ h. refl })
 leaves-at a xs v k ih badLength e =
-    rw (book-bad a xs k e) (record { range = range-idle (refused a 1 0) (in-range-length a v); tail = record { at = 2; inside = meaning xs badLength e .0; is = refl }; all = λ h. absurd (omega arith) })
+    rw (book-bad a xs k e) (record {
+      range = range-idle (refused a 1 0) (in-range-length a v);
+      tail = record { at = 2; inside = meaning xs badLength e .0; is = refl };
+      all = λ h. absurd (omega arith);
+    })
 leaves-at a xs v k ih whole e =
     let m = meaning xs whole e in
     let j = judge a (take (need xs) xs) in
     let short : length (drop (need xs) xs) < length xs = rw length-drop (omega arith) in
     let i = ih (j .account) (drop (need xs) xs) short (in-range-judge a (take (need xs) xs) v k) in
-    rw (book-whole a xs k e) (record { range = i .range; tail = tail-drop (book (j .account) (drop (need xs) xs) .left) xs (need xs) (m .3) (i .tail); all = i .all })
+    rw (book-whole a xs k e) (record {
+      range = i .range;
+      tail = tail-drop (book (j .account) (drop (need xs) xs) .left) xs (need xs) (m .3) (i .tail);
+      all = i .all;
+    })
 
 book-leaves-by : (n : ℕ) (a : Account) (xs : List ℕ) → length xs < n → AccountInRange a → Leaves xs (book a xs)
 book-leaves-by zero a xs h v = absurd (omega arith)
@@ -84,7 +93,8 @@ tail-at s xs v k whole e =
     let h = held-whole (heldOf s) xs (v .begun) in
     let j = judge (s .account) (take (need zs) zs) in
     let i = book-leaves (j .account) (drop (need zs) zs) (in-range-judge (s .account) (take (need zs) zs) (v .account) k) in
-    rw (book-whole (s .account) zs k e) (tail-over (heldOf s) xs (book (j .account) (drop (need zs) zs) .left) (need zs) (omega arith) (meaning zs whole e .3) (i .tail))
+    rw (book-whole (s .account) zs k e) (tail-over (heldOf s) xs (book (j .account) (drop (need zs) zs) .left) (need zs) (omega arith)
+    (meaning zs whole e .3) (i .tail))
 
 run-tail : (s : State) (xs : List ℕ) → InRange s → Tail (run s xs .left) xs
 run-tail s xs v =
@@ -95,4 +105,5 @@ run-tail s xs v =
 
 pub run-leaves : (s : State) (xs : List ℕ) → InRange s → Leaves xs (run s xs)
 unfolding run
-run-leaves s xs v = let l = book-leaves (s .account) (heldOf s ++ xs) (v .account) in record { range = l .range; tail = run-tail s xs v; all = l .all }
+run-leaves s xs v = let l = book-leaves (s .account) (heldOf s ++ xs) (v .account) in
+    record { range = l .range; tail = run-tail s xs v; all = l .all }

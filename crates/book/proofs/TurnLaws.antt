@@ -89,7 +89,8 @@ module _ {s : State} {src : List ℕ} (b : Begins s src) where
       }
 
   module _ {out out′ : List ℕ} {a : Account} {at w : ℕ} (r : Ran (s .account) src out out′ a at w) where
-    pub turned-told : {s′ : State} → 0 < at → s′ ≡ holding a [] → Does s src out out′ (record { state = s′; taken = at - s .count; written = w; full = false })
+    pub turned-told : {s′ : State} → 0 < at → s′ ≡ holding a []
+        → Does s src out out′ (record { state = s′; taken = at - s .count; written = w; full = false })
     unfolding run
     turned-told k h =
         let y = r .reading in
@@ -118,7 +119,8 @@ module _ {s : State} {src : List ℕ} (b : Begins s src) where
         let u : front (take m src) ≡ unfinished = is-unfinished (take m src) (λ p. rw (q, l) (o .1, o .2, omega arith)) in
         let d : drop 0 out′ ≡ drop 0 out = rw (nothing-yet y z .1) at (y .rest) in
         let i : s .count + (m - s .count + 1) ≡ need src = omega arith in
-        let t : joined (book (s .account) (take (s .count + (m - s .count + 1)) src) .lines) ≡ joined (judge (s .account) (take (need src) src) .lines) =
+        let t : joined (book (s .account) (take (s .count + (m - s .count + 1)) src) .lines) ≡ joined
+        (judge (s .account) (take (need src) src) .lines) =
         rw (i, book-one src (need src) e refl (s .account) (b .range .account) (b .early), append-nil) in
         record {
           range = range-holding (s .account) (take m src) (b .range .account) (b .early) u;
@@ -206,7 +208,9 @@ module _ {s : State} {input : List ℕ} {i : ℕ} (o : Offered s input i) {src :
           finished = λ u. o .finished (rw (← e, ← gathered-all (heldOf s) rest rec src n (s .count) g h l u) u);
         }
 
-    pub turned-gathered : {out out′ : List ℕ} {t : Turn} → Does s src out out′ t → Turned (λ n. run s (take n (drop i input))) (length input - i) out out′ t
+    pub turned-gathered : {out out′ : List ℕ} {t : Turn} → Does s src out out′ t
+        → Turned (λ n. run s (take n (drop i input))) (length input - i) out out′ t
     turned-gathered a =
         let g2 : Gathered (heldOf s) (drop i input) rec n = rw e at g in
-        rw (length-drop i input) at (turned-run s (drop i input) src (n - length (heldOf s)) (g2 .inside) (h ∙ g2 .bytes) (held-length s (o .range)) a)
+        rw (length-drop i input) at (turned-run s (drop i input) src (n - length (heldOf s)) (g2 .inside) (h ∙ g2 .bytes)
+        (held-length s (o .range)) a)

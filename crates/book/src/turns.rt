@@ -68,7 +68,8 @@ fn first_record(s: &[u8], n: usize) -> usize
 }
 
 impl State {
-    // The bytes held and the next of src, as many as the longest record has at most: any record that the held bytes begin is whole in them. How many they are.
+    // The bytes held and the next of src, as many as the longest record has at most: any record that the held bytes begin is whole in them. How many
+    // they are.
     fn gather(self, bytes: &mut [u8; RECORD_MOST], src: &[u8]) -> usize
         requires { ⌜ InRange self × (0 < length (now src)) × (length (now bytes) ≡ recordMost) ⌝ }
         ensures { λ n. ⌜ Gathered (heldOf self) (now (src .entry)) (now (bytes .exit)) n ⌝ }

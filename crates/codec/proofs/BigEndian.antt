@@ -42,7 +42,8 @@ valAt-be (suc w) v p q h =
     let b : ℕ = v % 256 in
     let s : List ℕ = p ++ (be w (v / 256) ++ (b ∷ q)) in
     let high : valAt s (length p) w ≡ v / 256 = valAt-be w (v / 256) p (b ∷ q) (omega arith) in
-    let low : getD s (length p + w) 0 ≡ b = getD-append-add p (be w (v / 256) ++ (b ∷ q)) w 0 ∙ getD-at (be w (v / 256)) b q 0 w (be-length w (v / 256)) in
+    let low : getD s (length p + w) 0 ≡ b =
+    getD-append-add p (be w (v / 256) ++ (b ∷ q)) w 0 ∙ getD-at (be w (v / 256)) b q 0 w (be-length w (v / 256)) in
     rw (append-assoc (be w (v / 256)) (b ∷ []) q, high, low) (omega arith)
 
 -- a number read and written again

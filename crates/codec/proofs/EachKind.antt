@@ -40,14 +40,16 @@ past : (n k : ℕ) → n ≤ k → (k ≡ n → ⊥) → suc n ≤ k
 past n k l h = omega arith
 
 -- the kind that is none of the others is the last
-pub last-kind : (k : ℕ) → 1 ≤ k → k ≤ lastKind → (k ≡ 1 → ⊥) → (k ≡ 2 → ⊥) → (k ≡ 3 → ⊥) → (k ≡ 4 → ⊥) → (k ≡ 5 → ⊥) → (k ≡ 6 → ⊥) → (k ≡ 7 → ⊥) → (k ≡ 8 → ⊥) → (k ≡ 9 → ⊥)
+pub last-kind : (k : ℕ) → 1 ≤ k → k ≤ lastKind → (k ≡ 1 → ⊥) → (k ≡ 2 → ⊥) → (k ≡ 3 → ⊥) → (k ≡ 4 → ⊥) → (k ≡ 5 → ⊥) → (k ≡ 6 → ⊥) → (k ≡ 7 → ⊥)
+    → (k ≡ 8 → ⊥) → (k ≡ 9 → ⊥)
     → k ≡ lastKind
 last-kind k l m h1 h2 h3 h4 h5 h6 h7 h8 h9 =
     let n = past 9 k (past 8 k (past 7 k (past 6 k (past 5 k (past 4 k (past 3 k (past 2 k (past 1 k l h1) h2) h3) h4) h5) h6) h7) h8) h9 in
     omega arith
 
 -- a number that is none of them is no kind
-pub no-kind : (k : ℕ) → (k ≡ 1 → ⊥) → (k ≡ 2 → ⊥) → (k ≡ 3 → ⊥) → (k ≡ 4 → ⊥) → (k ≡ 5 → ⊥) → (k ≡ 6 → ⊥) → (k ≡ 7 → ⊥) → (k ≡ 8 → ⊥) → (k ≡ 9 → ⊥) → (k ≡ 10 → ⊥)
+pub no-kind : (k : ℕ) → (k ≡ 1 → ⊥) → (k ≡ 2 → ⊥) → (k ≡ 3 → ⊥) → (k ≡ 4 → ⊥) → (k ≡ 5 → ⊥) → (k ≡ 6 → ⊥) → (k ≡ 7 → ⊥) → (k ≡ 8 → ⊥) → (k ≡ 9 → ⊥)
+    → (k ≡ 10 → ⊥)
     → isKind k ≡ false
 no-kind k h1 h2 h3 h4 h5 h6 h7 h8 h9 h10 =
     ⊎-elim (λ (e : isKind k ≡ true). absurd (h10 (last-kind k (kind-least k e) (kind-most k e) h1 h2 h3 h4 h5 h6 h7 h8 h9)))
@@ -60,7 +62,8 @@ last-over : (k : ℕ) → k ≤ lastRow → lastKind < k → k ≡ lastRow
 last-over k m over = omega arith
 
 -- the row that is none of the others is the last
-pub last-row : (k : ℕ) → 1 ≤ k → k ≤ lastRow → (k ≡ 1 → ⊥) → (k ≡ 2 → ⊥) → (k ≡ 3 → ⊥) → (k ≡ 4 → ⊥) → (k ≡ 5 → ⊥) → (k ≡ 6 → ⊥) → (k ≡ 7 → ⊥) → (k ≡ 8 → ⊥) → (k ≡ 9 → ⊥)
+pub last-row : (k : ℕ) → 1 ≤ k → k ≤ lastRow → (k ≡ 1 → ⊥) → (k ≡ 2 → ⊥) → (k ≡ 3 → ⊥) → (k ≡ 4 → ⊥) → (k ≡ 5 → ⊥) → (k ≡ 6 → ⊥) → (k ≡ 7 → ⊥)
+    → (k ≡ 8 → ⊥) → (k ≡ 9 → ⊥)
     → (k ≡ 10 → ⊥) → k ≡ lastRow
 last-row k l m h1 h2 h3 h4 h5 h6 h7 h8 h9 h10 =
     ⊎-elim (λ (e : leb k lastKind ≡ true). absurd (h10 (last-kind k l (leb-true _ _ e) h1 h2 h3 h4 h5 h6 h7 h8 h9)))
@@ -87,11 +90,14 @@ unfolding table
 no-fields k h = List·getD-eq-default table [] h
 
 -- nor has any other number that is none of them
-pub other-row : (k : ℕ) → (k ≡ 1 → ⊥) → (k ≡ 2 → ⊥) → (k ≡ 3 → ⊥) → (k ≡ 4 → ⊥) → (k ≡ 5 → ⊥) → (k ≡ 6 → ⊥) → (k ≡ 7 → ⊥) → (k ≡ 8 → ⊥) → (k ≡ 9 → ⊥) → (k ≡ 10 → ⊥)
+pub other-row : (k : ℕ) → (k ≡ 1 → ⊥) → (k ≡ 2 → ⊥) → (k ≡ 3 → ⊥) → (k ≡ 4 → ⊥) → (k ≡ 5 → ⊥) → (k ≡ 6 → ⊥) → (k ≡ 7 → ⊥) → (k ≡ 8 → ⊥) → (k ≡ 9 → ⊥)
+    → (k ≡ 10 → ⊥)
     → (k ≡ 11 → ⊥) → 0 ≡ length (fields k)
 unfolding table
 other-row k h1 h2 h3 h4 h5 h6 h7 h8 h9 h10 h11 =
     at-or-not (λ (n : ℕ). 0 ≡ length (fields n)) 0 k refl
     (λ (h0 : k ≡ 0 → ⊥).
-    let most = past 11 k (past 10 k (past 9 k (past 8 k (past 7 k (past 6 k (past 5 k (past 4 k (past 3 k (past 2 k (past 1 k (past 0 k zero-le h0) h1) h2) h3) h4) h5) h6) h7) h8) h9) h10) h11 in
+    let most =
+    past 11 k (past 10 k (past 9 k (past 8 k (past 7 k (past 6 k (past 5 k
+    (past 4 k (past 3 k (past 2 k (past 1 k (past 0 k zero-le h0) h1) h2) h3) h4) h5) h6) h7) h8) h9) h10) h11 in
     rw (no-fields k most) refl)

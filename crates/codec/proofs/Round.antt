@@ -10,7 +10,8 @@ use lib.Dec.{eqb}
 use Rattle.base.proofs.Tests.{of-choice}
 use Rattle.codec.specs.declared.Field.{Field}
 use Rattle.codec.specs.Table.{fields, rowVersion, rowKind, size, lengthOf, lineFields, totalFields, lineSize, totalSize}
-use Rattle.codec.specs.Codec.{bytesHold, valAt, be, valuesAt, bytesOf, firstBad, recordBytes, lineValues, lineBytes, totalValues, totalBytes, Bytes, Fit}
+use Rattle.codec.specs.Codec.{bytesHold, valAt, be, valuesAt, bytesOf, firstBad, recordBytes, lineValues, lineBytes, totalValues, totalBytes}
+use Rattle.codec.specs.Codec.{Bytes, Fit}
 use Rattle.codec.proofs.BigEndian.{bytes-append, be-bytes, be-length, valAt-be, be-valAt}
 use Rattle.codec.proofs.Stores.{sets-at}
 use Rattle.codec.proofs.Values.{bytes-length, bytes-bytes}
@@ -34,7 +35,8 @@ values-bytes (g ∷ fs) vs i p q f h =
     rw (append-assoc (be w v) rest q, drop-cons vs i 0 more) (λ j. one j ∷ others j)
 
 -- between any bytes p and q
-pub values-back : (fs : List Field) (vs p q : List ℕ) → Fit fs vs 0 → length vs ≡ length fs → valuesAt fs (p ++ (bytesOf fs vs 0 ++ q)) (length p) ≡ vs
+pub values-back : (fs : List Field) (vs p q : List ℕ) → Fit fs vs 0 → length vs ≡ length fs
+    → valuesAt fs (p ++ (bytesOf fs vs 0 ++ q)) (length p) ≡ vs
 values-back fs vs p q f n = values-bytes fs vs 0 p q f (omega arith) ∙ take-all (length fs) vs (omega arith)
 
 -- with nothing before or behind them
@@ -56,7 +58,8 @@ unfolding bytesOf
 shift [] v vs i = refl
 shift (f ∷ fs) v vs i = ap (λ k. be (f .0) (getD vs i 0) ++ k) (shift fs v vs (suc i))
 
-pub encode-decode : (fs : List Field) (s : List ℕ) → Bytes s → (at : ℕ) → at + size fs ≤ length s → bytesOf fs (valuesAt fs s at) 0 ≡ take (size fs) (drop at s)
+pub encode-decode : (fs : List Field) (s : List ℕ) → Bytes s → (at : ℕ) → at + size fs ≤ length s
+    → bytesOf fs (valuesAt fs s at) 0 ≡ take (size fs) (drop at s)
 unfolding bytesOf valuesAt size
 encode-decode [] s bs at h = refl
 encode-decode (f ∷ fs) s bs at h =
@@ -80,7 +83,9 @@ start-then kind vs = refl
 
 module _ (kind : ℕ) (vs : List ℕ) where
   pub record-length : length (recordBytes kind vs) ≡ 2 + lengthOf kind
-  record-length = rw (start-then kind vs, length-append (start kind) (bytesOf (fields kind) vs 0), start-length kind, bytes-length (fields kind) vs 0) (omega arith)
+  record-length =
+      rw (start-then kind vs, length-append (start kind) (bytesOf (fields kind) vs 0), start-length kind, bytes-length (fields kind) vs 0)
+      (omega arith)
 
   -- a record's values, in range, written and read again
   pub record-back : firstBad (fields kind) vs 0 ≡ 0 → length vs ≡ length (fields kind) → valuesAt (fields kind) (recordBytes kind vs) 4 ≡ vs
@@ -138,7 +143,9 @@ module _ (kind group ch4 n2o co2 excreted land grazing : ℕ) where
   pub line-back : firstBad lineFields (lineValues kind group ch4 n2o co2 excreted land grazing) 0 ≡ 0
       → valuesAt lineFields (lineBytes kind group ch4 n2o co2 excreted land grazing) 0 ≡ lineValues kind group ch4 n2o co2 excreted land grazing
   unfolding lineBytes
-  line-back p = back lineFields (lineValues kind group ch4 n2o co2 excreted land grazing) (fit-line (lineValues kind group ch4 n2o co2 excreted land grazing) p) (counts .0)
+  line-back p =
+      back lineFields (lineValues kind group ch4 n2o co2 excreted land grazing) (fit-line (lineValues kind group ch4 n2o co2 excreted land grazing) p)
+      (counts .0)
 
 -- and the close's
 module _ (ch4 n2o co2 excreted land grazing co2e : ℕ) where
@@ -149,4 +156,6 @@ module _ (ch4 n2o co2 excreted land grazing co2e : ℕ) where
   pub total-back : firstBad totalFields (totalValues ch4 n2o co2 excreted land grazing co2e) 0 ≡ 0
       → valuesAt totalFields (totalBytes ch4 n2o co2 excreted land grazing co2e) 0 ≡ totalValues ch4 n2o co2 excreted land grazing co2e
   unfolding totalBytes
-  total-back p = back totalFields (totalValues ch4 n2o co2 excreted land grazing co2e) (fit-total (totalValues ch4 n2o co2 excreted land grazing co2e) p) (counts .1)
+  total-back p =
+      back totalFields (totalValues ch4 n2o co2 excreted land grazing co2e) (fit-total (totalValues ch4 n2o co2 excreted land grazing co2e) p)
+      (counts .1)

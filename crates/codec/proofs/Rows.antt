@@ -81,7 +81,8 @@ unfolding right-row right-field
 fit-row [] t vs i p = tt
 fit-row (f ∷ fs) t vs i p =
     let o = first-within f fs vs i p in
-    let highest : f .2 < bytesHold (f .0) = ltb→lt _ _ (both-right (leb (f .1) (f .2)) (ltb (f .2) (bytesHold (f .0))) (both-left (right-field f) (right-row fs) t)) in (
+    let highest : f .2 < bytesHold (f .0) =
+    ltb→lt _ _ (both-right (leb (f .1) (f .2)) (ltb (f .2) (bytesHold (f .0))) (both-left (right-field f) (right-row fs) t)) in (
       omega (arith, o .0 .below),
       fit-row fs (both-right (right-field f) (right-row fs) t) vs (suc i) (o .1),
     )

@@ -21,7 +21,8 @@ written = refl
 
 -- days 366 pass, 0 and 367 are field 1, Ym 2001 is field 3
 pub tested :
-    firstBad (fields 3) (366 ∷ 0 ∷ 2000 ∷ []) 0 ∷ firstBad (fields 3) (0 ∷ 0 ∷ 0 ∷ []) 0 ∷ firstBad (fields 3) (367 ∷ 0 ∷ 0 ∷ []) 0 ∷ firstBad (fields 3) (1 ∷ 0 ∷ 2001 ∷ []) 0 ∷ []
+    firstBad (fields 3) (366 ∷ 0 ∷ 2000 ∷ []) 0 ∷ firstBad (fields 3) (0 ∷ 0 ∷ 0 ∷ []) 0 ∷ firstBad (fields 3) (367 ∷ 0 ∷ 0 ∷ []) 0
+    ∷ firstBad (fields 3) (1 ∷ 0 ∷ 2001 ∷ []) 0 ∷ []
     ≡ 0 ∷ 1 ∷ 1 ∷ 3 ∷ []
 unfolding firstBad table
 tested = refl

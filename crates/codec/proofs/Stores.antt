@@ -54,12 +54,14 @@ stores-all (f ∷ fs) vs i l at o =
     ∙ ap (λ k. sets (sets l (at + o) (be (f .0) v)) k (bytesOf fs vs (suc i))) (add-assoc at o (f .0))
     ∙ stores-all fs vs (suc i) (sets l (at + o) (be (f .0) v)) at (o + f .0)
 
-pub bytes-stored : (f : Field) (fs : List Field) (vs l : List ℕ) (at : ℕ) → sets l at (bytesOf (f ∷ fs) vs 0) ≡ stores fs vs 1 (sets l at (be (f .0) (getD vs 0 0))) at (f .0)
+pub bytes-stored : (f : Field) (fs : List Field) (vs l : List ℕ) (at : ℕ)
+    → sets l at (bytesOf (f ∷ fs) vs 0) ≡ stores fs vs 1 (sets l at (be (f .0) (getD vs 0 0))) at (f .0)
 bytes-stored f fs vs l at = ap (λ k. sets l k (bytesOf (f ∷ fs) vs 0)) (sym (add-zero at)) ∙ stores-all (f ∷ fs) vs 0 l at 0 ∙ rw (add-zero, zero-add)
 
 -- a whole record: length, version and kind, then its fields
 module _ (kind : ℕ) (vs l : List ℕ) (at : ℕ) where
-  pub record-stored : sets l at (recordBytes kind vs) ≡ sets (sets (sets (sets l at (be 2 (lengthOf kind))) (at + 2) (be 1 (rowVersion kind))) (at + 3) (be 1 (rowKind kind))) (at + 4) (bytesOf (fields kind) vs 0)
+  pub record-stored : sets l at (recordBytes kind vs) ≡ sets (sets (sets (sets l at (be 2 (lengthOf kind))) (at + 2) (be 1 (rowVersion kind)))
+      (at + 3) (be 1 (rowKind kind))) (at + 4) (bytesOf (fields kind) vs 0)
   unfolding recordBytes
   record-stored =
       let rest : List ℕ = bytesOf (fields kind) vs 0 in
@@ -73,8 +75,11 @@ module _ (kind : ℕ) (vs l : List ℕ) (at : ℕ) where
       ∙ sym (put-then 1 (rowKind kind) (at + 3) l3 rest)
       ∙ ap (λ k. sets (sets l3 (at + 3) (be 1 (rowKind kind))) k rest) e4
 
-  pub fields-stored : sets l at (recordBytes kind vs) ≡ stores (fields kind) vs 0 (sets (sets (sets l at (be 2 (lengthOf kind))) (at + 2) (be 1 (rowVersion kind))) (at + 3) (be 1 (rowKind kind))) at 4
-  fields-stored = record-stored ∙ stores-all (fields kind) vs 0 (sets (sets (sets l at (be 2 (lengthOf kind))) (at + 2) (be 1 (rowVersion kind))) (at + 3) (be 1 (rowKind kind))) at 4
+  pub fields-stored : sets l at (recordBytes kind vs) ≡ stores (fields kind) vs 0
+      (sets (sets (sets l at (be 2 (lengthOf kind))) (at + 2) (be 1 (rowVersion kind))) (at + 3) (be 1 (rowKind kind))) at 4
+  fields-stored =
+      record-stored ∙ stores-all (fields kind) vs 0 (sets (sets (sets l at (be 2 (lengthOf kind))) (at + 2) (be 1 (rowVersion kind))) (at + 3)
+      (be 1 (rowKind kind))) at 4
 
 -- ---- a loop over values of two bytes each
 
@@ -83,7 +88,9 @@ twoByteFields n = replicate n (field 2 0 65535)
 
 module _ (vs l : List ℕ) (n p i : ℕ) where
   -- a turn
-  pub two-stored : i < n → sets (sets l p (be 2 (getD vs i 0))) (p + 2) (bytesOf (twoByteFields (n - (i + 1))) vs (i + 1)) ≡ sets l p (bytesOf (twoByteFields (n - i)) vs i)
+  pub two-stored : i < n
+      → sets (sets l p (be 2 (getD vs i 0))) (p + 2) (bytesOf (twoByteFields (n - (i + 1))) vs (i + 1)) ≡ sets l p
+      (bytesOf (twoByteFields (n - i)) vs i)
   unfolding bytesOf
   two-stored h =
       let e : n - i ≡ suc (n - (i + 1)) = omega arith in

@@ -30,11 +30,16 @@ bytes-bytes [] vs i = λ k. omega arith
 bytes-bytes (f ∷ fs) vs i = bytes-append (be (f .0) (getD vs i 0)) (bytesOf fs vs (suc i)) (be-bytes (f .0) (getD vs i 0)) (bytes-bytes fs vs (suc i))
 
 -- the values depend on the record's own bytes only, wherever they stand
-pub values-same : (fs : List Field) (s t : List ℕ) (p q : ℕ) → ((k : ℕ) → k < size fs → getD s (p + k) 0 ≡ getD t (q + k) 0) → valuesAt fs s p ≡ valuesAt fs t q
+pub values-same : (fs : List Field) (s t : List ℕ) (p q : ℕ) → ((k : ℕ) → k < size fs → getD s (p + k) 0 ≡ getD t (q + k) 0)
+    → valuesAt fs s p ≡ valuesAt fs t q
 unfolding valuesAt size
 values-same [] s t p q h = refl
 values-same (f ∷ fs) s t p q h =
-    rw (valAt-same s t p q (f .0) (λ k l. h k (omega arith)), values-same fs s t (p + f .0) (q + f .0) (λ k l. rw (add-assoc p (f .0) k, add-assoc q (f .0) k) (h (f .0 + k) (omega arith))))
+    rw (
+      valAt-same s t p q (f .0) (λ k l. h k (omega arith)),
+      values-same fs s t (p + f .0) (q + f .0)
+          (λ k l. rw (add-assoc p (f .0) k, add-assoc q (f .0) k) (h (f .0 + k) (omega arith))),
+    )
 
 -- ---- the same values, each field by how far it stands from the first
 
@@ -61,6 +66,7 @@ placed-from (f ∷ fs) [] s at o p = p
 placed-from (f ∷ fs) (v ∷ vs) s at o p = λ j. p .0 j ∷ placed-from fs vs s at (o + f .0) (p .1) j
 
 -- then they are the values
-pub values-read : (f : Field) (fs : List Field) (v : ℕ) (vs s : List ℕ) (at : ℕ) → v ≡ valAt s at (f .0) → Placed fs vs s at (f .0) → v ∷ vs ≡ valuesAt (f ∷ fs) s at
+pub values-read : (f : Field) (fs : List Field) (v : ℕ) (vs s : List ℕ) (at : ℕ) → v ≡ valAt s at (f .0) → Placed fs vs s at (f .0)
+    → v ∷ vs ≡ valuesAt (f ∷ fs) s at
 unfolding valuesAt
 values-read f fs v vs s at e p = λ j. e j ∷ (placed-from fs vs s at (f .0) p ∙ sym (values-from fs s at (f .0))) j

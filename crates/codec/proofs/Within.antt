@@ -29,7 +29,8 @@ head-ok f v r i true false d e p = absurd (omega arith)
 head-ok f v r i false b d e p = absurd (omega arith)
 
 -- where no value is out of its range, the first is in it, and no other is out of its own
-pub first-within : (f : Field) (fs : List Field) (vs : List ℕ) (i : ℕ) → firstBad (f ∷ fs) vs i ≡ 0 → Within f (getD vs i 0) × (firstBad fs vs (suc i) ≡ 0)
+pub first-within : (f : Field) (fs : List Field) (vs : List ℕ) (i : ℕ) → firstBad (f ∷ fs) vs i ≡ 0
+    → Within f (getD vs i 0) × (firstBad fs vs (suc i) ≡ 0)
 unfolding firstBad
 first-within f fs vs i p = head-ok f (getD vs i 0) (firstBad fs vs (suc i)) i (leb (f .1) (getD vs i 0)) (leb (getD vs i 0) (f .2)) refl refl p
 
@@ -56,7 +57,8 @@ pick-le false b r m n h k = k
 pub bad-position : (fs : List Field) (vs : List ℕ) (i : ℕ) → firstBad fs vs i ≤ i + length fs
 unfolding firstBad
 bad-position [] vs i = omega arith
-bad-position (f ∷ fs) vs i = pick-le (leb (f .1) (getD vs i 0)) (leb (getD vs i 0) (f .2)) _ _ _ (omega (arith, bad-position fs vs (suc i))) (omega arith)
+bad-position (f ∷ fs) vs i =
+    pick-le (leb (f .1) (getD vs i 0)) (leb (getD vs i 0) (f .2)) _ _ _ (omega (arith, bad-position fs vs (suc i))) (omega arith)
 
 -- ---- what a chain of tests has found out
 

@@ -1,4 +1,5 @@
-// The farm record of version 2, which has its warming factors in it: its values from its bytes, the first value out of its range, its bytes from its values.
+// The farm record of version 2, which has its warming factors in it: its values from its bytes, the first value out of its range, its bytes from its
+// values.
 use crate::numbers::be16;
 use crate::numbers::be32;
 use crate::numbers::put2;

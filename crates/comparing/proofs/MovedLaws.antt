@@ -128,7 +128,8 @@ detail-kind k =
     go false = refl
 
 -- a farm record of either version is none
-pub detail-test : (v k : ℕ) → not (eqb k 1) && not (eqb k 2) && not (eqb k 8) && not (eqb k 11) ≡ bySort (sortOf (rowOf v k)) false false true true false
+pub detail-test : (v k : ℕ)
+    → not (eqb k 1) && not (eqb k 2) && not (eqb k 8) && not (eqb k 11) ≡ bySort (sortOf (rowOf v k)) false false true true false
 unfolding sortOf
 detail-test v k =
     by-test (eqb v 2 && eqb k 1) (λ q. rw (eqb-true k 1 (and-r (eqb v 2) (eqb k 1) q), eqb-true v 2 (and-l (eqb v 2) (eqb k 1) q)) refl)

@@ -120,7 +120,8 @@ goes-on : (u : Counts) (es ns es′ ns′ : List Entry) (e n : Entry) → es ≡
 unfolding runsFrom
 goes-on u es ns es′ ns′ e n p q = rw (p, q) refl
 
-module _ (xs ys : List ℕ) (i j : ℕ) (a b : Account) (at to : ℕ) (u : Counts) (w : Pairing xs ys i j a b at to u) (rest rest′ : List ℕ) (e : rest ≡ drop at xs)
+module _ (xs ys : List ℕ) (i j : ℕ) (a b : Account) (at to : ℕ) (u : Counts) (w : Pairing xs ys i j a b at to u) (rest rest′ : List ℕ)
+    (e : rest ≡ drop at xs)
     (f : rest′ ≡ drop to ys) (l : Pair) (k : Looked a b rest rest′ l) where
   pub pair-inside : at + l .old ≤ length xs
   pair-inside = omega (arith, k .inside, ap length e, length-drop at xs, w .inside)
@@ -131,11 +132,14 @@ module _ (xs ys : List ℕ) (i j : ℕ) (a b : Account) (at to : ℕ) (u : Count
   pub pairing-ends : l .old ≡ 0 → u ≡ runsOf (drop i (entriesOf xs)) (drop j (entriesOf ys))
   pairing-ends z =
       ⊎-elim
-      (λ (n : entriesAfter a rest ≡ []). stops-left u (entriesAfter a (drop at xs)) (entriesAfter b (drop to ys)) (ap (entriesAfter a) (sym e) ∙ n) ∙ w .rest)
-      (λ (n : entriesAfter b rest′ ≡ []). stops-right u (entriesAfter a (drop at xs)) (entriesAfter b (drop to ys)) (ap (entriesAfter b) (sym f) ∙ n) ∙ w .rest)
+      (λ (n : entriesAfter a rest ≡ []). stops-left u (entriesAfter a (drop at xs)) (entriesAfter b (drop to ys)) (ap (entriesAfter a) (sym e) ∙ n)
+      ∙ w .rest)
+      (λ (n : entriesAfter b rest′ ≡ []). stops-right u (entriesAfter a (drop at xs)) (entriesAfter b (drop to ys)) (ap (entriesAfter b) (sym f) ∙ n)
+      ∙ w .rest)
       (k .ended z)
 
-  pub pairing-on : (v : Counts) → v ≡ oneMore u (l .records) (l .lines) → (l .old ≡ 0 → ⊥) → Pairing xs ys i j (l .a) (l .b) (at + l .old) (to + l .new) v
+  pub pairing-on : (v : Counts) → v ≡ oneMore u (l .records) (l .lines) → (l .old ≡ 0 → ⊥)
+      → Pairing xs ys i j (l .a) (l .b) (at + l .old) (to + l .new) v
   pairing-on v g n =
       let h : 0 < l .old = omega (arith, n) in
       let d : drop (l .old) rest ≡ drop (at + l .old) xs = rw (e, drop-drop) refl in
@@ -209,10 +213,22 @@ module _ (es ns : List Entry) (n m l : ℕ) (r : Counts) (p : n ≡ length es) (
 
   module _ (s : Counts) (g : s ≡ runsOf (drop (n - (l - r .leading)) es) (drop (m - (l - r .leading)) ns)) where
     pub back-old : s .trailing ≤ n
-    back-old = rw g (omega (arith, trailing-left (drop (n - (l - r .leading)) es) (drop (m - (l - r .leading)) ns), length-drop (n - (l - r .leading)) es, p))
+    back-old =
+        rw g (omega (
+          arith,
+          trailing-left (drop (n - (l - r .leading)) es) (drop (m - (l - r .leading)) ns),
+          length-drop (n - (l - r .leading)) es,
+          p,
+        ))
 
     pub back-new : s .trailing ≤ m
-    back-new = rw g (omega (arith, trailing-right (drop (n - (l - r .leading)) es) (drop (m - (l - r .leading)) ns), length-drop (m - (l - r .leading)) ns, q))
+    back-new =
+        rw g (omega (
+          arith,
+          trailing-right (drop (n - (l - r .leading)) es) (drop (m - (l - r .leading)) ns),
+          length-drop (m - (l - r .leading)) ns,
+          q,
+        ))
 
     pub plan-is : (t : Counts) (b : Bool) → t ≡ runsOf (drop (n - s .trailing) es) (drop (m - s .trailing) ns)
         → b ≡ movedOf (r .leading) (s .trailing) es ns

@@ -63,7 +63,8 @@ telling-none out xs new from many c r =
       rest = λ zs q p. rw (r .number, r .rest, sub-zero) at p;
     }
 
-module _ (out₀ xs : List ℕ) (new : Bool) (from many : ℕ) (out : List ℕ) (a : Account) (at number i w : ℕ) (t : Telling out₀ xs new from many out a at number i w) where
+module _ (out₀ xs : List ℕ) (new : Bool) (from many : ℕ) (out : List ℕ) (a : Account) (at number i w : ℕ)
+    (t : Telling out₀ xs new from many out a at number i w) where
   done : recordsText new number (take (many - i) (entriesAfter a (drop at xs))) ≡ [] → Said out₀ out 0 (partText new from many (entriesOf xs)) w
   done e = t .rest out w (rw e (said-none (t .room)))
 
@@ -77,7 +78,8 @@ module _ (out₀ xs : List ℕ) (new : Bool) (from many : ℕ) (out : List ℕ) 
     pub telling-ends : x .n ≡ 0 → Said out₀ out 0 (partText new from many (entriesOf xs)) w
     telling-ends z = done (none-text new number (many - i) (entriesAfter a (drop at xs)) (ap (entriesAfter a) (sym e) ∙ u .ended z))
 
-    pub telling-on : (out′ r : List ℕ) (v : ℕ) → (x .n ≡ 0 → ⊥) → i < many → r ≡ take (x .n) rest → Said out out′ w (entryText new number r (linesOf a r)) v
+    pub telling-on : (out′ r : List ℕ) (v : ℕ) → (x .n ≡ 0 → ⊥) → i < many → r ≡ take (x .n) rest
+        → Said out out′ w (entryText new number r (linesOf a r)) v
         → Telling out₀ xs new from many out′ (x .next) (at + x .n) (number + 1) (i + 1) v
     telling-on out′ r v n h b s =
         let k : 0 < x .n = omega (arith, n) in
@@ -160,7 +162,8 @@ module _ (out₀ xs ys : List ℕ) (i j many n m : ℕ) (out : List ℕ) (a b : 
         (rw (← e, ← f) (none-pairs (n + k) (m + k) (many - k) (entriesAfter a rest) (entriesAfter b rest′) (u .ended z)))
 
     pub pairs-on : (out′ out″ r s : List ℕ) (v x : ℕ) → (l .old ≡ 0 → ⊥) → k < many → r ≡ take (l .old) rest → s ≡ take (l .new) rest′
-        → Said out out′ w (otherText (l .lines) false (n + k) r (linesOf a r)) v → Said out′ out″ v (otherText (l .lines) true (m + k) s (linesOf b s)) x
+        → Said out out′ w (otherText (l .lines) false (n + k) r (linesOf a r)) v
+        → Said out′ out″ v (otherText (l .lines) true (m + k) s (linesOf b s)) x
         → PairTelling out₀ xs ys i j many n m out″ (l .a) (l .b) (at + l .old) (to + l .new) (k + 1) x
     pairs-on out′ out″ r s v x z h p q first second =
         let some : 0 < l .old = omega (arith, z) in
@@ -168,7 +171,9 @@ module _ (out₀ xs ys : List ℕ) (i j many n m : ℕ) (out : List ℕ) (a b : 
         let d′ : drop (l .new) rest′ ≡ drop (to + l .new) ys = rw (f, drop-drop) refl in
         let g = ap (entriesAfter a) (sym e) ∙ (rw d at (u .goes some)) in
         let g′ = ap (entriesAfter b) (sym f) ∙ (rw d′ at (u .goes′ some)) in
-        let o = one-pair (n + k) (m + k) (many - k) (many - (k + 1)) (entriesAfter a (drop at xs)) (entriesAfter b (drop to ys)) _ _ _ _ g g′ (omega arith) in
+        let o =
+        one-pair (n + k) (m + k) (many - k) (many - (k + 1)) (entriesAfter a (drop at xs)) (entriesAfter b (drop to ys)) _ _ _ _ g g′
+        (omega arith) in
         let i1 : n + k + 1 ≡ n + (k + 1) = omega arith in
         let i2 : m + k + 1 ≡ m + (k + 1) = omega arith in
         record {

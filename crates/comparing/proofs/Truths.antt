@@ -104,7 +104,8 @@ first-same (e ∷ es) [] = refl
 first-same (e ∷ es) (n ∷ ns) = go (first-same es ns) (same (shapeOf (e .bytes)) (shapeOf (n .bytes))) refl
   where
     go : take (firstSame es ns) (shapesIn es) ≡ take (firstSame es ns) (shapesIn ns) → (b : Bool) → same (shapeOf (e .bytes)) (shapeOf (n .bytes)) ≡ b
-        → take (pick b (suc (firstSame es ns)) 0) (shapeOf (e .bytes) ∷ shapesIn es) ≡ take (pick b (suc (firstSame es ns)) 0) (shapeOf (n .bytes) ∷ shapesIn ns)
+        → take (pick b (suc (firstSame es ns)) 0) (shapeOf (e .bytes) ∷ shapesIn es) ≡ take (pick b (suc (firstSame es ns)) 0)
+        (shapeOf (n .bytes) ∷ shapesIn ns)
     go ih true q = rw (same-true (shapeOf (e .bytes)) (shapeOf (n .bytes)) q, ih) refl
     go ih false q = refl
 
@@ -129,7 +130,8 @@ last-same u (e ∷ es) [] l = absurd (omega arith)
 last-same u (e ∷ es) (n ∷ ns) l = go (λ v. last-same v es ns (omega (arith, l))) (same (shapeOf (e .bytes)) (shapeOf (n .bytes))) refl
   where
     go : ((v : Counts) → LastSame es ns (runsFrom v es ns .trailing)) → (b : Bool) → same (shapeOf (e .bytes)) (shapeOf (n .bytes)) ≡ b
-        → LastSame (e ∷ es) (n ∷ ns) (runsFrom (oneMore u (same (shapeOf (e .bytes)) (shapeOf (n .bytes))) (same (e .lines) (n .lines))) es ns .trailing)
+        → LastSame (e ∷ es) (n ∷ ns) (runsFrom (oneMore u (same (shapeOf (e .bytes)) (shapeOf (n .bytes))) (same (e .lines) (n .lines))) es ns
+        .trailing)
     go ih true q =
         let v = oneMore u (same (shapeOf (e .bytes)) (shapeOf (n .bytes))) (same (e .lines) (n .lines)) in
         let t = runsFrom v es ns .trailing in
@@ -220,7 +222,8 @@ module _ (a : Account) (xs : List ℕ) (v : AccountInRange a) (early : a .stage 
       none (rw (records-whole xs e, after-is, lt-ltb _ _ early, eq-eqb _ _ (s .stage)) refl) (rw (b, d) (s .counted)) (rw (b, d, s .none) refl)
       (rw (b, d) (λ q. absurd (omega (arith, q, s .stage))))
 
-  grown-entry : Grown a r (judge a r) → entriesAfter a xs ≡ record { bytes = r; lines = joined (judge a r .lines) } ∷ entriesAfter (judge a r .account) (drop (need xs) xs)
+  grown-entry : Grown a r (judge a r)
+      → entriesAfter a xs ≡ record { bytes = r; lines = joined (judge a r .lines) } ∷ entriesAfter (judge a r .account) (drop (need xs) xs)
   unfolding entriesFrom
   grown-entry g =
       let z : judge a r .account .stage ≡ 3 → ⊥ = λ s.
@@ -272,13 +275,15 @@ as-run-one a xs x l e f i =
       lines = rw (e, w, f .lines, f .rest, i .lines) (sym (joined-both (j .lines) (b .lines)));
     }
 
-as-run-none : (a : Account) (xs : List ℕ) → entriesAfter a xs ≡ [] → book a xs .state .account .records ≡ a .records → book a xs .lines ≡ [] → AsRun a xs
+as-run-none : (a : Account) (xs : List ℕ) → entriesAfter a xs ≡ [] → book a xs .state .account .records ≡ a .records → book a xs .lines ≡ []
+    → AsRun a xs
 unfolding recordsIn linesIn
 as-run-none a xs e q l =
     let z : book a xs .state .account .records - a .records ≡ 0 = omega (arith, q) in
     record { grows = omega (arith, q); records = rw (e, z) refl; lines = rw (e, l) refl }
 
-as-run-by : (a : Account) (xs : List ℕ) → AccountInRange a → ((b : Account) (zs : List ℕ) → length zs < length xs → AccountInRange b → AsRun b zs) → Cases a xs → AsRun a xs
+as-run-by : (a : Account) (xs : List ℕ) → AccountInRange a → ((b : Account) (zs : List ℕ) → length zs < length xs → AccountInRange b → AsRun b zs)
+    → Cases a xs → AsRun a xs
 as-run-by a xs v ih (none e q l z) = as-run-none a xs e q l
 as-run-by a xs v ih (some x l e f) =
     let m = meaning xs whole (f .front) in
@@ -315,19 +320,22 @@ first-of a xs x l v q = go (cases a xs v)
         let d : y ∷ k ≡ x ∷ l = sym e ∙ q in
         rw (← head-eq-of-cons-eq d, ← ap (λ (t : List Entry). drop 1 t) d) f
 
-entry-line : (pre post : List Entry) (x : Entry) (a : Account) (xs : List ℕ) → AccountInRange a → isDetail (x .bytes) ≡ true → entriesAfter a xs ≡ pre ++ (x ∷ post)
+entry-line : (pre post : List Entry) (x : Entry) (a : Account) (xs : List ℕ) → AccountInRange a → isDetail (x .bytes) ≡ true
+    → entriesAfter a xs ≡ pre ++ (x ∷ post)
     → x .lines ≡ lineOf (lastHeading (a .heading) (recordsIn pre)) (kindOf (x .bytes)) (valuesOf (x .bytes))
 unfolding recordsIn lastHeading
 entry-line [] post x a xs v d q =
     let f = first-of a xs x post v q in
     let s = shaped a (x .bytes) (rw (← f .bytes) at (f .counted)) in
-    f .lines ∙ ap (λ (r : List ℕ). joined (judge a r .lines)) (sym (f .bytes)) ∙ rw (s .detail d) (append-nil (lineOf (a .heading) (kindOf (x .bytes)) (valuesOf (x .bytes))))
+    f .lines ∙ ap (λ (r : List ℕ). joined (judge a r .lines)) (sym (f .bytes))
+    ∙ rw (s .detail d) (append-nil (lineOf (a .heading) (kindOf (x .bytes)) (valuesOf (x .bytes))))
 entry-line (p ∷ pre) post x a xs v d q =
     let f = first-of a xs p (pre ++ (x ∷ post)) v q in
     let r = take (need xs) xs in
     let s = shaped a r (f .counted) in
     let i = entry-line pre post x (judge a r .account) (drop (need xs) xs) (in-range-judge a r v (f .early)) d (sym (f .rest)) in
-    i ∙ ap (λ (h : Heading). lineOf (lastHeading h (recordsIn pre)) (kindOf (x .bytes)) (valuesOf (x .bytes))) (s .heading ∙ ap (headingAfter (a .heading)) (sym (f .bytes)))
+    i ∙ ap (λ (h : Heading). lineOf (lastHeading h (recordsIn pre)) (kindOf (x .bytes)) (valuesOf (x .bytes)))
+    (s .heading ∙ ap (headingAfter (a .heading)) (sym (f .bytes)))
 
 accepts-entry : (xs : List ℕ) (pre post : List Entry) (x : Entry) → entriesOf xs ≡ pre ++ (x ∷ post) → Accepts xs (recordsIn pre) (x .bytes)
 unfolding recordsIn
@@ -350,6 +358,8 @@ unchanged-unlisted old new pre post pre′ post′ e n p q r d h =
     let b : Accepts new (recordsIn pre′) (e .bytes) = rw r (accepts-entry new pre′ post′ n q) in
     let l = own-line old pre post e p d in
     let m : n .lines ≡ lineUnder (headingBefore (recordsIn pre′)) (e .bytes) = rw r (own-line new pre′ post′ n q (rw r at d)) in
-    let s = same-line old new (recordsIn pre) (recordsIn pre′) (e .bytes) _ _ a b d h (gives-line old (recordsIn pre) (e .bytes) a d) (gives-line new (recordsIn pre′) (e .bytes) b d) in
+    let s =
+    same-line old new (recordsIn pre) (recordsIn pre′) (e .bytes) _ _ a b d h (gives-line old (recordsIn pre) (e .bytes) a d)
+    (gives-line new (recordsIn pre′) (e .bytes) b d) in
     let t : e .lines ≡ n .lines = l ∙ s ∙ sym m in
     (t, λ b number. rw (t, same-self (n .lines)) refl)

@@ -33,7 +33,8 @@ one-less : (n : ℕ) (l : List Entry) (e : Entry) (es : List Entry) → drop n l
 one-less n l e es q =
     (rw drop-drop at (ap (λ (t : List Entry). drop 1 t) q), let k = ap length q in omega (arith, k, length-drop n l))
 
-module _ (xs : List ℕ) (k : ℕ) (a : Account) (at i : ℕ) (w : Walked xs k a at i) (rest : List ℕ) (e : rest ≡ drop at xs) (t : Taken) (u : Turned a rest t) where
+module _ (xs : List ℕ) (k : ℕ) (a : Account) (at i : ℕ) (w : Walked xs k a at i) (rest : List ℕ) (e : rest ≡ drop at xs) (t : Taken)
+    (u : Turned a rest t) where
   long : length rest ≡ length xs - at
   long = rw e (length-drop at xs)
 
@@ -74,7 +75,8 @@ module _ (xs : List ℕ) (k : ℕ) (a : Account) (at i : ℕ) (w : Walked xs k a
       }
 
 -- the count is reached
-pub walked-far : (xs : List ℕ) (k : ℕ) (a : Account) (at i : ℕ) → Walked xs k a at i → k ≤ i → Reached xs k (record { account = a; at = at; number = i })
+pub walked-far : (xs : List ℕ) (k : ℕ) (a : Account) (at i : ℕ) → Walked xs k a at i → k ≤ i
+    → Reached xs k (record { account = a; at = at; number = i })
 walked-far xs k a at i w h =
     let e : i ≡ k = omega (arith, w .few) in
     record { inside = w .inside; number = omega (arith, w .there); most = w .most; rest = rw e at (w .rest) }

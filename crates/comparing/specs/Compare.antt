@@ -1,5 +1,5 @@
--- Document 02, W9: "An adviser corrected one pen and the member asked whether the others were touched." Two books compared, record by record: how many
--- of their accepted records are the same at the beginning and at the end, and how many of the last ones give other lines.
+-- Document 02, W9: "An adviser corrected one pen and the member asked whether the others were touched." Two books compared, record by record: how
+-- many of their accepted records are the same at the beginning and at the end, and how many of the last ones give other lines.
 -- Assumes nothing.
 use Prim.Native.Nat.{ℕ, _+_, _-_, min}
 use mathlib.Core.List.{List, [], _∷_}

@@ -32,7 +32,8 @@ abbrev Paid : ℕ → Run → Type 0
 Paid n r = length (joined (r .lines)) + linesMost * n ≤ linesMost * r .state .account .records
 
 paid-at : (a : Account) (xs : List ℕ) → a .stage < 2
-    → ((b : Account) (zs : List ℕ) → length zs < length xs → Paid (b .records) (book b zs)) → (f : Front) → front xs ≡ f → Paid (a .records) (book a xs)
+    → ((b : Account) (zs : List ℕ) → length zs < length xs → Paid (b .records) (book b zs)) → (f : Front) → front xs ≡ f
+    → Paid (a .records) (book a xs)
 paid-at a xs k ih unfinished e = rw (book-unfinished a xs k e) (omega arith)
 paid-at a xs k ih badLength e = rw (book-bad a xs k e) (omega arith)
 paid-at a xs k ih whole e =
@@ -52,7 +53,8 @@ paid-by (suc n) a xs h =
     (lt-or-ge (a .stage) 2)
 
 -- the bytes of lines of a run are at most so many for each record that it adds to those accepted
-pub run-paid : (s : State) (xs : List ℕ) → length (joined (run s xs .lines)) + linesMost * s .account .records ≤ linesMost * run s xs .state .account .records
+pub run-paid : (s : State) (xs : List ℕ)
+    → length (joined (run s xs .lines)) + linesMost * s .account .records ≤ linesMost * run s xs .state .account .records
 unfolding run
 run-paid s xs = paid-by (suc (length (heldOf s ++ xs))) (s .account) (heldOf s ++ xs) (omega arith)
 

@@ -36,7 +36,8 @@ module _ {n : ℕ} (p : n ≤ 7 * 10 ^ 9) where
   pub pig-direct-most : {ef : ℕ} → ef ≤ 10000 → pig.directOf n ef .0 ≤ 5 * 10 ^ 9
   pig-direct-most e = rounds _ _ (p ⊗ e ⊗ num _) tt tt
 
-  pub pig-indirect-most : {volatilised volatilisedef leached leachedef : ℕ} → volatilised ≤ 1000 → volatilisedef ≤ 10000 → leached ≤ 1000 → leachedef ≤ 10000 → pig.indirectOf n volatilised volatilisedef leached leachedef .0 ≤ 5 * 10 ^ 9
+  pub pig-indirect-most : {volatilised volatilisedef leached leachedef : ℕ} → volatilised ≤ 1000 → volatilisedef ≤ 10000 → leached ≤ 1000
+      → leachedef ≤ 10000 → pig.indirectOf n volatilised volatilisedef leached leachedef .0 ≤ 5 * 10 ^ 9
   pig-indirect-most v e l f = rounds _ _ (p ⊗ (v ⊗ e ⊕ l ⊗ f) ⊗ num _) tt tt
 
   pub pig-land-most : (volatilised leached : ℕ) → pig.landOf n volatilised leached ≤ 7 * 10 ^ 9

@@ -1,5 +1,5 @@
--- Document 02, W9: "Prove also of a pig record that volatilised, leached and land nitrogen, each rounded for itself from the excreted grams, add up to
--- within 1 g of them." By the two laws that every rounding to the nearest has, whatever it does with a half. Assumes nothing.
+-- Document 02, W9: "Prove also of a pig record that volatilised, leached and land nitrogen, each rounded for itself from the excreted grams, add up
+-- to within 1 g of them." By the two laws that every rounding to the nearest has, whatever it does with a half. Assumes nothing.
 use Prim.Native.Nat.{ℕ, _+_, _-_, _*_, _<_, _≤_}
 use mathlib.Core.Path.{_≡_}
 use native.Mathlib.Omega.{arith}
@@ -7,8 +7,8 @@ use Rattle.grams.specs.Round.{roundDiv, half-low, half-high}
 use Rattle.grams.specs.Pig.{PigIn, AddUp, manureOf}
 use Rattle.grams.specs.declared.pig.PigRation.{PigRation}
 
--- Of any rounding that is at most half off, on either side: three parts of a thousand, each rounded for itself, are together at most three halves of a
--- gram off, and so at most one gram.
+-- Of any rounding that is at most half off, on either side: three parts of a thousand, each rounded for itself, are together at most three halves of
+-- a gram off, and so at most one gram.
 module _ (round : ℕ → ℕ → ℕ) (low : (n d : ℕ) → 0 < d → 2 * (d * round n d) ≤ 2 * n + d) (high : (n d : ℕ) → 0 < d → 2 * n ≤ 2 * (d * round n d) + d)
     (n v l w : ℕ) (whole : v + l + w ≡ 1000) where
   shared : n * v + n * l + n * w ≡ n * 1000

@@ -26,7 +26,8 @@ use Rattle.grams.proofs.Bounds.{_⊗_, _⊕_, num, less, rounds}
 use Rattle.grams.proofs.TillagePairs.{lum-most}
 use Rattle.grams.proofs.Signs.{mg-amount, co2-amount}
 use Rattle.grams.proofs.Carbon.{within-grams, plus-grams}
-use Rattle.grams.proofs.Parts.{cattle-excreted-most, cattle-direct-most, cattle-indirect-most, pig-solids-most, pig-ch4-most, pig-nitrogen-most, pig-direct-most, pig-indirect-most, pig-land-most}
+use Rattle.grams.proofs.Parts.{cattle-excreted-most, cattle-direct-most, cattle-indirect-most, pig-solids-most, pig-ch4-most}
+use Rattle.grams.proofs.Parts.{pig-nitrogen-most, pig-direct-most, pig-indirect-most, pig-land-most}
 use Rattle.grams.proofs.Parts.{factor-most}
 use Rattle.grams.proofs.Parts.{rate-most}
 
@@ -41,7 +42,8 @@ module _ {r : CattleRation} {head : ℕ} (i : CattleIn r head) where
 
   pub cattle-n2o-small : cattle.manureOf r head .n2o .0 ≤ 10 ^ 10
   unfolding cattle.manureOf
-  cattle-n2o-small = cattle-direct-most cattle-excreted-small (i .solid-in) (i .liquid-in) ⊕ cattle-indirect-most cattle-excreted-small (i .solid-in) (i .liquid-in)
+  cattle-n2o-small =
+      cattle-direct-most cattle-excreted-small (i .solid-in) (i .liquid-in) ⊕ cattle-indirect-most cattle-excreted-small (i .solid-in) (i .liquid-in)
 
 module _ {p : PigRation} {head : ℕ} (i : PigIn p head) where
   nitrogen-most : recordNitrogen p head ≤ 7 * 10 ^ 9
@@ -98,10 +100,12 @@ others-most f c n g = le-trans (f .ch4-most ⊗ c ⊕ f .n2o-most ⊗ n ⊕ g) (
 
 -- CO2e of a total, which may be below zero, does not go round its 8 bytes, whatever the factors
 module _ {co2 : Co2} {ch4 : ℕ} {n2o : N2o} {grazing : Grazed} (i : SumsIn co2 ch4 n2o grazing) where
-  pub co2e-grams : (w : Factors) → FactorsMost w → co2Grams (co2eOf w co2 ch4 n2o grazing) ≡ co2Grams co2 +ℤ pos (w .ch4 * ch4 + w .n2o * n2o .0 + grazing .0)
+  pub co2e-grams : (w : Factors) → FactorsMost w
+      → co2Grams (co2eOf w co2 ch4 n2o grazing) ≡ co2Grams co2 +ℤ pos (w .ch4 * ch4 + w .n2o * n2o .0 + grazing .0)
   unfolding co2eOf
   co2e-grams w f = others-added co2 (w .ch4 * ch4 + w .n2o * n2o .0 + grazing .0) (i .co2-in) (others-most f (i .ch4-in) (i .n2o-in) (i .grazing-in))
 
-pub grazing-small : {region column weight fraction head : ℕ} → GrazingIn region column weight fraction head → grazingOf region column weight fraction head .0 ≤ 10 ^ 11
+pub grazing-small : {region column weight fraction head : ℕ} → GrazingIn region column weight fraction head
+    → grazingOf region column weight fraction head .0 ≤ 10 ^ 11
 unfolding grazingOf
 grazing-small i = rounds _ _ (factor-most _ _ (i .region-in) (i .column-in) ⊗ i .weight-in ⊗ i .fraction-in ⊗ i .head-in) tt tt

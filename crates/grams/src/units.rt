@@ -1,4 +1,5 @@
-// Grams of CO2, which may be below zero; grams of N2O, and N2O-N, the nitrogen in it; grams of CO2e of grazing. Only `to_n2o` leads from N2O-N to N2O.
+// Grams of CO2, which may be below zero; grams of N2O, and N2O-N, the nitrogen in it; grams of CO2e of grazing. Only `to_n2o` leads from N2O-N to
+// N2O.
 use crate::rounding::round_div;
 ghost use mathlib.Core.Path.{_≡_};
 ghost use Prim.Native.Nat.{_+_, _*_, _^_, _<_, _≤_};

@@ -19,7 +19,8 @@ use Rattle.book.specs.Call.{call, fedOf, laid}
 use Rattle.printing.specs.Decimal.{decimal, signed, numbersLine, Put}
 use Rattle.printing.proofs.Puts.{none, put-length, and-then}
 use Rattle.listing.specs.declared.Listed.{Listed}
-use Rattle.listing.specs.Listing.{lineNumbers, isSigned, columnText, columnsText, lineText, textBy, linesText, closedWord, unfinishedWord, refusedWord, endText, lineRoom, Lists}
+use Rattle.listing.specs.Listing.{lineNumbers, isSigned, columnText, columnsText, lineText, textBy, linesText, closedWord, unfinishedWord}
+use Rattle.listing.specs.Listing.{refusedWord, endText, lineRoom, Lists}
 
 pub size-least : (xs : List ℕ) → lineSize ≤ frontSize xs
 size-least xs = of-choice (λ (n : ℕ). lineSize ≤ n) (isTotal xs) (λ e. omega arith) (λ e. omega arith)
@@ -100,7 +101,8 @@ module _ {out₀ lines out : List ℕ} {i at : ℕ} (g : Putting out₀ lines ou
     pub putting-on : {out′ : List ℕ} {n r : ℕ} → n ≡ frontSize rest → n ≤ length rest → Put out out′ at (lineText (lineNumbers rest)) r
         → r ≤ at + 4 * frontSize rest → Putting out₀ lines out′ (i + n) r
     putting-on {out′} {n} {r} m h p s =
-        let d : drop (frontSize rest) rest ≡ drop (i + n) lines = ap (λ (k : ℕ). drop k rest) (sym m) ∙ ap (λ (l : List ℕ). drop n l) e ∙ drop-drop n i lines in
+        let d : drop (frontSize rest) rest ≡ drop (i + n) lines =
+        ap (λ (k : ℕ). drop k rest) (sym m) ∙ ap (λ (l : List ℕ). drop n l) e ∙ drop-drop n i lines in
         let t = text-some rest (omega arith) in
         record {
           same = put-length p ∙ g .same;

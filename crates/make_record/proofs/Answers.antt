@@ -26,7 +26,8 @@ use Rattle.book.proofs.RangeLaws.{range-parts, range-test}
 use Rattle.make_record.specs.declared.Answer.{Answer}
 use Rattle.make_record.specs.declared.Answer.the-variants.{Wrote, Refused}
 use Rattle.make_record.specs.declared.Written.{Written}
-use Rattle.make_record.specs.Write.{Write, refusalBy, next, refusals, answerOf, refusing, writing, byAnswer, writeRow, writtenOf, laid, Ready, OfKind}
+use Rattle.make_record.specs.Write.{Write, refusalBy, next, refusals, answerOf, refusing, writing, byAnswer, writeRow, writtenOf, laid, Ready}
+use Rattle.make_record.specs.Write.{OfKind}
 
 -- ---- values that the reader would not refuse
 
@@ -90,7 +91,8 @@ module _ (s : State) (k row : ℕ) (v : List ℕ) (room : ℕ) where
     unfolding writeRow answerOf
     by-3 e = rw (state-passes, e)
 
-    pub by-4 : ltb k 1 || ltb lastKind k ≡ false → (length v ≡ length (fields row) → ⊥) → writeRow s k row v room ≡ refusing s (refusalBy 4 (s .account .records))
+    pub by-4 : ltb k 1 || ltb lastKind k ≡ false → (length v ≡ length (fields row) → ⊥)
+        → writeRow s k row v room ≡ refusing s (refusalBy 4 (s .account .records))
     unfolding writeRow answerOf
     by-4 b h = rw (state-passes, b, ne-eqb _ _ h)
 
@@ -122,7 +124,8 @@ module _ (s : State) (k row : ℕ) (v : List ℕ) (room : ℕ) where
           unfolding writeRow answerOf
           wrote l = rw (values-pass, ne-eqb _ _ still, le-ltb _ _ l)
 
-          pub wrote-so : (n : ℕ) → n ≡ 2 + lengthOf row → n ≤ room → record { state = holding b []; written = n; answer = Wrote } ≡ writtenOf (writeRow s k row v room)
+          pub wrote-so : (n : ℕ) → n ≡ 2 + lengthOf row → n ≤ room
+              → record { state = holding b []; written = n; answer = Wrote } ≡ writtenOf (writeRow s k row v room)
           wrote-so n f l = rw (wrote (rw f at l), e, f, record-length row v)
 
 -- ---- what is known where a record is written
@@ -158,7 +161,14 @@ module _ (s : State) (k row : ℕ) (v : List ℕ) (room : ℕ) where
       let o = of-kind k row v (t .1 .1 .1 .0) (eqb-true _ _ (not-false _ (t .1 .1 .1 .1 .0))) in
       let n = eqb-false _ _ (t .1 .1 .1 .1 .1 .0) in
       let f = ltb-false _ _ (t .1 .1 .1 .1 .1 .1 .0) in
-      record { ready = y; of = o; still = n; ranges = in-ranges (s .account) row v n; fits = f; is = wrote s k row v room y o (next s row v) refl n f }
+      record {
+        ready = y;
+        of = o;
+        still = n;
+        ranges = in-ranges (s .account) row v n;
+        fits = f;
+        is = wrote s k row v room y o (next s row v) refl n f;
+      }
 
   -- the answer says it
   pub written-so : writeRow s k row v room .answer ≡ Wrote → Written-so s k row v room

@@ -36,7 +36,11 @@ use Rattle.make_record.proofs.ReaderLaws.{run-one, call-one, is-kind, j
 
 module _ (s : State) (k : ℕ) (v : List ℕ) (room : ℕ) (e : write s k v room .answer ≡ Wrote) where
   -- The state that the writer hands back is the one that the reader reaches on the bytes written, all of which it takes.
-  pub next-state : run s (write s k v room .bytes) ≡ record { state = write s k v room .state; lines = weigh (s .account) (rowFor k (length v)) v .lines; left = [] }
+  pub next-state : run s (write s k v room .bytes) ≡ record {
+    state = write s k v room .state;
+    lines = weigh (s .account) (rowFor k (length v)) v .lines;
+    left = [];
+  }
   next-state =
       let row = rowFor k (length v) in
       let w = written-so s k row v room e in
@@ -46,7 +50,8 @@ module _ (s : State) (k : ℕ) (v : List ℕ) (room : ℕ) (e : write s k v room
 
   -- A call of the reader with linesMost bytes of room takes all of them and reaches it.
   pub call-reaches : (lines : ℕ) → linesMost ≤ lines
-      → (reader.call s (write s k v room .bytes) lines .state ≡ write s k v room .state) × (reader.call s (write s k v room .bytes) lines .taken ≡ length (write s k v room .bytes))
+      → (reader.call s (write s k v room .bytes) lines .state ≡ write s k v room .state) ×
+      (reader.call s (write s k v room .bytes) lines .taken ≡ length (write s k v room .bytes))
   call-reaches lines h =
       let row = rowFor k (length v) in
       let w = written-so s k row v room e in
@@ -75,10 +80,14 @@ module _ (s : State) (y : Ready s) (k : ℕ) (v : List ℕ) (room : ℕ) where
   pub refuses-as-reader : OfKind k (rowFor k (length v)) v → Fit (fields (rowFor k (length v))) v 0 → 2 + lengthOf (rowFor k (length v)) ≤ room
       → write s k v room .answer ≡ saying (run s (recordBytes (rowFor k (length v)) v) .state .account)
   refuses-as-reader o f h =
-      rw (run-one s y (recordBytes (rowFor k (length v)) v) (is-kind (rowFor k (length v)) v (of-row k v refl o) .whole), judge-is (rowFor k (length v)) v (of-row k v refl o) (s .account) f)
+      rw (
+        run-one s y (recordBytes (rowFor k (length v)) v) (is-kind (rowFor k (length v)) v (of-row k v refl o) .whole),
+        judge-is (rowFor k (length v)) v (of-row k v refl o) (s .account) f,
+      )
       (go (eqb (next s (rowFor k (length v)) v .stage) 3) refl)
     where
-      go : (b : Bool) → eqb (next s (rowFor k (length v)) v .stage) 3 ≡ b → write s k v room .answer ≡ pick b (Refused (next s (rowFor k (length v)) v .refusal)) Wrote
+      go : (b : Bool) → eqb (next s (rowFor k (length v)) v .stage) 3 ≡ b
+          → write s k v room .answer ≡ pick b (Refused (next s (rowFor k (length v)) v .refusal)) Wrote
       go true e = rw (by-reader s k (rowFor k (length v)) v room y o (next s (rowFor k (length v)) v) refl (eqb-true _ _ e))
       go false e = rw (wrote s k (rowFor k (length v)) v room y o (next s (rowFor k (length v)) v) refl (eqb-false _ _ e) h)
 

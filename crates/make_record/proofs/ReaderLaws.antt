@@ -57,11 +57,19 @@ module _ (s : State) (y : Ready s) (r : List ℕ) (w : WholeRecord r) where
         answer = reader.answerOf (judge (s .account) r .account) (length r) (length r);
       }
   call-one room h =
-      let o : run s (take (length r) r) ≡ record { state = holding (judge (s .account) r .account) []; lines = judge (s .account) r .lines; left = [] } = rw (take-length r) run-one in
+      let o : run s (take (length r) r) ≡ record {
+        state = holding (judge (s .account) r .account) [];
+        lines = judge (s .account) r .lines;
+        left = [];
+      } = rw (take-length r) run-one in
       let f : length (joined (run s (take (length r) r) .lines)) ≤ room = rw o (omega (arith, judge-short (s .account) r)) in
       let l = longest-top (reader.fits s r room) (length r) (le-leb _ _ f) in
       rw sub-zero
-      at (call-at s r room (length r) (record { state = holding (judge (s .account) r .account) []; bytes = joined (judge (s .account) r .lines); left = [] }) (y .range) l (rw o))
+      at (call-at s r room (length r) (record {
+        state = holding (judge (s .account) r .account) [];
+        bytes = joined (judge (s .account) r .lines);
+        left = [];
+      }) (y .range) l (rw o))
 
 -- ---- the record of some values
 

@@ -39,13 +39,17 @@ reads-back s k v room e =
     let w = written-so s k row v room e in
     let o : Of row v = of-row k v refl (w .of) in
     let i = is-kind row v o in
-    rw (w .is)
-    (version-written row v o ∙ version-of-row k (length v) (w .of .most), kind-written row v o ∙ kind-of-row k (length v) (w .of .most), rw (i .kind) (values-read row v o (fit-kind v row (w .ranges))))
+    rw (w .is) (
+      version-written row v o ∙ version-of-row k (length v) (w .of .most),
+      kind-written row v o ∙ kind-of-row k (length v) (w .of .most),
+      rw (i .kind) (values-read row v o (fit-kind v row (w .ranges))),
+    )
 
 -- ---- a record that the reader accepts
 
 -- An accepted record, read and written again by the state that reads it, is the same bytes, and the state is the one that the reader reaches.
-pub written-again : (s : State) (r : List ℕ) (room : ℕ) → Ready s → Bytes r → WholeRecord r → (judge (s .account) r .account .stage ≡ 3 → ⊥) → length r ≤ room
+pub written-again : (s : State) (r : List ℕ) (room : ℕ) → Ready s → Bytes r → WholeRecord r → (judge (s .account) r .account .stage ≡ 3 → ⊥)
+    → length r ≤ room
     → write s (kindByte r) (valuesOf r) room ≡ record { state = holding (judge (s .account) r .account) []; bytes = r; answer = Wrote }
 written-again s r room y b w h f =
     let k = kindOf r in
@@ -59,7 +63,8 @@ written-again s r room y b w h f =
       count = values-length (fields k) r 4;
     } in
     let e : judge (s .account) r ≡ weigh (s .account) k v =
-    right-length (s .account) k r (lengthOf k + 2) (record { whole = w; version = t .version; listed = t .kind; kind = refl }) refl (omega (arith, w .long, long)) in
+    right-length (s .account) k r (lengthOf k + 2) (record { whole = w; version = t .version; listed = t .kind; kind = refl }) refl
+    (omega (arith, w .long, long)) in
     let again : recordBytes k v ≡ r = record-again k r (record {
       bytes = b;
       complete = omega (arith, w .long, long);

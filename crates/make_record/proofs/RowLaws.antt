@@ -28,7 +28,8 @@ version-passes row = by-test (eqb row 11) (λ e. rw e refl) (λ e. rw e refl)
 -- and so does 3
 pub kind-passes : (row : ℕ) → 1 ≤ row → row ≤ 11 → not (isKind (rowKind row)) ≡ false
 kind-passes row l m =
-    each-row (λ n. not (isKind (rowKind n)) ≡ false) refl refl refl refl refl refl refl refl refl refl refl row (rw (le-leb 1 row l, le-leb row 11 m) refl)
+    each-row (λ n. not (isKind (rowKind n)) ≡ false) refl refl refl refl refl refl refl refl refl refl refl row
+    (rw (le-leb 1 row l, le-leb row 11 m) refl)
 
 -- ---- the row of some values
 
@@ -78,7 +79,8 @@ kind-again version k e =
     (λ t. rw t (eqb-true k 1 (and-r (eqb version 2) (eqb k 1) t)))
     (λ t. rw (t, ne-eqb k 11 (kind-is-no-row k e)) refl)
 
-pub version-again : (version k : ℕ) → not (eqb version 1 || (eqb version 2 && eqb k 1)) ≡ false → isKind k ≡ true → version ≡ rowVersion (rowOf version k)
+pub version-again : (version k : ℕ) → not (eqb version 1 || (eqb version 2 && eqb k 1)) ≡ false → isKind k ≡ true
+    → version ≡ rowVersion (rowOf version k)
 version-again version k p e =
     by-test (eqb version 2 && eqb k 1)
     (λ t. rw t (eqb-true version 2 (and-l (eqb version 2) (eqb k 1) t)))

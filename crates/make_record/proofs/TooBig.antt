@@ -57,7 +57,8 @@ highest-fits k j h = field-at (fields k) (row-at table checked k) j h
 
 -- ---- a value of the row k too big for its bytes, the values before it being in their ranges
 
-module _ (k : ℕ) (v : List ℕ) (j : ℕ) (h : j < length (fields k)) (before : Good j (fields k) v 0) (big : bytesHold (getD (fields k) j none .0) ≤ getD v j 0) where
+module _ (k : ℕ) (v : List ℕ) (j : ℕ) (h : j < length (fields k)) (before : Good j (fields k) v 0)
+    (big : bytesHold (getD (fields k) j none .0) ≤ getD v j 0) where
   -- It is the first out of its range, at its position, counted from 1.
   pub too-big : firstBad (fields k) v 0 ≡ suc j
   too-big = sym (rw zero-add at (too-high j (fields k) v 0 before h (rw zero-add (omega (arith, highest-fits k j h, big)))))
@@ -68,5 +69,6 @@ module _ (k : ℕ) (v : List ℕ) (j : ℕ) (h : j < length (fields k)) (before 
   unfolding weigh first
   too-big-is-seven kind row s n y o r p =
       let q : suc j ≡ 0 → ⊥ = λ e. omega arith in
-      let e : weigh (s .account) k v ≡ record { account = refused (s .account) 7 (suc j); lines = [] } = rw (lt-leb _ _ r, p, too-big, ne-eqb _ _ q) in
+      let e : weigh (s .account) k v ≡ record { account = refused (s .account) 7 (suc j); lines = [] } =
+      rw (lt-leb _ _ r, p, too-big, ne-eqb _ _ q) in
       rw (← row, by-reader s kind k v n y o _ (sym (ap (λ a. a .account) e)) refl)

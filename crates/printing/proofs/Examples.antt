@@ -8,7 +8,8 @@ use Rattle.printing.specs.Decimal.{digitsBy, decimal, signed, spaced, jo
 
 -- "8 0 826954 0 875000 0 0 18241034" and a newline
 close-line : numbersLine (8 ∷ 0 ∷ 826954 ∷ 0 ∷ 875000 ∷ 0 ∷ 0 ∷ 18241034 ∷ [])
-    ≡ 56 ∷ 32 ∷ 48 ∷ 32 ∷ 56 ∷ 50 ∷ 54 ∷ 57 ∷ 53 ∷ 52 ∷ 32 ∷ 48 ∷ 32 ∷ 56 ∷ 55 ∷ 53 ∷ 48 ∷ 48 ∷ 48 ∷ 32 ∷ 48 ∷ 32 ∷ 48 ∷ 32 ∷ 49 ∷ 56 ∷ 50 ∷ 52 ∷ 49 ∷ 48 ∷ 51 ∷ 52 ∷ 10 ∷ []
+    ≡ 56 ∷ 32 ∷ 48 ∷ 32 ∷ 56 ∷ 50 ∷ 54 ∷ 57 ∷ 53 ∷ 52 ∷ 32 ∷ 48 ∷ 32 ∷ 56 ∷ 55 ∷ 53 ∷ 48 ∷ 48 ∷ 48 ∷ 32 ∷ 48 ∷ 32 ∷ 48 ∷ 32 ∷ 49 ∷ 56 ∷ 50 ∷ 52 ∷ 49
+    ∷ 48 ∷ 51 ∷ 52 ∷ 10 ∷ []
 unfolding joined spaced decimal digitsBy
 close-line = refl
 

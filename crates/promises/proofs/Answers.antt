@@ -50,16 +50,32 @@ says a taken n = by (ltb (a .stage) 2) (eqb taken n) (eqb (a .stage) 2) refl ref
   where
     by : (p q r : Bool) → ltb (a .stage) 2 ≡ p → eqb taken n ≡ q → eqb (a .stage) 2 ≡ r
         → Says a taken n (numbers (pick p (pick q More Full) (pick r Closed (Refused (a .refusal)))))
-    by true true r e f g =
-        (λ h. eqb-true taken n f, λ h. absurd (omega (arith, ap first-of h)), λ h. absurd (omega (arith, ap first-of h)), λ c k l h. absurd (omega (arith, ap length h)))
-    by true false r e f g =
-        (λ h. absurd (omega (arith, ap first-of h)), λ h. (ltb-true _ _ e, eqb-false taken n f), λ h. absurd (omega (arith, ap first-of h)), λ c k l h. absurd (omega (arith, ap length h)))
-    by false q true e f g =
-        (λ h. absurd (omega (arith, ap first-of h)), λ h. absurd (omega (arith, ap first-of h)), λ h. eqb-true _ _ g, λ c k l h. absurd (omega (arith, ap length h)))
+    by true true r e f g = (
+      λ h. eqb-true taken n f,
+      λ h. absurd (omega (arith, ap first-of h)),
+      λ h. absurd (omega (arith, ap first-of h)),
+      λ c k l h. absurd (omega (arith, ap length h)),
+    )
+    by true false r e f g = (
+      λ h. absurd (omega (arith, ap first-of h)),
+      λ h. (ltb-true _ _ e, eqb-false taken n f),
+      λ h. absurd (omega (arith, ap first-of h)),
+      λ c k l h. absurd (omega (arith, ap length h)),
+    )
+    by false q true e f g = (
+      λ h. absurd (omega (arith, ap first-of h)),
+      λ h. absurd (omega (arith, ap first-of h)),
+      λ h. eqb-true _ _ g,
+      λ c k l h. absurd (omega (arith, ap length h)),
+    )
     by false q false e f g =
         let s : 2 ≤ a .stage = ltb-false _ _ e in
-        let t : a .stage ≡ 2 → ⊥ = eqb-false (a .stage) 2 g in
-        (λ h. absurd (omega (arith, ap length h)), λ h. absurd (omega (arith, ap length h)), λ h. absurd (omega (arith, ap length h)), λ c k l h. (omega (arith, t), refl))
+        let t : a .stage ≡ 2 → ⊥ = eqb-false (a .stage) 2 g in (
+          λ h. absurd (omega (arith, ap length h)),
+          λ h. absurd (omega (arith, ap length h)),
+          λ h. absurd (omega (arith, ap length h)),
+          λ c k l h. (omega (arith, t), refl),
+        )
 
 -- ---- a byte more whose lines do not fit
 
@@ -150,5 +166,6 @@ module _ (s : State) (xs : List ℕ) (room : ℕ) (v : InRange s) where
   -- Refused: its three numbers are those of the refusal in the state handed back.
   pub refused-means : (code number field : ℕ) → numbers (call s xs room .answer) ≡ code ∷ number ∷ field ∷ []
       → (2 < call s xs room .state .account .stage)
-      × (numbers (call s xs room .answer) ≡ call s xs room .state .account .refusal .code ∷ call s xs room .state .account .refusal .accepted ∷ call s xs room .state .account .refusal .field ∷ [])
+      × (numbers (call s xs room .answer) ≡ call s xs room .state .account .refusal .code ∷ call s xs room .state .account .refusal .accepted
+      ∷ call s xs room .state .account .refusal .field ∷ [])
   refused-means = told .3

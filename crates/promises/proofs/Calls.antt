@@ -30,7 +30,9 @@ call-is : (s : State) (xs : List ℕ) (k room : ℕ) → InRange s
       state = run s (take (some s xs k room) xs) .state;
       taken = some s xs k room - length (run s (take (some s xs k room) xs) .left);
       bytes = joined (run s (take (some s xs k room) xs) .lines);
-      answer = answerOf (run s (take (some s xs k room) xs) .state .account) (some s xs k room - length (run s (take (some s xs k room) xs) .left)) (length (take k xs));
+      answer =
+          answerOf (run s (take (some s xs k room) xs) .state .account) (some s xs k room - length (run s (take (some s xs k room) xs) .left))
+          (length (take k xs));
     }
 call-is s xs k room v =
     let n = some s xs k room in
@@ -45,7 +47,8 @@ tail-on : (l xs : List ℕ) (n : ℕ) → n ≤ length xs → Tail l (take n xs)
 tail-on l xs n h t =
     let k : length (take n xs) ≡ n = length-take-le n xs h in
     let m : n - length l ≡ t .at = omega (arith, ap length (t .is), length-drop (t .at) (take n xs), t .inside) in
-    let e : drop (t .at) (take n xs ++ drop n xs) ≡ drop (t .at) (take n xs) ++ drop n xs = drop-append-le (t .at) (take n xs) (drop n xs) (t .inside) in
+    let e : drop (t .at) (take n xs ++ drop n xs) ≡ drop (t .at) (take n xs) ++ drop n xs =
+    drop-append-le (t .at) (take n xs) (drop n xs) (t .inside) in
     rw (m, t .is) (rw take-append-drop at e)
 
 -- a run is a call, and then a run of what is left

@@ -35,7 +35,8 @@ unfolding longest
 longest-next ok zero h = absurd (omega arith)
 longest-next ok (suc k) h = next (ok (suc k)) refl (longest-most ok k) h (longest-next ok k)
   where
-    next : (b : Bool) → ok (suc k) ≡ b → longest ok k ≤ k → pick b (suc k) (longest ok k) < suc k → (longest ok k < k → ok (longest ok k + 1) ≡ false) → ok (pick b (suc k) (longest ok k) + 1) ≡ false
+    next : (b : Bool) → ok (suc k) ≡ b → longest ok k ≤ k → pick b (suc k) (longest ok k) < suc k → (longest ok k < k → ok (longest ok k + 1) ≡ false)
+        → ok (pick b (suc k) (longest ok k) + 1) ≡ false
     next true e m h ih = absurd (omega arith)
     next false e m h ih =
         ⊎-elim ih (λ (p : k ≤ longest ok k). let z : longest ok k + 1 ≡ suc k = omega arith in rw z e) (lt-or-ge (longest ok k) k)

@@ -39,12 +39,14 @@ use Rattle.promises.specs.Headings.{acceptedRecords, groupBy, lastGroup,
 both-same : (k k′ g g′ : ℕ) → k ≡ k′ → g ≡ g′ → _≡_ {A = Mark} (record { kind = k; group = g }) (record { kind = k′; group = g′ })
 both-same k k′ g g′ p q = rw (p, q)
 
-pub line-mark : (k g ch4 n2o co2 excreted land grazing : ℕ) → k < 256 → g < 65536 → markOf (lineBytes k g ch4 n2o co2 excreted land grazing) ≡ record { kind = k; group = g }
+pub line-mark : (k g ch4 n2o co2 excreted land grazing : ℕ) → k < 256 → g < 65536
+    → markOf (lineBytes k g ch4 n2o co2 excreted land grazing) ≡ record { kind = k; group = g }
 unfolding lineBytes lineFields bytesOf be valAt
 line-mark k g ch4 n2o co2 excreted land grazing p q =
     both-same (0 + k % 256) k ((0 + g / 256 % 256) * 256 + g % 256) g (omega arith) (omega arith)
 
-pub total-mark : (ch4 n2o co2 excreted land grazing co2e : ℕ) → markOf (totalBytes ch4 n2o co2 excreted land grazing co2e) ≡ record { kind = 8; group = 0 }
+pub total-mark : (ch4 n2o co2 excreted land grazing co2e : ℕ)
+    → markOf (totalBytes ch4 n2o co2 excreted land grazing co2e) ≡ record { kind = 8; group = 0 }
 unfolding totalBytes totalFields bytesOf be valAt
 total-mark ch4 n2o co2 excreted land grazing co2e = refl
 
@@ -53,7 +55,8 @@ map-append [] ys = refl
 map-append (x ∷ xs) ys = ap (λ (l : List Mark). markOf x ∷ l) (map-append xs ys)
 
 pub group-most : (a : Account) → AccountInRange a → a .heading .group ≤ 65535
-group-most a f = ⊎-elim (λ (h : Headed (a .heading) (a .days) (a .records)). h .group-most) (λ (u : Unheaded (a .heading) (a .days)). omega arith) (f .heading)
+group-most a f =
+    ⊎-elim (λ (h : Headed (a .heading) (a .days) (a .records)). h .group-most) (λ (u : Unheaded (a .heading) (a .days)). omega arith) (f .heading)
 
 -- ---- what one record does
 
@@ -78,7 +81,8 @@ module _ (a : Account) (r : List ℕ) (f : AccountInRange a) (kinds : isRow (kin
   group-marks = go (eqb (a .heading .group) 0)
     where
       go : (b : Bool)
-          → map markOf (pick b [] (lineWith 16 (a .heading .group) (groupFigures (a .subtotal)) ∷ [])) ≡ pick b [] (record { kind = 16; group = a .heading .group } ∷ [])
+          → map markOf (pick b [] (lineWith 16 (a .heading .group) (groupFigures (a .subtotal)) ∷ [])) ≡ pick b []
+          (record { kind = 16; group = a .heading .group } ∷ [])
       go true = refl
       go false = ap (λ (m : Mark). m ∷ []) (line-mark _ _ _ _ _ _ _ _ (omega arith) (omega (arith, group-most a f)))
 
@@ -94,7 +98,8 @@ module _ (a : Account) (r : List ℕ) (f : AccountInRange a) (kinds : isRow (kin
 
   close-marks : map markOf (subtotals a ++ (totalOf a ∷ [])) ≡ subtotalMark (a .heading .group) ++ (record { kind = 8; group = 0 } ∷ [])
   close-marks =
-      map-append (subtotals a) (totalOf a ∷ []) ∙ rw group-marks (ap (λ (m : Mark). subtotalMark (a .heading .group) ++ (m ∷ [])) (total-mark _ _ _ _ _ _ _))
+      map-append (subtotals a) (totalOf a ∷ []) ∙ rw group-marks (ap (λ (m : Mark). subtotalMark (a .heading .group) ++ (m ∷ []))
+      (total-mark _ _ _ _ _ _ _))
 
   grown : Grown a r (accepted a (kindOf r) (valuesOf r))
   unfolding accepted lastGroup
@@ -102,8 +107,16 @@ module _ (a : Account) (r : List ℕ) (f : AccountInRange a) (kinds : isRow (kin
       by-sort (Grown a r) (sortOf (kindOf r))
       (λ e. record { counted = refl; marks = rw e refl; group = rw e refl })
       new-heading
-      (λ e. record { counted = refl; marks = rw e (ap (λ (m : Mark). m ∷ []) (line-mark _ _ _ _ _ _ _ _ small-kind (omega (arith, group-most a f)))); group = rw e refl })
-      (λ e. record { counted = refl; marks = rw e (ap (λ (m : Mark). m ∷ []) (line-mark _ _ _ _ _ _ _ _ small-kind (omega arith))); group = rw e refl })
+      (λ e. record {
+        counted = refl;
+        marks = rw e (ap (λ (m : Mark). m ∷ []) (line-mark _ _ _ _ _ _ _ _ small-kind (omega (arith, group-most a f))));
+        group = rw e refl;
+      })
+      (λ e. record {
+        counted = refl;
+        marks = rw e (ap (λ (m : Mark). m ∷ []) (line-mark _ _ _ _ _ _ _ _ small-kind (omega arith)));
+        group = rw e refl;
+      })
       (λ e. record { counted = refl; marks = close-marks ∙ rw e refl; group = rw e refl })
 
 pub kind-in : (a : Account) (r : List ℕ) → first (refusals a r) ≡ 0 → isRow (kindOf r) ≡ true
@@ -131,7 +144,8 @@ none-marked a xs r e n =
     record { grows = omega arith; marks = rw (n, z) refl }
 
 -- one accepted, and then those behind it
-one-marked : (a : Account) (xs : List ℕ) (j : Step) (b : Run) → front xs ≡ whole → Grown a (take (need xs) xs) j → Marked (j .account) (drop (need xs) xs) b
+one-marked : (a : Account) (xs : List ℕ) (j : Step) (b : Run) → front xs ≡ whole → Grown a (take (need xs) xs) j
+    → Marked (j .account) (drop (need xs) xs) b
     → Marked a xs (record { state = b .state; lines = j .lines ++ b .lines; left = b .left })
 unfolding marksOf
 one-marked a xs j b e g m =
@@ -141,7 +155,8 @@ one-marked a xs j b e g m =
       marks = rw (map-append, g .marks, m .marks, g .group, n, records-whole xs e) refl;
     }
 
-marked-at : (a : Account) (xs : List ℕ) → AccountInRange a → a .stage < 2 → ((t : Account) (zs : List ℕ) → length zs < length xs → AccountInRange t → Marked t zs (book t zs))
+marked-at : (a : Account) (xs : List ℕ) → AccountInRange a → a .stage < 2
+    → ((t : Account) (zs : List ℕ) → length zs < length xs → AccountInRange t → Marked t zs (book t zs))
     → (f : Front) → front xs ≡ f → Marked a xs (book a xs)
 marked-at a xs v k ih unfinished e = rw (book-unfinished a xs k e) (none-marked a xs _ refl refl)
 marked-at a xs v k ih badLength e = rw (book-bad a xs k e) (none-marked a xs _ refl refl)
@@ -155,7 +170,8 @@ marked-at a xs v k ih whole e =
     (λ (s : Stopped a j).
     let c = s .counted in
     rw (book-ended (j .account) rest (omega (arith, s .stage)), s .none) (none-marked a xs _ c refl))
-    (λ (g : Grown a (take (need xs) xs) j). one-marked a xs j (book (j .account) rest) e g (ih (j .account) rest short (in-range-judge a (take (need xs) xs) v k)))
+    (λ (g : Grown a (take (need xs) xs) j). one-marked a xs j (book (j .account) rest) e g
+    (ih (j .account) rest short (in-range-judge a (take (need xs) xs) v k)))
     (judged a (take (need xs) xs) v))
 
 pub marked : (n : ℕ) (a : Account) (xs : List ℕ) → length xs < n → AccountInRange a → Marked a xs (book a xs)
@@ -179,17 +195,24 @@ unfolding marksOf lastGroup
 marks-append g [] ys = refl
 marks-append g (x ∷ xs) ys = rw (marks-append (groupBy g x) xs ys, append-assoc)
 
-under-heading : (g : ℕ) (r : List ℕ) (rs : List (List ℕ)) → sortOf (kindOf r) ≡ ofGroup → marksOf g (r ∷ rs) ≡ record { kind = kindOf r; group = g } ∷ marksOf g rs
+under-heading : (g : ℕ) (r : List ℕ) (rs : List (List ℕ)) → sortOf (kindOf r) ≡ ofGroup
+    → marksOf g (r ∷ rs) ≡ record { kind = kindOf r; group = g } ∷ marksOf g rs
 unfolding marksOf lastGroup
 under-heading g r rs e = rw e refl
 
 -- Every ration and manure line bears the last group heading before it: where the records accepted are some, then r, a detail of a group, then
 -- others, the lines are those of the first ones, then one of r's kind with the group of the last heading among the first ones (the
 -- state's where there is none), then those of the others.
-pub bears-last-heading : (s : State) (xs : List ℕ) → InRange s → (before after : List (List ℕ)) (r : List ℕ) → acceptedRecords s xs ≡ before ++ (r ∷ after) → sortOf (kindOf r) ≡ ofGroup
+pub bears-last-heading : (s : State) (xs : List ℕ) → InRange s → (before after : List (List ℕ)) (r : List ℕ)
+    → acceptedRecords s xs ≡ before ++ (r ∷ after) → sortOf (kindOf r) ≡ ofGroup
     → map markOf (run s xs .lines)
     ≡ marksOf (s .account .heading .group) before
-    ++ (record { kind = kindOf r; group = lastGroup (s .account .heading .group) before } ∷ marksOf (lastGroup (s .account .heading .group) before) after)
+    ++ (record { kind = kindOf r; group = lastGroup (s .account .heading .group) before }
+    ∷ marksOf (lastGroup (s .account .heading .group) before) after)
 bears-last-heading s xs v before after r e q =
     headings s xs v
-    ∙ rw (e, marks-append (s .account .heading .group) before (r ∷ after), under-heading (lastGroup (s .account .heading .group) before) r after q) refl
+    ∙ rw (
+      e,
+      marks-append (s .account .heading .group) before (r ∷ after),
+      under-heading (lastGroup (s .account .heading .group) before) r after q,
+    ) refl

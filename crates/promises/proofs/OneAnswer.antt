@@ -53,8 +53,8 @@ one-feed κs args f g e e′ p q = (p .0 ∙ sym (q .0), p .1 .0 ∙ sym (q .1 .
 
 -- ---- the functions below the book
 
--- Two answers that each equal what a definition gives are equal: every contract of codec, printing, typed_words, listing and desk, and of account but for
--- judge, says that the result, or the buffer at the end, equals such a value.
+-- Two answers that each equal what a definition gives are equal: every contract of codec, printing, typed_words, listing and desk, and of account but
+-- for judge, says that the result, or the buffer at the end, equals such a value.
 pub one-equation : {A : Type 0} (value one other : A) → one ≡ value → other ≡ value → one ≡ other
 one-equation value one other p q = p ∙ sym q
 

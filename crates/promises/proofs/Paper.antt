@@ -91,7 +91,8 @@ unfolding table size valAt be valuesAt firstBad bytesOf lineBytes totalBytes lin
 ended-way = inl refl
 
 -- A ration after a heading: the third record of the sample, under group 12.
-pub ration-under-heading : (acceptedRecords noRecordYet sample ≡ take 2 (recordsOf sample) ++ (getD (recordsOf sample) 2 [] ∷ drop 3 (recordsOf sample)))
+pub ration-under-heading : (acceptedRecords noRecordYet sample ≡ take 2 (recordsOf sample)
+    ++ (getD (recordsOf sample) 2 [] ∷ drop 3 (recordsOf sample)))
     × ((kindOf (getD (recordsOf sample) 2 []) ≡ 3) × (lastGroup 0 (take 2 (recordsOf sample)) ≡ 12))
 unfolding table size valAt valuesAt firstBad first inPlace accepted sortOf judge front bookBy book run recordsBy recordsOf lastGroup
 ration-under-heading = (refl, (refl, refl))

@@ -37,7 +37,8 @@ rule-three s xs ps v e =
     let w = way s xs ps in
     let g = way-goes ps s xs v in
     let done : outcome (run (w .state) (w .left)) ≡ record { state = w .state; bytes = []; left = w .left } =
-    ⊎-elim (λ (h : w .left ≡ []). rw (h, run-none (w .state) (g .range))) (λ (h : 2 ≤ w .state .account .stage). rw (run-ended (w .state) (w .left) (g .range) h)) e in
+    ⊎-elim (λ (h : w .left ≡ []). rw (h, run-none (w .state) (g .range)))
+    (λ (h : 2 ≤ w .state .account .stage). rw (run-ended (w .state) (w .left) (g .range) h)) e in
     sym (g .on ∙ ap (join w) done ∙ rw append-nil)
 
 -- Two series of calls over one run, each at its end, give the same state, the same lines, and leave the same bytes.

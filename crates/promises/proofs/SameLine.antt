@@ -32,12 +32,14 @@ use Rattle.book.proofs.FrontLaws.{is-whole, length-append-two, whole-append}
 use Rattle.book.proofs.RunLaws.{book-whole, book-none}
 use Rattle.promises.specs.Paper.{everyKind}
 use Rattle.promises.specs.WholeLines.{isDetail, lastHeading, headingFrom}
-use Rattle.promises.specs.SameLine.{lastHeadingFrom, headingBefore, Accepts, Gives, lineUnder, sharedHeading, sharedPig, everyKindBefore, otherBefore, otherBook, sharedLine}
+use Rattle.promises.specs.SameLine.{lastHeadingFrom, headingBefore, Accepts, Gives, lineUnder, sharedHeading, sharedPig, everyKindBefore}
+use Rattle.promises.specs.SameLine.{otherBefore, otherBook, sharedLine}
 use Rattle.promises.proofs.WholeLines.{Next, next, shaped, bookRecords}
 
 -- ---- a record at the front of a book
 
-pub book-record : (a : Account) (r ys : List ℕ) → WholeRecord r → a .stage < 2 → book a (r ++ ys) ≡ then (judge a r .lines) (book (judge a r .account) ys)
+pub book-record : (a : Account) (r ys : List ℕ) → WholeRecord r → a .stage < 2
+    → book a (r ++ ys) ≡ then (judge a r .lines) (book (judge a r .account) ys)
 book-record a r ys w early =
     let e = whole-append r ys (is-whole r (omega (arith, w .long), w .low, w .high, omega (arith, w .long))) in
     let n : need (r ++ ys) ≡ length r = rw (length-append-two r ys (omega (arith, w .long))) (sym (w .long)) in
@@ -58,7 +60,9 @@ heading-after h r closes = refl
 last-is : (rs : List (List ℕ)) (h : List ℕ) → lastHeading (headingFrom h) rs ≡ headingFrom (lastHeadingFrom h rs)
 unfolding lastHeading lastHeadingFrom
 last-is [] h = refl
-last-is (r ∷ rs) h = ap (λ (g : Heading). lastHeading g rs) (heading-after h r (sortOf (kindOf r))) ∙ last-is rs (pick (bySort (sortOf (kindOf r)) false true false false false) r h)
+last-is (r ∷ rs) h =
+    ap (λ (g : Heading). lastHeading g rs) (heading-after h r (sortOf (kindOf r)))
+    ∙ last-is rs (pick (bySort (sortOf (kindOf r)) false true false false false) r h)
 
 -- no bytes say what there is before any heading
 no-heading : headingFrom [] ≡ noRecord .heading
@@ -107,7 +111,8 @@ gives-line xs before r k d =
     let s = stands before (k .after) r d noRecord xs in-range-none (k .records) in
     record {
       others = s .others;
-      lines = s .lines ∙ ap (λ (g : Heading). book noRecord (joined before) .lines ++ (lineOf g (kindOf r) (valuesOf r) ∷ s .others)) (heading-is before);
+      lines =
+          s .lines ∙ ap (λ (g : Heading). book noRecord (joined before) .lines ++ (lineOf g (kindOf r) (valuesOf r) ∷ s .others)) (heading-is before);
     }
 
 -- and no other.
@@ -131,8 +136,8 @@ same-under r g h ofGroup e d q = rw (q e) refl
 same-under r g h ofFarm e d q = farm-line (headingFrom g) (headingFrom h) (kindOf r) (valuesOf r) e
 same-under r g h closes e d q = no-bool d
 
--- Two books, any bytes, each accepted up to and with the detail record r; where r is a detail of the group, the last heading records before it are the
--- same. Then its line is the same. All else is free: the other records before it and their number, the farm record with its warming set among
+-- Two books, any bytes, each accepted up to and with the detail record r; where r is a detail of the group, the last heading records before it are
+-- the same. Then its line is the same. All else is free: the other records before it and their number, the farm record with its warming set among
 -- them, and whatever stands behind it.
 pub same-line : (xs ys : List ℕ) (before before′ : List (List ℕ)) (r l l′ : List ℕ)
     → Accepts xs before r → Accepts ys before′ r
@@ -151,7 +156,8 @@ unfolding table size valAt valuesAt firstBad first inPlace accepted cattle.below
 shared-accepted = (record { after = drop 8 (recordsOf everyKind); records = refl }, record { after = []; records = refl })
 
 -- it is a detail of the group, and the last heading records before it are the same:
-pub shared-heading : (sortOf (kindOf sharedPig) ≡ ofGroup) × ((headingBefore everyKindBefore ≡ sharedHeading) × (headingBefore otherBefore ≡ sharedHeading))
+pub shared-heading : (sortOf (kindOf sharedPig) ≡ ofGroup) × ((headingBefore everyKindBefore ≡ sharedHeading) ×
+    (headingBefore otherBefore ≡ sharedHeading))
 unfolding sortOf valAt front recordsBy recordsOf lastHeadingFrom
 shared-heading = (refl, (refl, refl))
 

@@ -45,6 +45,7 @@ unfolding answerOf
 refused-answer s xs room v e = rw (ended-for-ever s xs room v (omega arith), e)
 
 -- A state outside the ranges is handed back as given, nothing is taken or written, and the answer is 13.
-pub outside-answer : (s : State) (xs : List ℕ) (room : ℕ) → inRange s ≡ false → (call s xs room ≡ outside s) × (numbers (call s xs room .answer) ≡ 13 ∷ 0 ∷ 0 ∷ [])
+pub outside-answer : (s : State) (xs : List ℕ) (room : ℕ) → inRange s ≡ false
+    → (call s xs room ≡ outside s) × (numbers (call s xs room .answer) ≡ 13 ∷ 0 ∷ 0 ∷ [])
 unfolding call
 outside-answer s xs room e = rw e (refl, refl)

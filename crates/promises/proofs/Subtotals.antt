@@ -36,7 +36,8 @@ use Rattle.book.proofs.WholeRecordLaws.{records-whole}
 use Rattle.promises.proofs.StaysInRange.{new-in-range}
 use Rattle.book.proofs.RunLaws.{book-ended, book-unfinished, book-bad, book-whole}
 use Rattle.promises.specs.Headings.{Mark, acceptedRecords}
-use Rattle.promises.specs.Subtotals.{detailOf, headingAfter, groupAfter, farmAfter, Group, groupUnder, ends, groupsOf, farmOf, farm, groups, addedUp, lineOfGroup, subtotalLines}
+use Rattle.promises.specs.Subtotals.{detailOf, headingAfter, groupAfter, farmAfter, Group, groupUnder, ends, groupsOf, farmOf, farm, groups}
+use Rattle.promises.specs.Subtotals.{addedUp, lineOfGroup, subtotalLines}
 use Rattle.promises.proofs.Headings.{line-mark, total-mark, group-most, kind-in}
 
 -- ---- lines of kind 16
@@ -99,7 +100,9 @@ module _ (a : Account) (r : List ℕ) (f : AccountInRange a) (kinds : isRow (kin
           → subtotalLines (pick b [] (lineWith 16 (a .heading .group) (groupFigures (a .subtotal)) ∷ []))
           ≡ map lineOfGroup (pick b [] (record { number = a .heading .group; subtotal = a .subtotal } ∷ []))
       go true = refl
-      go false = own-line (lineWith 16 (a .heading .group) (groupFigures (a .subtotal))) (line-kind 16 (a .heading .group) _ (omega arith) (omega (arith, group-most a f)))
+      go false =
+          own-line (lineWith 16 (a .heading .group) (groupFigures (a .subtotal)))
+          (line-kind 16 (a .heading .group) _ (omega arith) (omega (arith, group-most a f)))
 
   -- a detail gives no subtotal line
   detail-line : (g : ℕ) → g < 65536 → subtotalLines (lineWith (kindOf r) g (detailOf (a .heading) r) ∷ []) ≡ []
@@ -195,7 +198,8 @@ ended-group : (a : Account) → AccountInRange a → (x : Gas) → addedUp (x .g
 unfolding addedUp
 ended-group a f x = go (eqb (a .heading .group) 0) refl
   where
-    go : (b : Bool) → eqb (a .heading .group) 0 ≡ b → addedUp (x .group) (pick b [] (record { number = a .heading .group; subtotal = a .subtotal } ∷ [])) ≡ x .group (a .subtotal)
+    go : (b : Bool) → eqb (a .heading .group) 0 ≡ b
+        → addedUp (x .group) (pick b [] (record { number = a .heading .group; subtotal = a .subtotal } ∷ [])) ≡ x .group (a .subtotal)
     go true e = sym (x .ungrouped (a .subtotal) (f .ungrouped (eqb-true _ _ e)))
     go false e = omega arith
 
@@ -209,11 +213,13 @@ module _ (a : Account) (r : List ℕ) (f : AccountInRange a) (x : Gas) where
   unfolding figuresOf
   air-alone e =
       let n = not-of-group (kindOf r) e in
-      rw (n .0, n .1 .0, n .1 .1 .0, n .1 .1 .1) (of-choice Nothing (eqb (kindOf r) 6) (λ e. x .air _) (λ e. of-choice Nothing (eqb (kindOf r) 7) (λ e. x .air _) (λ e. x .air _)))
+      rw (n .0, n .1 .0, n .1 .1 .0, n .1 .1 .1) (of-choice Nothing (eqb (kindOf r) 6) (λ e. x .air _)
+      (λ e. of-choice Nothing (eqb (kindOf r) 7) (λ e. x .air _) (λ e. x .air _)))
 
   abbrev Balanced : Sort → Type 0
   Balanced s =
-      x .farm (bySort s (a .sums) (a .sums) (added (a .sums) (detailOf (a .heading) r)) (added (a .sums) (detailOf (a .heading) r)) (a .sums)) + x .group (a .subtotal)
+      x .farm (bySort s (a .sums) (a .sums) (added (a .sums) (detailOf (a .heading) r)) (added (a .sums) (detailOf (a .heading) r)) (a .sums)) + x
+      .group (a .subtotal)
       ≡ x .farm (a .sums) + addedUp (x .group) (bySort s [] (groupUnder (a .heading) (a .subtotal)) [] [] (groupUnder (a .heading) (a .subtotal)))
       + x .group (bySort s (a .subtotal) noSubtotal (grouped (a .subtotal) (detailOf (a .heading) r)) (a .subtotal) (a .subtotal))
 
@@ -239,7 +245,8 @@ closes-by ofFarm e = no-bool e
 closes-by closes e = refl
 
 -- one record accepted, and then those behind it
-module _ (a : Account) (xs : List ℕ) (j : Step) (b : Run) (f : AccountInRange a) (early : a .stage < 2) (e : front xs ≡ whole) (m : Made a (take (need xs) xs) j)
+module _ (a : Account) (xs : List ℕ) (j : Step) (b : Run) (f : AccountInRange a) (early : a .stage < 2) (e : front xs ≡ whole)
+    (m : Made a (take (need xs) xs) j)
     (g : Grows (j .account) (drop (need xs) xs) b) (shut : j .account .stage ≡ 2 → b .state .account ≡ j .account) where
   abbrev r : List ℕ
   r = take (need xs) xs
@@ -251,19 +258,27 @@ module _ (a : Account) (xs : List ℕ) (j : Step) (b : Run) (f : AccountInRange 
   one-more = omega (arith, m .counted, g .grows)
 
   -- what is behind it, from what it makes
-  behind : groupsOf (j .account .heading) (j .account .subtotal) rs ≡ groupsOf (headingAfter (a .heading) r) (groupAfter (a .heading) (a .subtotal) r) rs
+  behind : groupsOf (j .account .heading) (j .account .subtotal) rs ≡ groupsOf (headingAfter (a .heading) r)
+      (groupAfter (a .heading) (a .subtotal) r) rs
   behind = rw (m .heading, m .subtotal) refl
 
   open-balance : (x : Gas) → closing r ≡ false → b .state .account .stage ≡ 2
-      → x .farm (b .state .account .sums) + x .group (a .subtotal) ≡ x .farm (a .sums) + addedUp (x .group) (ends (a .heading) (a .subtotal) r ++ groupsOf (headingAfter (a .heading) r) (groupAfter (a .heading) (a .subtotal) r) rs)
+      → x .farm (b .state .account .sums) + x .group (a .subtotal) ≡ x .farm (a .sums) + addedUp (x .group)
+      (ends (a .heading) (a .subtotal) r ++ groupsOf (headingAfter (a .heading) r) (groupAfter (a .heading) (a .subtotal) r) rs)
   open-balance x e8 q =
       let i = g .summed .closed x (m .still early e8) q in
-      let c : x .farm (j .account .sums) + x .group (a .subtotal) ≡ x .farm (a .sums) + addedUp (x .group) (ends (a .heading) (a .subtotal) r) + x .group (j .account .subtotal) =
+      let c : x .farm (j .account .sums) + x .group (a .subtotal) ≡ x .farm (a .sums) + addedUp (x .group)
+      (ends (a .heading) (a .subtotal) r) + x .group (j .account .subtotal) =
       rw (m .sums, m .subtotal) (balance a r f x e8) in
-      rw (added-append (x .group) (ends (a .heading) (a .subtotal) r) (groupsOf (headingAfter (a .heading) r) (groupAfter (a .heading) (a .subtotal) r) rs), ← behind) (omega arith)
+      rw (
+        added-append (x .group) (ends (a .heading) (a .subtotal) r) (groupsOf (headingAfter (a .heading) r)
+            (groupAfter (a .heading) (a .subtotal) r) rs),
+        ← behind,
+      ) (omega arith)
 
   closing-balance : (x : Gas) → closing r ≡ true
-      → x .farm (b .state .account .sums) + x .group (a .subtotal) ≡ x .farm (a .sums) + addedUp (x .group) (ends (a .heading) (a .subtotal) r ++ groupsOf (headingAfter (a .heading) r) (groupAfter (a .heading) (a .subtotal) r) rs)
+      → x .farm (b .state .account .sums) + x .group (a .subtotal) ≡ x .farm (a .sums) + addedUp (x .group)
+      (ends (a .heading) (a .subtotal) r ++ groupsOf (headingAfter (a .heading) r) (groupAfter (a .heading) (a .subtotal) r) rs)
   unfolding groupsOf
   closing-balance x e8 =
       let k = closes-by (sortOf (kindOf r)) e8 in
@@ -281,8 +296,11 @@ module _ (a : Account) (xs : List ℕ) (j : Step) (b : Run) (f : AccountInRange 
             rw (one-more, records-whole xs e)
             (record {
               sums = rw (m .heading, m .sums) at (g .summed .sums);
-              lines = lines-append (j .lines) (b .lines) ∙ rw (m .lines, g .summed .lines, behind, map-append (ends (a .heading) (a .subtotal) r)) refl;
-              closed = λ x h q. ⊎-elim (λ (e : closing r ≡ true). closing-balance x e) (λ (e : closing r ≡ false). open-balance x e q) (true-or-false (closing r));
+              lines =
+                  lines-append (j .lines) (b .lines) ∙ rw (m .lines, g .summed .lines, behind, map-append (ends (a .heading) (a .subtotal) r)) refl;
+              closed =
+                  λ x h q. ⊎-elim (λ (e : closing r ≡ true). closing-balance x e) (λ (e : closing r ≡ false). open-balance x e q)
+                  (true-or-false (closing r));
             });
       }
 
@@ -300,7 +318,8 @@ judged a r f =
     (λ e. inr (made a r f (kind-in a r (eqb-true _ _ e))))
     (λ e. inl (record { stage = refl; counted = refl; sums = refl; none = refl }))
 
-summed-at : (a : Account) (xs : List ℕ) → AccountInRange a → a .stage < 2 → ((t : Account) (zs : List ℕ) → length zs < length xs → AccountInRange t → Grows t zs (book t zs))
+summed-at : (a : Account) (xs : List ℕ) → AccountInRange a → a .stage < 2
+    → ((t : Account) (zs : List ℕ) → length zs < length xs → AccountInRange t → Grows t zs (book t zs))
     → (f : Front) → front xs ≡ f → Grows a xs (book a xs)
 summed-at a xs v k ih unfinished e = rw (book-unfinished a xs k e) (none-summed a xs _ refl refl refl (λ h q. omega arith))
 summed-at a xs v k ih badLength e = rw (book-bad a xs k e) (none-summed a xs _ refl refl refl (λ h q. omega arith))
@@ -336,11 +355,13 @@ from-state s xs v = summed (suc (length (heldOf s ++ xs))) (s .account) (heldOf 
 -- ---- the theorems
 
 -- The subtotal lines of a run, in order, are those of the groups that end in the records accepted.
-pub subtotal-lines : (s : State) (xs : List ℕ) → InRange s → subtotalLines (run s xs .lines) ≡ map lineOfGroup (groupsOf (s .account .heading) (s .account .subtotal) (acceptedRecords s xs))
+pub subtotal-lines : (s : State) (xs : List ℕ) → InRange s
+    → subtotalLines (run s xs .lines) ≡ map lineOfGroup (groupsOf (s .account .heading) (s .account .subtotal) (acceptedRecords s xs))
 subtotal-lines s xs v = from-state s xs v .lines
 
 -- The sums of the state reached, which the total line bears, are the farm's figures.
-pub sums-of-farm : (s : State) (xs : List ℕ) → InRange s → run s xs .state .account .sums ≡ farmOf (s .account .heading) (s .account .sums) (acceptedRecords s xs)
+pub sums-of-farm : (s : State) (xs : List ℕ) → InRange s
+    → run s xs .state .account .sums ≡ farmOf (s .account .heading) (s .account .sums) (acceptedRecords s xs)
 sums-of-farm s xs v = from-state s xs v .sums
 
 -- the four figures that groups have
@@ -392,7 +413,8 @@ land =
       ungrouped = λ s u. u .land;
     }
 
-whole-book : (x : Gas) (xs : List ℕ) → run noRecordYet xs .state .account .stage ≡ 2 → x .farm (farm xs) + x .group noSubtotal ≡ x .farm noFigures + addedUp (x .group) (groups xs)
+whole-book : (x : Gas) (xs : List ℕ) → run noRecordYet xs .state .account .stage ≡ 2
+    → x .farm (farm xs) + x .group noSubtotal ≡ x .farm noFigures + addedUp (x .group) (groups xs)
 whole-book x xs e = rw (sums-of-farm noRecordYet xs new-in-range) at (from-state noRecordYet xs new-in-range .closed x (omega arith) e)
 
 -- In a closed book the farm's CH4, N2O, excreted and land nitrogen, and those of its groups' subtotals added up, are equal: each made from

@@ -56,7 +56,12 @@ module _ (s : State) (b : ℕ) (v : InRange s) (early : s .account .stage < 2) w
       let h = held-whole (heldOf s) (b ∷ []) (v .begun) in
       let j = judge (s .account) (take (need zs) zs) in
       let d : drop (need zs) zs ≡ [] = drop-of-length-le zs {i = need zs} (omega (arith, length-append (heldOf s) (b ∷ []))) in
-      rw (book-whole (s .account) zs early e, d, book-none (j .account) (in-range-judge (s .account) (take (need zs) zs) (v .account) early), append-nil)
+      rw (
+        book-whole (s .account) zs early e,
+        d,
+        book-none (j .account) (in-range-judge (s .account) (take (need zs) zs) (v .account) early),
+        append-nil,
+      )
       (judge-short (s .account) (take (need zs) zs))
 
   one-short : length (joined (run s (b ∷ []) .lines)) ≤ linesMost

@@ -44,12 +44,14 @@ way-leaves (p ∷ ps) s xs v =
     }
 
 -- A series of calls at its end has taken all bytes but those that rule 2 leaves for the uncut run.
-pub taken-by-rule-two : (s : State) (xs : List ℕ) (ps : List Part) → InRange s → Ended (way s xs ps) → takenBy s xs ps ≡ length xs - length (run s xs .left)
+pub taken-by-rule-two : (s : State) (xs : List ℕ) (ps : List Part) → InRange s → Ended (way s xs ps)
+    → takenBy s xs ps ≡ length xs - length (run s xs .left)
 taken-by-rule-two s xs ps v e =
     let w = way-leaves ps s xs v in
     let l : run s xs .left ≡ drop (takenBy s xs ps) xs = sym (ap (λ (o : Outcome). o .left) (rule-three s xs ps v e)) ∙ w .left in
     omega (arith, w .most, ap length l, length-drop (takenBy s xs ps) xs)
 
 -- Two series of calls over one run, each at its end, have taken equally many bytes.
-pub equally-many : (s : State) (xs : List ℕ) (ps qs : List Part) → InRange s → Ended (way s xs ps) → Ended (way s xs qs) → takenBy s xs ps ≡ takenBy s xs qs
+pub equally-many : (s : State) (xs : List ℕ) (ps qs : List Part) → InRange s → Ended (way s xs ps) → Ended (way s xs qs)
+    → takenBy s xs ps ≡ takenBy s xs qs
 equally-many s xs ps qs v d e = taken-by-rule-two s xs ps v d ∙ sym (taken-by-rule-two s xs qs v e)

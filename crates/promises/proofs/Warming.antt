@@ -17,7 +17,8 @@ use Rattle.grams.specs.Farm.{setFactors}
 use Rattle.grams.specs.declared.farm.Factors.{Factors}
 use Rattle.account.specs.declared.Account.{Account}
 use Rattle.account.specs.Sorts.{isFarm, opens, heads, ofGroup, ofFarm, closes, Sort, sortOf, bySort}
-use Rattle.account.specs.Judge.{WholeRecord, versionOf, opened, refused, kindByte, kindOf, valuesOf, noRecord, refusals, first, inPlace, Step, accepted, weigh, judge}
+use Rattle.account.specs.Judge.{WholeRecord, versionOf, opened, refused, kindByte, kindOf, valuesOf, noRecord, refusals, first, inPlace, Step}
+use Rattle.account.specs.Judge.{accepted, weigh, judge}
 use Rattle.account.specs.Told.{Kind}
 use Rattle.account.proofs.Sorts.{by-sort}
 use Rattle.account.proofs.Refusals.{not-refused}
@@ -71,7 +72,8 @@ book-keeps (suc n) a xs h =
     go (ltb (a .stage) 2) (front xs) (book-keeps n (judge a (take (need xs) xs) .account) (drop (need xs) xs) (k .1) ∙ k .0)
   where
     go : (b : Bool) (f : Front) → bookBy n (judge a (take (need xs) xs) .account) (drop (need xs) xs) .state .account .factors ≡ a .factors
-        → pick b (byFront f a xs (bookBy n (judge a (take (need xs) xs) .account) (drop (need xs) xs))) (ended a xs) .state .account .factors ≡ a .factors
+        → pick b (byFront f a xs (bookBy n (judge a (take (need xs) xs) .account) (drop (need xs) xs)))
+        (ended a xs) .state .account .factors ≡ a .factors
     go false f ih = refl
     go true unfinished ih = refl
     go true badLength ih = refl
@@ -96,7 +98,12 @@ unfolding judge
 set-opens r k =
     of-choice (Opens (valuesOf r)) (eqb (first (refusals noRecord r)) 0) (λ e. accepted-opens (kindOf r) (valuesOf r) k) (λ e. never e)
   where
-    never : eqb (first (refusals noRecord r)) 0 ≡ false → Opens (valuesOf r) (record { account = refused noRecord (first (refusals noRecord r)) (pick (eqb (first (refusals noRecord r)) 7) (firstBad (fields (kindOf r)) (valuesOf r) 0) 0); lines = [] })
+    never : eqb (first (refusals noRecord r)) 0 ≡ false
+        → Opens (valuesOf r) (record {
+          account = refused noRecord (first (refusals noRecord r))
+              (pick (eqb (first (refusals noRecord r)) 7) (firstBad (fields (kindOf r)) (valuesOf r) 0) 0);
+          lines = [];
+        })
     never e = unopened (valuesOf r) _ refl
 
 -- A book whose farm record is of version 1 has the factors of its set at every point, and so the totals that it had.
@@ -129,7 +136,8 @@ unfolding firstBad table
 factors-fit farm year set h = same-front (leb 0 farm) (leb farm 4294967295) (leb 1900 year) (leb year 2200) _ _ h (go (eqb set 1))
   where
     go : (b : Bool)
-        → _≡_ {A = ℕ} (pick (leb 1 (factorsIf b .ch4)) (pick (leb (factorsIf b .ch4) 1000) (pick (leb 1 (factorsIf b .n2o)) (pick (leb (factorsIf b .n2o) 1000) 0 4) 4) 3) 3) 0
+        → _≡_ {A = ℕ} (pick (leb 1 (factorsIf b .ch4)) (pick (leb (factorsIf b .ch4) 1000)
+        (pick (leb 1 (factorsIf b .n2o)) (pick (leb (factorsIf b .n2o) 1000) 0 4) 4) 3) 3) 0
     go true = refl
     go false = refl
 
@@ -158,7 +166,8 @@ unfolding table
 count-11 = refl
 
 -- what a farm record in range does first of all
-set-weighs : (v : List ℕ) → firstBad (fields 1) v 0 ≡ 0 → weigh noRecord 1 v ≡ record { account = opened noRecord (setFactors (getD v 2 0)); lines = [] }
+set-weighs : (v : List ℕ) → firstBad (fields 1) v 0 ≡ 0
+    → weigh noRecord 1 v ≡ record { account = opened noRecord (setFactors (getD v 2 0)); lines = [] }
 unfolding weigh first inPlace accepted sortOf
 set-weighs v h = rw h refl
 
@@ -173,7 +182,8 @@ set-kind farm year set = record { whole = record { long = refl; low = omega arit
 
 factors-kind : (farm year set : ℕ) → Kind 11 (recordBytes 11 (byFactors farm year set))
 unfolding recordBytes be bytesOf table size valAt
-factors-kind farm year set = record { whole = record { long = refl; low = omega arith; high = omega arith }; version = refl; listed = refl; kind = refl }
+factors-kind farm year set =
+    record { whole = record { long = refl; low = omega arith; high = omega arith }; version = refl; listed = refl; kind = refl }
 
 -- A farm record of version 2 with the factors of a set gives what version 1 with that set gives: the same state, lines and bytes left.
 pub factors-as-set : (farm year set : ℕ) (xs : List ℕ) → firstBad (fields 1) (bySet farm year set) 0 ≡ 0
@@ -186,9 +196,11 @@ factors-as-set farm year set xs h =
     let one = set-kind farm year set in
     let two = factors-kind farm year set in
     let by-set : judge noRecord (recordBytes 1 v) ≡ record { account = opened noRecord (setFactors set); lines = [] } =
-    right-length noRecord 1 (recordBytes 1 v) 11 one size-1 (record-length 1 v ∙ size-of-1) ∙ ap (weigh noRecord 1) (record-back 1 v h count-1) ∙ set-weighs v h in
+    right-length noRecord 1 (recordBytes 1 v) 11 one size-1 (record-length 1 v ∙ size-of-1) ∙ ap (weigh noRecord 1) (record-back 1 v h count-1)
+    ∙ set-weighs v h in
     let by-factors : judge noRecord (recordBytes 11 w) ≡ record { account = opened noRecord (setFactors set); lines = [] } =
-    right-length noRecord 11 (recordBytes 11 w) 14 two size-11 (record-length 11 w ∙ size-of-11) ∙ ap (weigh noRecord 11) (record-back 11 w fit count-11) ∙ factors-weigh w fit in
+    right-length noRecord 11 (recordBytes 11 w) 14 two size-11 (record-length 11 w ∙ size-of-11)
+    ∙ ap (weigh noRecord 11) (record-back 11 w fit count-11) ∙ factors-weigh w fit in
     book-record noRecord (recordBytes 11 w) xs (two .whole) (omega arith)
     ∙ ap (λ (j : Step). then (j .lines) (book (j .account) xs)) (by-factors ∙ sym by-set)
     ∙ sym (book-record noRecord (recordBytes 1 v) xs (one .whole) (omega arith))

@@ -91,7 +91,14 @@ next-at a xs r rs v k q whole e =
     let d : x ∷ bookRecords (j .account) behind ≡ r ∷ rs = rw (book-whole a xs k e, n, records-whole xs e) at q in
     let h : x ≡ r = ap (λ (l : List (List ℕ)). getD l 0 []) d in
     let t : bookRecords (j .account) behind ≡ rs = ap (λ (l : List (List ℕ)). drop 1 l) d in
-    rw (← h) (record { early = k; complete = record-whole xs (need xs) e refl; grown = g; behind = behind; rest = t; lines = rw (book-whole a xs k e) refl }))
+    rw (← h) (record {
+      early = k;
+      complete = record-whole xs (need xs) e refl;
+      grown = g;
+      behind = behind;
+      rest = t;
+      lines = rw (book-whole a xs k e) refl;
+    }))
     (judged a x v)
 
 pub next : (a : Account) (xs r : List ℕ) (rs : List (List ℕ)) → AccountInRange a → bookRecords a xs ≡ r ∷ rs → Next a xs r rs

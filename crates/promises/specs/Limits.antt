@@ -1,6 +1,6 @@
--- Document 01, "The book" and "Refusal numbers", with document 02's kinds: both sides of every limit of refusals 1 to 12; of each field of each kind the first and the last
--- good value and the ones beyond. A row has some records, what stands behind them, and what the book comes to: by hand from the document, and the
--- second program says the same.
+-- Document 01, "The book" and "Refusal numbers", with document 02's kinds: both sides of every limit of refusals 1 to 12; of each field of each kind
+-- the first and the last good value and the ones beyond. A row has some records, what stands behind them, and what the book comes to: by hand from
+-- the document, and the second program says the same.
 -- Assumes nothing.
 use Prim.Native.Nat.{ℕ, _-_}
 use mathlib.Core.List.{List, [], _∷_, _++_}

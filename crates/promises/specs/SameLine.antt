@@ -1,5 +1,5 @@
--- Document 02, W9: "in two books both accepted up to and with a given detail record .., if that record and its heading are the same in both, its line is
--- the same, all other records being free, the warming set too." Said over the bytes of two books, each from no record.
+-- Document 02, W9: "in two books both accepted up to and with a given detail record .., if that record and its heading are the same in both, its line
+-- is the same, all other records being free, the warming set too." Said over the bytes of two books, each from no record.
 -- Assumes nothing.
 use Prim.Native.Nat.{ℕ}
 use mathlib.Core.Path.{_≡_}

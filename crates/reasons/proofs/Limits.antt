@@ -1,4 +1,5 @@
--- The ranges of document 01's table as the code has them, a row for each row of it and a column for each field, held to the table by one computed test.
+-- The ranges of document 01's table as the code has them, a row for each row of it and a column for each field, held to the table by one computed
+-- test.
 -- Assumes nothing.
 use Prim.Native.Nat.{ℕ, zero, suc, _-_, _≤_, _<_}
 use mathlib.Core.Path.{_≡_, refl, ap}

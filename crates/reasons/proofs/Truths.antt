@@ -1,6 +1,6 @@
 -- What is said is true. Document 02, W6: "the rule named is broken in that record, every rule tried earlier holds there, and all records before it
--- are accepted. For an accepted book it says so. For an unfinished one it tells how many bytes are still missing from the last record, or that the next
--- length isn't known yet."
+-- are accepted. For an accepted book it says so. For an unfinished one it tells how many bytes are still missing from the last record, or that the
+-- next length isn't known yet."
 -- Assumes nothing.
 use Prim.Native.Nat.{ℕ, zero, suc, _+_, _-_, _≤_, _<_}
 use mathlib.Core.Path.{_≡_, refl, sym, ap, _∙_}
@@ -34,7 +34,8 @@ use Rattle.reasons.specs.declared.Reason.{Reason}
 use Rattle.reasons.specs.declared.Verdict.{Verdict}
 use Rattle.reasons.specs.declared.Verdict.the-variants.{Accepted, Missing, NextLength, Refused}
 use Rattle.reasons.specs.Why.{reason, reasonOf, unfinishedBy, whyBy, whyOf}
-use Rattle.reasons.specs.Promised.{behind, AllAccepted, bytesTold, accountBefore, numbersTold, BrokenLength, BrokenRecord, Truth, begun, MissingExact, Unfinished}
+use Rattle.reasons.specs.Promised.{behind, AllAccepted, bytesTold, accountBefore, numbersTold, BrokenLength, BrokenRecord, Truth, begun}
+use Rattle.reasons.specs.Promised.{MissingExact, Unfinished}
 use Rattle.reasons.specs.Inner.{unread, ended}
 use Rattle.reasons.proofs.FaultLaws.{faulty, refused-is}
 use Rattle.reasons.proofs.WayLaws.{Way, Ends, at-record, at-rest, every-end, before-is, next-record, some-bytes, why-ended, why-unread}
@@ -77,7 +78,8 @@ module _ (s : State) (xs : List ℕ) where
   missing-by n = go (ltb (s .account .stage) 2) (eqb (s .account .stage) 2) (ltb (length (heldOf s)) 2) refl refl
     where
       go : (b d t : Bool) → ltb (s .account .stage) 2 ≡ b → ltb (length (heldOf s)) 2 ≡ t
-          → pick b (pick t NextLength (Missing (need (heldOf s) - length (heldOf s)))) (pick d Accepted (Refused (reasonOf (s .account .refusal) xs))) ≡ Missing n
+          → pick b (pick t NextLength (Missing (need (heldOf s) - length (heldOf s))))
+          (pick d Accepted (Refused (reasonOf (s .account .refusal) xs))) ≡ Missing n
           → (s .account .stage < 2) × (2 ≤ length (heldOf s)) × (n ≡ need (heldOf s) - length (heldOf s))
       go true d true q p e = no-answer cc
       go true d false q p e = (ltb-true _ _ q, ltb-false _ _ p, cc)
@@ -89,7 +91,8 @@ module _ (s : State) (xs : List ℕ) where
   length-by = go (ltb (s .account .stage) 2) (eqb (s .account .stage) 2) (ltb (length (heldOf s)) 2) refl refl
     where
       go : (b d t : Bool) → ltb (s .account .stage) 2 ≡ b → ltb (length (heldOf s)) 2 ≡ t
-          → pick b (pick t NextLength (Missing (need (heldOf s) - length (heldOf s)))) (pick d Accepted (Refused (reasonOf (s .account .refusal) xs))) ≡ NextLength
+          → pick b (pick t NextLength (Missing (need (heldOf s) - length (heldOf s))))
+          (pick d Accepted (Refused (reasonOf (s .account .refusal) xs))) ≡ NextLength
           → (s .account .stage < 2) × (length (heldOf s) < 2)
       go true d true q p e = (ltb-true _ _ q, ltb-true _ _ p)
       go true d false q p e = no-answer cc
@@ -101,7 +104,8 @@ module _ (xs : List ℕ) where
   pub why-accepted : (whyOf xs ≡ Accepted → run noRecordYet xs .state .account .stage ≡ 2)
       × (run noRecordYet xs .state .account .stage ≡ 2 → whyOf xs ≡ Accepted)
   unfolding whyOf whyBy
-  why-accepted = (accepted-by (run noRecordYet xs .state) xs, λ e. rw (le-ltb (run noRecordYet xs .state .account .stage) 2 (omega arith), eq-eqb _ _ e))
+  why-accepted =
+      (accepted-by (run noRecordYet xs .state) xs, λ e. rw (le-ltb (run noRecordYet xs .state .account .stage) 2 (omega arith), eq-eqb _ _ e))
 
   -- An unfinished book is one that rule 2 leaves open.
   pub why-unfinished : (Unfinished (whyOf xs) → run noRecordYet xs .state .account .stage < 2)
@@ -118,7 +122,8 @@ module _ (xs : List ℕ) where
   -- A refused book is one that rule 2 refuses.
   pub why-refused-so : run noRecordYet xs .state .account .stage ≡ 3 → whyOf xs ≡ Refused (reasonOf (run noRecordYet xs .state .account .refusal) xs)
   unfolding whyOf whyBy
-  why-refused-so e = rw (le-ltb (run noRecordYet xs .state .account .stage) 2 (omega arith), ne-eqb (run noRecordYet xs .state .account .stage) 2 (λ z. omega arith))
+  why-refused-so e =
+      rw (le-ltb (run noRecordYet xs .state .account .stage) 2 (omega arith), ne-eqb (run noRecordYet xs .state .account .stage) 2 (λ z. omega arith))
 
   -- How many bytes are missing is exact.
   pub missing-exact : (n : ℕ) → whyOf xs ≡ Missing n → MissingExact n xs
@@ -141,7 +146,8 @@ module _ (xs : List ℕ) where
 -- ---- the truth of a reason
 
 off-length : (n : ℕ) → ltb n 4 || ltb 26 n ≡ true → (n < 4) ⊎ (26 < n)
-off-length n e = ⊎-elim (λ (p : ltb n 4 ≡ true). inl (ltb-true _ _ p)) (λ (p : ltb 26 n ≡ true). inr (ltb-true _ _ p)) (or-cases (ltb n 4) (ltb 26 n) e)
+off-length n e =
+    ⊎-elim (λ (p : ltb n 4 ≡ true). inl (ltb-true _ _ p)) (λ (p : ltb 26 n ≡ true). inr (ltb-true _ _ p)) (or-cases (ltb n 4) (ltb 26 n) e)
 
 told-bytes : (w : Reason) (xs : List ℕ) (at n : ℕ) → w .first ≡ at → w .last + 1 ≡ at + n → bytesTold w xs ≡ take n (drop at xs)
 told-bytes w xs at n p q = let e : w .last + 1 - w .first ≡ n = omega (arith, p, q) in rw (e, p)
@@ -186,7 +192,8 @@ module _ {xs : List ℕ} {a : Account} {at : ℕ} (w : Way xs a at) where
       let l : length r ≡ 2 = length-take-le 2 (drop at xs) (m .0) in
       let d : at + length r - 1 + 1 ≡ at + 2 = omega (arith, l) in
       let z = reason 1 (a .records) 0 at a r in
-      let off : (valAt r 0 2 < 4) ⊎ (26 < valAt r 0 2) = rw (length-take-two (drop at xs) 2 (omega arith)) (off-length (valAt (drop at xs) 0 2) (m .1)) in
+      let off : (valAt r 0 2 < 4) ⊎ (26 < valAt r 0 2) =
+      rw (length-take-two (drop at xs) 2 (omega arith)) (off-length (valAt (drop at xs) 0 2) (m .1)) in
       record {
         many = w .many;
         bytes = w .bytes;

@@ -73,7 +73,8 @@ last-part (inr (inr e)) m n = e
 -- ---- what is compared of the values, by the number
 
 module _ (a : Account) (k : ℕ) (v : List ℕ) {c : ℕ} {n : Numbers} where
-  pub by-seven : {p : ℕ} → c ≡ 7 → p ≡ badField k v → n ≡ told (outside (rangeOf k p .1) (rangeOf k p .2) (valueAt v p)) → n ≡ told (valuesCompared c a k v)
+  pub by-seven : {p : ℕ} → c ≡ 7 → p ≡ badField k v → n ≡ told (outside (rangeOf k p .1) (rangeOf k p .2) (valueAt v p))
+      → n ≡ told (valuesCompared c a k v)
   unfolding valuesCompared
   by-seven e p t = t ∙ rw (e, p) refl
 
@@ -131,7 +132,18 @@ past-four h p q s = omega (arith, p, q, s)
 -- ---- a length that no record has
 
 pub broken-told : (a : Account) (at : ℕ) (rest : List ℕ) {x : ℕ} {n : Numbers} → 2 ≤ length rest → x ≡ valAt rest 0 2 → n ≡ told (outside 4 26 x)
-    → _≡_ {A = Reason} (record { code = 1; number = a .records; first = at; last = at + 1; field = 0; kind = 0; row = 0; some = n .some; value = n .value; limit = n .limit })
+    → _≡_ {A = Reason} (record {
+      code = 1;
+      number = a .records;
+      first = at;
+      last = at + 1;
+      field = 0;
+      kind = 0;
+      row = 0;
+      some = n .some;
+      value = n .value;
+      limit = n .limit;
+    })
     (reason 1 (a .records) 0 at a (take 2 rest))
 unfolding compared
 broken-told a at rest h p t =

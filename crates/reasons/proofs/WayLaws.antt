@@ -171,12 +171,14 @@ module _ {xs : List ℕ} {a : Account} {at : ℕ} (w : Way xs a at) where
 
   -- all bytes are read
   pub why-none : length xs ≤ at → NextLength ≡ whyOf xs
-  why-none h = let d : drop at xs ≡ [] = drop-of-length-le xs h in rw d at (why-unread unfinished (rw d front-none) (λ z. let q : _≡_ {A = ℕ} 0 1 = cc in absurd (omega arith)))
+  why-none h = let d : drop at xs ≡ [] = drop-of-length-le xs h in
+      rw d at (why-unread unfinished (rw d front-none) (λ z. let q : _≡_ {A = ℕ} 0 1 = cc in absurd (omega arith)))
 
 -- ---- every book has such an end
 
 pub data Ends (xs : List ℕ) : Type 0 where
-  at-record : (a : Account) (at : ℕ) → Way xs a at → front (drop at xs) ≡ whole → 2 ≤ judge a (take (need (drop at xs)) (drop at xs)) .account .stage → Ends xs
+  at-record : (a : Account) (at : ℕ) → Way xs a at → front (drop at xs) ≡ whole → 2 ≤ judge a (take (need (drop at xs)) (drop at xs)) .account .stage
+      → Ends xs
   at-rest : (a : Account) (at : ℕ) → Way xs a at → (front (drop at xs) ≡ whole → ⊥) → Ends xs
 
 reach-at : (xs : List ℕ) (a : Account) (at : ℕ) → Way xs a at
@@ -195,7 +197,8 @@ reach zero xs a at w h = absurd (omega arith)
 reach (suc n) xs a at w h =
     let m = need (drop at xs) in
     reach-at xs a at w
-    (λ e l. reach n xs (judge a (take m (drop at xs)) .account) (at + m) (way-on w m e refl l) (omega (arith, inside w m e refl, some-bytes w m e refl)))
+    (λ e l. reach n xs (judge a (take m (drop at xs)) .account) (at + m) (way-on w m e refl l)
+    (omega (arith, inside w m e refl, some-bytes w m e refl)))
     (front (drop at xs)) refl
 
 pub every-end : (xs : List ℕ) → Ends xs

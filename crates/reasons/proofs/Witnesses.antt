@@ -55,7 +55,18 @@ headed rs = joined (farm ∷ heading 1 2 12 1 ∷ rs)
 -- refused by that number, in the record with that number, whose bytes and field are those, of that kind and row, comparing those numbers
 abbrev toldOf : ℕ → ℕ → ℕ → ℕ → ℕ → ℕ → ℕ → ℕ → ℕ → Verdict
 toldOf code number from to field kind row value limit =
-    Refused (record { code = code; number = number; first = from; last = to; field = field; kind = kind; row = row; some = true; value = value; limit = limit })
+    Refused (record {
+      code = code;
+      number = number;
+      first = from;
+      last = to;
+      field = field;
+      kind = kind;
+      row = row;
+      some = true;
+      value = value;
+      limit = limit;
+    })
 
 -- the same, the kind being the row
 abbrev told : ℕ → ℕ → ℕ → ℕ → ℕ → ℕ → ℕ → ℕ → Verdict

@@ -23,8 +23,8 @@ ghost use Rattle.book.specs.Front.{whole, front};
 ghost use Rattle.reasons.specs.Why.{reason, whyOf};
 ghost use Rattle.reasons.specs.Inner.{Faulty, unread, ended};
 
-// Why a record is refused: the rule's number, the record's number and its first and last byte, all from 0; the field from 1, with 7 alone; the kind byte;
-// the row of the table by which its fields are named; and the value and the limit, where there are any.
+// Why a record is refused: the rule's number, the record's number and its first and last byte, all from 0; the field from 1, with 7 alone; the kind
+// byte; the row of the table by which its fields are named; and the value and the limit, where there are any.
 pub struct Reason {
     pub code: u8,
     pub number: u16,

@@ -164,13 +164,15 @@ module _ (a : Account) (f : AccountInRange a) (xs : List ℕ) (n : ℕ) (e : fro
       ap (λ (x : Retyping). x .text) o ∙ ap (λ (m : ℕ). lineTyped (kindOf (take m xs)) (valuesOf (take m xs))) long in
       ap (λ (x : Retyping). x .text) (one-more n s xs (ap (λ (x : Retyping). x .more) o)) ∙ rw (state, taken, text)
 
-pub typed-by : (n : ℕ) (a : Account) (xs : List ℕ) → AccountInRange a → retypedBy n (holding a []) xs .text ≡ textTyped (acceptedOf a (recordsBy n xs))
+pub typed-by : (n : ℕ) (a : Account) (xs : List ℕ) → AccountInRange a
+    → retypedBy n (holding a []) xs .text ≡ textTyped (acceptedOf a (recordsBy n xs))
 unfolding recordsBy acceptedOf textTyped
 typed-by zero a xs f = none-typed (holding a []) xs
 typed-by (suc n) a xs f = by-front (front xs) refl (λ b g. typed-by n b (drop (need xs) xs) g)
   where
     by-front : (x : Front) → front xs ≡ x
-        → ((b : Account) → AccountInRange b → retypedBy n (holding b []) (drop (need xs) xs) .text ≡ textTyped (acceptedOf b (recordsBy n (drop (need xs) xs))))
+        → ((b : Account) → AccountInRange b
+        → retypedBy n (holding b []) (drop (need xs) xs) .text ≡ textTyped (acceptedOf b (recordsBy n (drop (need xs) xs))))
         → retypedBy (suc n) (holding a []) xs .text ≡ textTyped (acceptedOf a (beginsWith x xs (recordsBy n (drop (need xs) xs))))
     by-front unfinished e h = one-not (holding a []) xs n (no-record (holding a []) xs (no-length xs unfinished e refl))
     by-front badLength e h = one-not (holding a []) xs n (no-record (holding a []) xs (no-length xs badLength e refl))

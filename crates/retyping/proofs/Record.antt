@@ -134,7 +134,14 @@ module _ (k : ℕ) (v : List ℕ) (least : 1 ≤ k) (most : k ≤ lastRow) (coun
   says =
       let n : length (kindName k) ≡ 0 → ⊥ = λ q. omega (arith, name-some k least most) in
       let few : length (typedLine k v) < 1024 = omega (arith, short) in
-      rw (lt-leb 1024 (length (typedLine k v)) few, name-first, ne-eqb _ _ n, kind-back k least most, row-typed k v (typedLine k v) least most count (numbers-behind 3) (numbers-behind 4), values-are)
+      rw (
+        lt-leb 1024 (length (typedLine k v)) few,
+        name-first,
+        ne-eqb _ _ n,
+        kind-back k least most,
+        row-typed k v (typedLine k v) least most count (numbers-behind 3) (numbers-behind 4),
+        values-are,
+      )
 
   -- nothing of it is a comment or a byte order mark, or too long
   no-byte : (b : ℕ) → b < 48 → (b ≡ 32 → ⊥) → has b (typedLine k v) ≡ false

@@ -106,7 +106,8 @@ closes-book a r e k = rw (accepts a r e, k)
 pub first-farm : (a : Account) (r : List ℕ) → wouldGet a r ≡ 0 → a .records ≡ 0 → kindByte r ≡ 1
 unfolding inPlace
 first-farm a r e z =
-    farm-row (versionOf r) (kindByte r) (not-false _ (not-refused a r e .kind)) (go (isFarm (kindOf r)) (not-false _ (not-refused a r e .values .place)))
+    farm-row (versionOf r) (kindByte r) (not-false _ (not-refused a r e .kind))
+    (go (isFarm (kindOf r)) (not-false _ (not-refused a r e .values .place)))
   where
     go : (b : Bool) → pick b (eqb (a .records) 0) (headingServes (a .heading .class) (kindOf r) && not (eqb (a .records) 0)) ≡ true → b ≡ true
     go true p = refl

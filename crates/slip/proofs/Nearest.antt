@@ -91,4 +91,5 @@ divisor-nearest (fin true n e) f t = below-zero (100 * (n * up e)) (down e)
 divisor-nearest (fin false n (pos k)) f t = whole (n * 2 ^ k)
 divisor-nearest (fin false n (negsuc k)) f t =
     subst (λ (x : ℕ). 20 * 2 ^ suc k ≤ gap (100 * x) (5565 * 2 ^ suc k) * 2 ^ 47) (sym (mul-one n))
-    (⊎-elim (λ h. coarse n (suc k) (omega arith)) (λ h. fine n (2 ^ suc k) (digits false n (negsuc k) f) (pow-mono {i = 48} {j = suc k} h)) (split (suc k) 48))
+    (⊎-elim (λ h. coarse n (suc k) (omega arith)) (λ h. fine n (2 ^ suc k) (digits false n (negsuc k) f) (pow-mono {i = 48} {j = suc k} h))
+    (split (suc k) 48))

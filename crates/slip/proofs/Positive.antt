@@ -12,7 +12,8 @@ use lib.Ieee.Fits.{and-l, and-r, up-pos}
 use lib.Ieee.Order.{round-mono}
 use lib.Ieee.Positive.{num, den, positive, den-pos, le→cross, between, mul-mono}
 use Rattle.base.specs.Choice.{pick}
-use Rattle.slip.specs.Slip.{double, within, kgCh4, rationInRange, geInRange, ymInRange, headInRange, daysInRange, changeInRange, changedInRange, changedBy, estimated, refusedWith, whatIf, Answers}
+use Rattle.slip.specs.Slip.{double, within, kgCh4, rationInRange, geInRange, ymInRange, headInRange, daysInRange, changeInRange}
+use Rattle.slip.specs.Slip.{changedInRange, changedBy, estimated, refusedWith, whatIf, Answers}
 use Rattle.slip.specs.declared.Slip.{Slip}
 use Rattle.slip.specs.declared.Change.{Change}
 use Rattle.slip.specs.declared.Change.the-variants.{Feed, Ym, Head}
@@ -55,7 +56,8 @@ record In (lo hi z : Float) : Type 0 where
 in-pos : {lo hi z : Float} → In lo hi z → T (positive z)
 in-pos {lo} {hi} {z} i = between lo z hi (i .low) (i .high) (i .from) (i .to)
 
-mul-in : {xl xh x yl yh y : Float} → In xl xh x → In yl yh y → T (positive (mul binary64 xl yl)) → T (positive (mul binary64 xh yh)) → In (mul binary64 xl yl) (mul binary64 xh yh) (mul binary64 x y)
+mul-in : {xl xh x yl yh y : Float} → In xl xh x → In yl yh y → T (positive (mul binary64 xl yl)) → T (positive (mul binary64 xh yh))
+    → In (mul binary64 xl yl) (mul binary64 xh yh) (mul binary64 x y)
 mul-in {xl} {xh} {x} {yl} {yh} {y} i j a b =
     record {
       low = a;
@@ -64,7 +66,8 @@ mul-in {xl} {xh} {x} {yl} {yh} {y} i j a b =
       to = mul-mono binary64 x xh y yh (in-pos i) (i .high) (in-pos j) (j .high) (i .to) (j .to);
     }
 
-div-in : {xl xh x : Float} (y : Float) → In xl xh x → T (positive y) → T (positive (div binary64 xl y)) → T (positive (div binary64 xh y)) → In (div binary64 xl y) (div binary64 xh y) (div binary64 x y)
+div-in : {xl xh x : Float} (y : Float) → In xl xh x → T (positive y) → T (positive (div binary64 xl y)) → T (positive (div binary64 xh y))
+    → In (div binary64 xl y) (div binary64 xh y) (div binary64 x y)
 div-in {xl} {xh} {x} y i q a b =
     record {
       low = a;

@@ -1,6 +1,7 @@
 // The what-if slip: an estimate on the screen of the CH4 of a changed ration, in double precision.
 ghost use mathlib.Core.Path.{_≡_};
-ghost use Rattle.slip.specs.Slip.{within, geInRange, ymInRange, headInRange, daysInRange, factorInRange, rationInRange, changeInRange, changedBy, changedInRange, kgCh4, refusedWith, Answers};
+ghost use Rattle.slip.specs.Slip.{within, geInRange, ymInRange, headInRange, daysInRange, factorInRange, rationInRange, changeInRange};
+ghost use Rattle.slip.specs.Slip.{changedBy, changedInRange, kgCh4, refusedWith, Answers};
 
 pub struct Ration {
     pub ge: f64,

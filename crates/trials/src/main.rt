@@ -1,4 +1,5 @@
-// Replays trials of the book reader, of the writer, of the salvage and of the slip: cases on standard input, answers on standard output (docs/TRIALS.md).
+// Replays trials of the book reader, of the writer, of the salvage and of the slip: cases on standard input, answers on standard output
+// (docs/TRIALS.md).
 mod books;
 mod saved;
 mod shown;

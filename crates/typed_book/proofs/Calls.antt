@@ -20,10 +20,12 @@ use Rattle.typed_book.specs.Remarks.{remarkText}
 use Rattle.typed_book.specs.Parts.{byTurn, lineBy, goesOn, hasEnded, inBuffer, byCutting, callOf, laidIn}
 
 -- e and out′ are what the turn x gives; then x's remark is said
-line-done : (t : Typist) (n : ℕ) (xs : List ℕ) (x : Turn) (out : List ℕ) {out′ before after : List ℕ} {told : ℕ} {e : Entered} → e ≡ enteredOf x → out′ ≡ laid x out
+line-done : (t : Typist) (n : ℕ) (xs : List ℕ) (x : Turn) (out : List ℕ) {out′ before after : List ℕ} {told : ℕ} {e : Entered} → e ≡ enteredOf x
+    → out′ ≡ laid x out
     → Said before after 0 (remarkText (e .fate) t n xs) told
     → (e .typist ≡ byTurn x t n xs .typist)
-    × ((e .written ≡ length (byTurn x t n xs .bytes)) × ((out′ ≡ laidIn (byTurn x t n xs .bytes) out) × Said before after 0 (byTurn x t n xs .remark) told))
+    × ((e .written ≡ length (byTurn x t n xs .bytes)) × ((out′ ≡ laidIn (byTurn x t n xs .bytes) out) × Said before after 0
+    (byTurn x t n xs .remark) told))
 line-done t n xs x out p q s =
     (ap (λ (y : Entered). y .typist) p, (ap (λ (y : Entered). y .written) p, (q, rw (ap (λ (y : Entered). y .fate) p) at s)))
 
@@ -49,7 +51,8 @@ module _ (g : Typing) (line part : List ℕ) (room : ℕ) {c : Cutting} (e : c �
       × ((c .taken ≡ callOf g line part room .taken)
       × ((0 ≡ length (callOf g line part room .bytes))
       × ((line′ ≡ cutIn line (g .cut) part)
-      × ((out ≡ laidIn (callOf g line part room .bytes) out) × (Said before before 0 (callOf g line part room .remark) 0 × (c .taken ≤ length part))))))
+      × ((out ≡ laidIn (callOf g line part room .bytes) out) × (Said before before 0 (callOf g line part room .remark) 0 ×
+      (c .taken ≤ length part))))))
   open-call f l h out before = rw (line-open f) (refl, (refl, (refl, (l, (refl, (said-none (omega arith), h))))))
 
   -- text is the line, r what it does, and next the line behind it
@@ -72,10 +75,12 @@ module _ (g : Typing) (line part : List ℕ) (room : ℕ) {c : Cutting} (e : c �
       rw (line-ended f) (rw (p .0, n), (refl, (p .1 .0, (l, (p .1 .1 .0, (p .1 .1 .1, h))))))
 
 -- the line itself
-pub line-typed : (t : Typist) (n : ℕ) (xs : List ℕ) (room : ℕ) (out : List ℕ) {out′ before after : List ℕ} {told : ℕ} {e : Entered} → e ≡ enteredOf (turn t n xs room)
+pub line-typed : (t : Typist) (n : ℕ) (xs : List ℕ) (room : ℕ) (out : List ℕ) {out′ before after : List ℕ} {told : ℕ} {e : Entered}
+    → e ≡ enteredOf (turn t n xs room)
     → out′ ≡ laid (turn t n xs room) out → Said before after 0 (remarkText (e .fate) t n xs) told
     → (e .typist ≡ lineBy t n xs room .typist)
-    × ((e .written ≡ length (lineBy t n xs room .bytes)) × ((out′ ≡ laidIn (lineBy t n xs room .bytes) out) × Said before after 0 (lineBy t n xs room .remark) told))
+    × ((e .written ≡ length (lineBy t n xs room .bytes)) × ((out′ ≡ laidIn (lineBy t n xs room .bytes) out) × Said before after 0
+    (lineBy t n xs room .remark) told))
 line-typed t n xs room out p q s = line-done t n xs (turn t n xs room) out p q s
 
 -- what is laid at a buffer's start fits it

@@ -37,7 +37,8 @@ use Rattle.text_lines.specs.Parts.{Numbered, numbered}
 use Rattle.typed_book.specs.declared.Typist.{Typist}
 use Rattle.typed_book.specs.declared.Fate.{Fate}
 use Rattle.typed_book.specs.declared.Fate.the-variants.{Nothing, Unread, Withheld, Without, Refused, Wrote}
-use Rattle.typed_book.specs.Typist.{inGroup, mayHead, beginning, notRead, refusedAt, writtenAs, withheld, headless, Turn, byAnswer, byWrite, recordTurn, bySaid, turn}
+use Rattle.typed_book.specs.Typist.{inGroup, mayHead, beginning, notRead, refusedAt, writtenAs, withheld, headless, Turn, byAnswer, byWrite}
+use Rattle.typed_book.specs.Typist.{recordTurn, bySaid, turn}
 use Rattle.typed_book.specs.Remarks.{kindWritten}
 use Rattle.typed_book.specs.Text.{lineTurn, typedBy}
 use Rattle.typed_book.specs.Headings.{Mark, none, unknown, heading, markSaid, markLine, textOf, lastMark, lastHeading, Under}
@@ -68,7 +69,8 @@ heading-after : (a : Account) (k : ℕ) (v : List ℕ) → (weigh a k v .account
 unfolding weigh accepted
 heading-after a k v h n =
     rw (weighed-none a k v h)
-    (by-sort (λ (s : Step). s .account .heading ≡ a .heading) (sortOf k) (λ _. refl) (λ e. absurd (n (heads-two k e))) (λ _. refl) (λ _. refl) (λ _. refl))
+    (by-sort (λ (s : Step). s .account .heading ≡ a .heading) (sortOf k) (λ _. refl) (λ e. absurd (n (heads-two k e))) (λ _. refl) (λ _. refl)
+    (λ _. refl))
 
 -- a detail of the group is written under a heading only
 needs-class : (a : Account) (k : ℕ) (v : List ℕ) → (weigh a k v .account .stage ≡ 3 → ⊥) → inGroup k ≡ true → a .heading .class ≡ 0 → ⊥
@@ -118,7 +120,8 @@ pub record Kept (m : Mark) (h : List ℕ) (t : Typist) : Type 0 where
   pub under : t .lost ≡ 0 → t .state .account .stage < 2 → (t .state .account .heading .class ≡ 0) ⊎ Under m h
 
 -- a line that may have been a heading loses it
-still-lost : (b : Bool) (n lost : ℕ) (m : Mark) (h : List ℕ) (A : Type 0) → 1 ≤ n → pick b n lost ≡ 0 → (lost ≡ 0 → A ⊎ Under m h) → A ⊎ Under (pick b unknown m) h
+still-lost : (b : Bool) (n lost : ℕ) (m : Mark) (h : List ℕ) (A : Type 0) → 1 ≤ n → pick b n lost ≡ 0 → (lost ≡ 0 → A ⊎ Under m h)
+    → A ⊎ Under (pick b unknown m) h
 still-lost true n lost m h A l z f = absurd (omega arith)
 still-lost false n lost m h A l z f = f z
 
@@ -127,12 +130,19 @@ three : (s : State) (k : ℕ) (v : List ℕ) (room : ℕ) → inRange s ≡ true
     → writer.write s k v room .answer ≡ answers.Refused (writer.refusalBy 3 (s .account .records))
 unfolding writer.writeRow writer.refusals writer.answerOf
 three s k v room r early c g =
-    rw (r, ne-eqb (s .account .stage) 3 (λ (e : s .account .stage ≡ 3). omega arith), ne-eqb (s .account .stage) 2 (λ (e : s .account .stage ≡ 2). omega arith), c, g)
+    rw (
+      r,
+      ne-eqb (s .account .stage) 3 (λ (e : s .account .stage ≡ 3). omega arith),
+      ne-eqb (s .account .stage) 2 (λ (e : s .account .stage ≡ 2). omega arith),
+      c,
+      g,
+    )
 
 completed-kind : (e : Entry) (records : ℕ) → completedOf e records .kind ≡ e .kind
 unfolding completedOf
 completed-kind e records =
-    of-choice (λ (d : Entry). d .kind ≡ e .kind) (eqb (e .kind) 8 && eqb (e .count) 0) (λ t. sym (eqb-true (e .kind) 8 (and-l (eqb (e .kind) 8) (eqb (e .count) 0) t))) (λ f. refl)
+    of-choice (λ (d : Entry). d .kind ≡ e .kind) (eqb (e .kind) 8 && eqb (e .count) 0)
+    (λ t. sym (eqb-true (e .kind) 8 (and-l (eqb (e .kind) 8) (eqb (e .count) 0) t))) (λ f. refl)
 
 heading-complete : (e : Entry) (records : ℕ) → e .kind ≡ 2 → completedOf e records ≡ e
 unfolding completedOf
@@ -144,7 +154,8 @@ Keeps m h e x = Kept (markSaid said.Record e m) (pick (eqb (kindWritten (x .fate
 
 module _ (m : Mark) (h : List ℕ) (t : Typist) (k : Kept m h t) (e : Entry) where
   -- nothing but counts move, and the kind is no heading and one of the book's
-  stays : eqb (e .kind) 2 ≡ false → mayHead (e .kind) ≡ false → (x : Typist) → x .state ≡ t .state → x .lost ≡ t .lost → Kept (markSaid said.Record e m) h x
+  stays : eqb (e .kind) 2 ≡ false → mayHead (e .kind) ≡ false → (x : Typist) → x .state ≡ t .state → x .lost ≡ t .lost
+      → Kept (markSaid said.Record e m) h x
   stays p q x a b =
       rw (q, p)
       (record {
@@ -164,7 +175,8 @@ module _ (m : Mark) (h : List ℕ) (t : Typist) (k : Kept m h t) (e : Entry) whe
       stays (p .0) (p .1) x a b
 
   -- refused by the number code, which is 3 for a kind that the book has not
-  refused-keeps : (n : ℕ) → 1 ≤ n → (code : ℕ) → (t .state .account .stage < 2 → ltb (e .kind) 1 || ltb lastKind (e .kind) ≡ true → code ≡ 3) → (x : Typist)
+  refused-keeps : (n : ℕ) → 1 ≤ n → (code : ℕ) → (t .state .account .stage < 2 → ltb (e .kind) 1 || ltb lastKind (e .kind) ≡ true → code ≡ 3)
+      → (x : Typist)
       → x .state ≡ t .state → x .lost ≡ pick (eqb (e .kind) 2 || eqb code 3) n (t .lost) → Kept (markSaid said.Record e m) h x
   refused-keeps n l code g x a b =
       record {
@@ -175,7 +187,8 @@ module _ (m : Mark) (h : List ℕ) (t : Typist) (k : Kept m h t) (e : Entry) whe
             (λ o. eq-eqb code 3 (g (rw a at early) o)) (λ y. k .under y (rw a at early)));
       }
     where
-      marks : {A : Type 0} (two out three′ : Bool) → pick (two || three′) n (t .lost) ≡ 0 → (out ≡ true → three′ ≡ true) → (t .lost ≡ 0 → A ⊎ Under m h)
+      marks : {A : Type 0} (two out three′ : Bool) → pick (two || three′) n (t .lost) ≡ 0 → (out ≡ true → three′ ≡ true)
+          → (t .lost ≡ 0 → A ⊎ Under m h)
           → A ⊎ Under (pick two (heading e) (pick (two || out) unknown m)) h
       marks true out c z g f = absurd (omega arith)
       marks false true c z g f = absurd (let y = rw (g refl) at z in omega arith)
@@ -184,7 +197,8 @@ module _ (m : Mark) (h : List ℕ) (t : Typist) (k : Kept m h t) (e : Entry) whe
 
   -- written: a heading is the one marked, and any other record keeps what was
   wrote-keeps : (n : ℕ) → writeEntry (t .state) e 28 .answer ≡ answers.Wrote
-      → Kept (markSaid said.Record e m) (pick (eqb (e .kind) 2) (writeEntry (t .state) e 28 .bytes) h) (writtenAs t e (writeEntry (t .state) e 28 .state))
+      → Kept (markSaid said.Record e m) (pick (eqb (e .kind) 2) (writeEntry (t .state) e 28 .bytes) h)
+      (writtenAs t e (writeEntry (t .state) e 28 .state))
   wrote-keeps n q =
       let kind = completedOf e (t .state .account .records) .kind in
       let v = valuesIn (completedOf e (t .state .account .records)) in
@@ -213,13 +227,16 @@ module _ (m : Mark) (h : List ℕ) (t : Typist) (k : Kept m h t) (e : Entry) whe
           rw y
           (inr (record { entry = e; marked = refl; is = two; written = ap (λ (x : writer.Write). x .bytes) (so .is) ∙ rw (whole, two) refl }))
       by-kind so (inr y) z =
-          let not-two : completedOf e (t .state .account .records) .kind ≡ 2 → ⊥ = λ f. eqb-false (e .kind) 2 y (sym (completed-kind e (t .state .account .records)) ∙ f) in
+          let not-two : completedOf e (t .state .account .records) .kind ≡ 2 → ⊥ =
+          λ f. eqb-false (e .kind) 2 y (sym (completed-kind e (t .state .account .records)) ∙ f) in
           let low = so .of .least in
           let high = so .of .most in
           let one : ltb (e .kind) 1 ≡ false = rw (← completed-kind e (t .state .account .records)) (le-ltb _ _ low) in
           let last : ltb lastKind (e .kind) ≡ false = rw (← completed-kind e (t .state .account .records)) (le-ltb _ _ high) in
           let head : writeEntry (t .state) e 28 .state .account .heading ≡ t .state .account .heading =
-          ap (λ (x : writer.Write). x .state .account .heading) (so .is) ∙ heading-after (t .state .account) _ _ (so .still) (no-head (completedOf e (t .state .account .records) .kind) (length (valuesIn (completedOf e (t .state .account .records)))) not-two) in
+          ap (λ (x : writer.Write). x .state .account .heading) (so .is)
+          ∙ heading-after (t .state .account) _ _ (so .still) (no-head (completedOf e (t .state .account .records) .kind)
+          (length (valuesIn (completedOf e (t .state .account .records)))) not-two) in
           rw (y, one, last, head) (k .under (rw y at z) (so .ready .early))
 
   judged-keeps : (n : ℕ) → 1 ≤ n → Keeps m h e (byWrite t n e (writeEntry (t .state) e 28))
@@ -230,7 +247,8 @@ module _ (m : Mark) (h : List ℕ) (t : Typist) (k : Kept m h t) (e : Entry) whe
       go answers.Wrote q = wrote-keeps n q
       go (answers.Refused r) q =
           refused-keeps n l (r .code)
-          (λ early out. same-code (sym q ∙ three (t .state) (completedOf e (t .state .account .records) .kind) (valuesIn (completedOf e (t .state .account .records))) 28 (range-test (t .state) (k .range)) early (k .empty)
+          (λ early out. same-code (sym q ∙ three (t .state) (completedOf e (t .state .account .records) .kind)
+          (valuesIn (completedOf e (t .state .account .records))) 28 (range-test (t .state) (k .range)) early (k .empty)
           (rw (completed-kind e (t .state .account .records)) out)))
           (refusedAt t n (e .kind) (r .code)) refl refl
         where
@@ -325,8 +343,8 @@ under-it m h t kept k g j =
     not-lost true p q = eqb-true (t .lost) 0 (not-false _ q)
     not-lost false p q = absurd (let z : _≡_ {A = ℕ} 0 1 = cc in omega arith)
 
--- Every written detail of a typed book stands under the heading of the last line before it whose kind is a heading or none of the book's: that line says a
--- heading, and its record is the last heading record written. The lines before it are any, with their numbers from 1 on.
+-- Every written detail of a typed book stands under the heading of the last line before it whose kind is a heading or none of the book's: that line
+-- says a heading, and its record is the last heading record written. The lines before it are any, with their numbers from 1 on.
 pub heading-typed : (lines : List (List ℕ)) (l : Numbered) (k : ℕ)
     → lineTurn (typedBy (beginning noRecordYet) (numbered 1 lines) .typist) l .fate ≡ Wrote k → inGroup k ≡ true
     → Under (lastMark none (numbered 1 lines)) (lastHeading [] (typedBy (beginning noRecordYet) (numbered 1 lines) .turns))

@@ -58,12 +58,16 @@ part-calls (suc n) t c part = go (λ u d rest. part-calls n u d rest) (cuttingOf
     taken : ℕ
     taken = cuttingOf (length (c .line)) (c .cut) part .taken
 
-    go : ((u : Typist) (d : Cutter) (rest : List ℕ) → callsIn n u d rest ≡ byFound u (cutPart n d rest)) → (b : Bool) → cuttingOf (length (c .line)) (c .cut) part .ended ≡ b
-        → pick b (andThen (oneCall t c part) (callsIn n (oneCall t c part .output .typist) (oneCall t c part .cutter) (drop taken part))) (oneCall t c part)
-        ≡ byFound t (pick b (finishing (inHand (cutOnce c part)) (cutPart n (nextLine (cutOnce c part)) (drop taken part))) (record { finished = []; last = cutOnce c part }))
+    go : ((u : Typist) (d : Cutter) (rest : List ℕ) → callsIn n u d rest ≡ byFound u (cutPart n d rest)) → (b : Bool)
+        → cuttingOf (length (c .line)) (c .cut) part .ended ≡ b
+        → pick b (andThen (oneCall t c part) (callsIn n (oneCall t c part .output .typist) (oneCall t c part .cutter) (drop taken part)))
+        (oneCall t c part)
+        ≡ byFound t (pick b (finishing (inHand (cutOnce c part)) (cutPart n (nextLine (cutOnce c part)) (drop taken part)))
+        (record { finished = []; last = cutOnce c part }))
     go again true e =
         ap (λ (o : Calls). andThen o (callsIn n (o .output .typist) (o .cutter) (drop taken part))) (ends t c part e)
-        ∙ ap (λ (r : Calls). andThen (endedCall t c part) r) (again (endedCall t c part .output .typist) (nextLine (cutOnce c part)) (drop taken part))
+        ∙ ap (λ (r : Calls). andThen (endedCall t c part) r) (again (endedCall t c part .output .typist) (nextLine (cutOnce c part))
+        (drop taken part))
     go again false e = goes-on t c part e
 
 -- ---- all parts

@@ -1,5 +1,5 @@
--- The heading law for typed lines: every written detail of a typed book stands under the heading of the last line before it whose kind is a heading or
--- none of the book's; so that line was a heading and was written. Said over the lines and the records written: no typist's memory is in it.
+-- The heading law for typed lines: every written detail of a typed book stands under the heading of the last line before it whose kind is a heading
+-- or none of the book's; so that line was a heading and was written. Said over the lines and the records written: no typist's memory is in it.
 use Prim.Native.Nat.{ℕ}
 use mathlib.Core.Path.{_≡_}
 use mathlib.Core.List.{List, [], _∷_}

@@ -1,6 +1,6 @@
--- A book typed line by line. Each line that has a word is, in this order: not read; a close that is withheld, while the book is open and a line before it
--- failed; without heading, a detail of the group while the heading is lost; refused by the writer's rules; or written. A line that is not read,
--- without heading or refused has failed. The heading is lost by a line that is not read and whose kind is a heading or none of the book's, by a
+-- A book typed line by line. Each line that has a word is, in this order: not read; a close that is withheld, while the book is open and a line
+-- before it failed; without heading, a detail of the group while the heading is lost; refused by the writer's rules; or written. A line that is not
+-- read, without heading or refused has failed. The heading is lost by a line that is not read and whose kind is a heading or none of the book's, by a
 -- heading that is refused and by a line refused by 3, and found again by a heading that is written.
 use Prim.Native.Nat.{ℕ, suc, _%_}
 use mathlib.Core.Bool.{Bool, _&&_, _||_, not}

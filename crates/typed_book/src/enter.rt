@@ -13,7 +13,8 @@ ghost use Prim.Native.Nat.{_≤_};
 ghost use lib.ListN.{length};
 ghost use Rattle.base.specs.Choice.{pick, oneMore};
 ghost use Rattle.typed_line.specs.Line.{writeEntry};
-ghost use Rattle.typed_book.specs.Typist.{inGroup, mayHead, firstFailed, notRead, withholding, unheaded, refusedAt, daysOfYear, writtenAs, withheld, headless, recordTurn, turn, enteredOf, enteredBy, laid};
+ghost use Rattle.typed_book.specs.Typist.{inGroup, mayHead, firstFailed, notRead, withholding, unheaded, refusedAt, daysOfYear, writtenAs};
+ghost use Rattle.typed_book.specs.Typist.{withheld, headless, recordTurn, turn, enteredOf, enteredBy, laid};
 
 fn chosen(first: bool, a: u64, b: u64) -> u64
     ensures { λ r. ⌜ r ≡ pick first a b ⌝ }

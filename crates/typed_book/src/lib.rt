@@ -28,7 +28,8 @@ pub struct Typist {
     pub told: u64,
 }
 
-// What becomes of a line. Not read: the kind, 0 where it can't be read, and the place of the wrong word, counted from 1, 0 where the line is too long.
+// What becomes of a line. Not read: the kind, 0 where it can't be read, and the place of the wrong word, counted from 1, 0 where the line is too
+// long.
 pub enum Fate {
     Nothing,
     Unread(u64, usize),
@@ -102,8 +103,8 @@ fn type_line(t: Typist, number: u64, text: &[u8], out: &mut [u8], remarks: &mut 
     }
 }
 
-// Goes on with a text from `typing`, up to the end of a line or of the part: `line` keeps the line being read (1,027 bytes hold any), a record goes to the
-// start of out (28 bytes hold any), and what is said to the start of remarks.
+// Goes on with a text from `typing`, up to the end of a line or of the part: `line` keeps the line being read (1,027 bytes hold any), a record goes
+// to the start of out (28 bytes hold any), and what is said to the start of remarks.
 pub fn type_part(
     typing: Typing,
     line: &mut [u8],

@@ -24,7 +24,8 @@ use Rattle.make_record.specs.Write.{write, writtenOf, laid}
 use Rattle.typed_line.specs.declared.Values.{Values}
 use Rattle.typed_line.specs.declared.Entry.{Entry}
 use Rattle.typed_line.specs.declared.Said.the-variants.{Nothing, Record, Wrong}
-use Rattle.typed_line.specs.Line.{namedFrom, kindOf, rowOfLine, Read, nothingMore, wrongAt, with, valueAt, valuesFrom, padded, listed, entry, noRecord, byKind, lineOf, completedOf, valuesIn, writeEntry}
+use Rattle.typed_line.specs.Line.{namedFrom, kindOf, rowOfLine, Read, nothingMore, wrongAt, with, valueAt, valuesFrom, padded, listed, entry}
+use Rattle.typed_line.specs.Line.{noRecord, byKind, lineOf, completedOf, valuesIn, writeEntry}
 
 -- ---- a word among the names of the kinds
 
@@ -124,7 +125,8 @@ reading-none line kind = record { so-far = []; long = refl; most = omega arith; 
 
 module _ {line : List ℕ} {kind : ℕ} {values : List ℕ} {n : ℕ} (r : Reading line kind values n) where
   -- nothing more is read
-  read-up : (wrong : ℕ) → valuesFrom (512 - n) n kind line ≡ wrongAt wrong → record { values = values; count = n; wrong = wrong } ≡ listed (valuesFrom 512 0 kind line)
+  read-up : (wrong : ℕ) → valuesFrom (512 - n) n kind line ≡ wrongAt wrong
+      → record { values = values; count = n; wrong = wrong } ≡ listed (valuesFrom 512 0 kind line)
   read-up wrong e =
       let all : record { values = r .so-far; wrong = wrong } ≡ valuesFrom 512 0 kind line = rw (e, append-nil) at (r .rest) in
       rw (← all, r .is, r .long)
@@ -207,7 +209,8 @@ module _ (text : List ℕ) where
       pub wrong-kind : kind .good ≡ false → noRecord (Wrong 0 1) ≡ lineOf text
       wrong-kind b = sym (by-kind ∙ rw b)
 
-      module _ (good : kind .good ≡ true) {v : Values} {row : ℕ} (l : row ≡ rowOfLine (kind .value) text) (f : v ≡ listed (valuesFrom 512 0 row text)) where
+      module _ (good : kind .good ≡ true) {v : Values} {row : ℕ} (l : row ≡ rowOfLine (kind .value) text)
+          (f : v ≡ listed (valuesFrom 512 0 row text)) where
         read-so : v ≡ listed (valuesFrom 512 0 (rowOfLine (kind .value) text) text)
         read-so = rw l at f
 
@@ -217,7 +220,8 @@ module _ (text : List ℕ) where
         pub wrong-value : (v .wrong ≡ 0 → ⊥) → noRecord (Wrong (kind .value) (v .wrong)) ≡ lineOf text
         wrong-value n = sym (by-kind ∙ rw (good, ← wrong-is, ne-eqb _ _ n))
 
-        pub says-record : v .wrong ≡ 0 → record { said = Record; entry = record { kind = kind .value; values = v .values; count = v .count } } ≡ lineOf text
+        pub says-record : v .wrong ≡ 0
+            → record { said = Record; entry = record { kind = kind .value; values = v .values; count = v .count } } ≡ lineOf text
         says-record z = sym (by-kind ∙ rw (good, ← wrong-is, eq-eqb _ _ z, read-so))
 
 -- ---- an entry, completed and written
@@ -232,7 +236,8 @@ module _ (e : Entry) (records : ℕ) where
   kept t = rw t
 
 -- d is the entry completed, vs its values: the three clauses of the contract
-pub entry-written : (s : State) (e d : Entry) (vs out : List ℕ) → d ≡ completedOf e (s .account .records) → vs ≡ valuesIn d → {f : Written} {out′ : List ℕ}
+pub entry-written : (s : State) (e d : Entry) (vs out : List ℕ) → d ≡ completedOf e (s .account .records) → vs ≡ valuesIn d
+    → {f : Written} {out′ : List ℕ}
     → (f ≡ writtenOf (write s (d .kind) vs (length out))) × ((out′ ≡ laid (write s (d .kind) vs (length out)) out) × (f .written ≤ length out))
     → (f ≡ writtenOf (writeEntry s e (length out))) × ((out′ ≡ laid (writeEntry s e (length out)) out) × (f .written ≤ length out))
 entry-written s e d vs out p q h = rw (q, p) at h

@@ -36,8 +36,8 @@ kindOf w = pick (eqb (namedFrom lastKind 0 (lowered w)) 0) (amountOf 0 w) (recor
 abbrev pub fourWords : List ℕ → Bool
 fourWords line = not (eqb (length (nthWord 4 line)) 0) && eqb (length (nthWord 5 line)) 0
 
--- the row that a line of some kind is read by: a farm line with four words behind its kind is one of version 2. A number that is no kind has the row 0,
--- which has no fields
+-- the row that a line of some kind is read by: a farm line with four words behind its kind is one of version 2. A number that is no kind has the row
+-- 0, which has no fields
 unfoldable pub rowOfLine : ℕ → List ℕ → ℕ
 rowOfLine kind line = pick (ltb lastKind kind) 0 (pick (eqb kind 1 && fourWords line) 11 kind)
 

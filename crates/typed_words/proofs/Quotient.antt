@@ -52,5 +52,6 @@ module _ {k p : ℕ} (h : k ≤ 15) (e : p ≡ 10 ^ k) where
   pub quotient-nearest : (n : ℕ) → n ≤ 2 ^ 53 → div binary64 (ofInt binary64 (pos n)) (ofInt binary64 (pos p)) ≡ double n (10 ^ k)
   unfolding ofInt
   quotient-nearest n a =
-      values n p power-pos (round binary64 false n 1) (round binary64 false p 1) (round-whole binary64 false n a) (round-whole binary64 false p power-small)
+      values n p power-pos (round binary64 false n 1) (round binary64 false p 1) (round-whole binary64 false n a)
+      (round-whole binary64 false p power-small)
       ∙ ap (double n) e

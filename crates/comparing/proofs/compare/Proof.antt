@@ -22,10 +22,12 @@ compare-spec =
     (λ c κs. tt)
     (λ c.
     let r = c .before .before .before in
-    back-old _ _ _ _ _ _ (r .before .before .count .ensures) (r .before .count2 .ensures) (r .runs .ensures) (c .before .before .least .ensures) _ (c .runs2 .ensures))
+    back-old _ _ _ _ _ _ (r .before .before .count .ensures) (r .before .count2 .ensures) (r .runs .ensures) (c .before .before .least .ensures) _
+    (c .runs2 .ensures))
     (λ c.
     let r = c .before .before .before in
-    back-new _ _ _ _ _ _ (r .before .before .count .ensures) (r .before .count2 .ensures) (r .runs .ensures) (c .before .before .least .ensures) _ (c .runs2 .ensures))
+    back-new _ _ _ _ _ _ (r .before .before .count .ensures) (r .before .count2 .ensures) (r .runs .ensures) (c .before .before .least .ensures) _
+    (c .runs2 .ensures))
     (λ c κs. tt)
     (λ c κs. let n = c .before .before .before .before .before in (n .before .count .ensures, n .count2 .ensures))
     (λ c.

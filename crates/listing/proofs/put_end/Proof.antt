@@ -21,7 +21,8 @@ put-end-spec =
     (λ c.
     let w = c .before .before in
     let i = w .before .before .before in
-    rw (end-unfinished (i .before .before .before .before .before .args .account) (i .before .before .if1 .left) (i .if2 .taken)) (w .put-text2 .ensures))
+    rw (end-unfinished (i .before .before .before .before .before .args .account) (i .before .before .if1 .left) (i .if2 .taken))
+    (w .put-text2 .ensures))
     (λ c. omega arith)
     (λ c. omega arith)
     (λ c. omega arith)
@@ -34,4 +35,5 @@ put-end-spec =
     let n = c .before .before in
     let w = n .before .before .before .before .before in
     let i = w .before .before .before .before .before .before .before in
-    rw (end-refused (i .before .before .before .before .before .args .account) (i .before .before .if1 .left) (i .if2 .left)) (and-then (w .put-text3 .ensures) (n .put-numbers .ensures .0))))
+    rw (end-refused (i .before .before .before .before .before .args .account) (i .before .before .if1 .left) (i .if2 .left))
+    (and-then (w .put-text3 .ensures) (n .put-numbers .ensures .0))))

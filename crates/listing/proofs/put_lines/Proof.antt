@@ -14,7 +14,9 @@ abbrev μ-loop : tie.MeasureT-loop
 μ-loop out₀ lines i₀ at₀ out i at = length lines - i
 
 -- the line at the front stands whole in what is left
-ahead : (c : tie.Else2 Inv-loop μ-loop) → c .before .before .before .before .before .loop .i + c .before .front-size .result ≤ length (c .before .before .before .before .before .before .before .before .args .lines .now)
+ahead : (c : tie.Else2 Inv-loop μ-loop)
+    → c .before .before .before .before .before .loop .i + c .before .front-size .result ≤ length
+    (c .before .before .before .before .before .before .before .before .args .lines .now)
 ahead c =
     let r = c .before .before .before in
     let l = r .before .before in
@@ -29,7 +31,8 @@ put-lines-spec =
     (λ c. putting-none _ _ (c .before .before .pre))
     (λ c κs. search needs)
     (λ c. search needs)
-    (λ c. let r = c .before in putting-ends (r .before .before .loop .inv) (r .rest-of .ensures) (omega (arith, size-least (r .rest-of .result .now))))
+    (λ c. let r = c .before in
+    putting-ends (r .before .before .loop .inv) (r .rest-of .ensures) (omega (arith, size-least (r .rest-of .result .now))))
     (λ c κs. search needs)
     (λ c. search needs)
     (λ c.
@@ -38,8 +41,10 @@ put-lines-spec =
     (λ c κs.
     let r = c .before .before .before .before in
     let l = r .before .before .loop in
-    let d = length-drop (l .i) (r .before .before .before .before .before .args .lines .now) in
-    ((omega arith, omega (arith, c .before .before .front-size .ensures)), omega (arith, c .before .before .front-size .ensures, ap length (r .rest-of .ensures), l .inv .room, l .inv .inside)))
+    let d = length-drop (l .i) (r .before .before .before .before .before .args .lines .now) in (
+      (omega arith, omega (arith, c .before .before .front-size .ensures)),
+      omega (arith, c .before .before .front-size .ensures, ap length (r .rest-of .ensures), l .inv .room, l .inv .inside),
+    ))
     (λ c. omega (arith, ahead (c .before .before .before .before)))
     (λ c.
     let i = c .before .before .before .before in
@@ -48,7 +53,8 @@ put-lines-spec =
     let p = c .before .before in
     let n = p .before .before .before in
     let r = n .before .before in
-    putting-on (r .before .before .loop .inv) (r .rest-of .ensures) (n .front-size .ensures) (omega arith) (p .put-line .ensures .0) (p .put-line .ensures .1))
+    putting-on (r .before .before .loop .inv) (r .rest-of .ensures) (n .front-size .ensures) (omega arith) (p .put-line .ensures .0)
+    (p .put-line .ensures .1))
     (λ c. search needs)
     (λ c.
     let l = c .before .loop in

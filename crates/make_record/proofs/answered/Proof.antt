@@ -20,11 +20,18 @@ open-state : (c : tie.Else3) → Ready (c .before .before .before .before .befor
 open-state c = ready _ (inside (c .before .before .before .before .before .before)) (c .before .before .before .if2 .left) (c .if3 .left)
 
 -- the values are as many as the fields of their row
-values : (c : tie.Else5) → OfKind (c .before .before .before .before .before .before .before .before .before .before .before .before .before .args .kind) (c .before .before .row-for .result) (c .before .before .before .before .before .before .before .before .before .before .before .before .before .args .values .now)
+values : (c : tie.Else5)
+    → OfKind (c .before .before .before .before .before .before .before .before .before .before .before .before .before .args .kind)
+    (c .before .before .row-for .result) (c .before .before .before .before .before .before .before .before .before .before .before .before
+    .before .args .values .now)
 values c = of-kind _ _ _ (c .before .before .before .if4 .left) (c .if5 .left ∙ c .before .values-of .ensures)
 
 -- their row, by its definition
-valued : (c : tie.Else5) → OfKind (c .before .before .before .before .before .before .before .before .before .before .before .before .before .args .kind) (rowFor (c .before .before .before .before .before .before .before .before .before .before .before .before .before .args .kind) (length (c .before .before .before .before .before .before .before .before .before .before .before .before .before .args .values .now))) (c .before .before .before .before .before .before .before .before .before .before .before .before .before .args .values .now)
+valued : (c : tie.Else5)
+    → OfKind (c .before .before .before .before .before .before .before .before .before .before .before .before .before .args .kind)
+    (rowFor (c .before .before .before .before .before .before .before .before .before .before .before .before .before .args .kind)
+    (length (c .before .before .before .before .before .before .before .before .before .before .before .before .before .args .values .now)))
+    (c .before .before .before .before .before .before .before .before .before .before .before .before .before .args .values .now)
 valued c = rw (c .before .before .row-for .ensures) at (values c)
 
 pub answered-spec : {M : Type 1} → statement M
@@ -33,11 +40,14 @@ answered-spec =
     (tie.spec
     (λ c κs. search needs)
     (λ c κs. search needs)
-    (λ c. c .outside .ensures ∙ ap writtenOf (sym (by-13 _ _ _ _ _ (sym (c .before .before .in-range .ensures) ∙ not-true _ (c .before .if1 .taken)))))
+    (λ c. c .outside .ensures ∙ ap writtenOf (sym (by-13 _ _ _ _ _ (sym (c .before .before .in-range .ensures)
+    ∙ not-true _ (c .before .if1 .taken)))))
     (λ c κs. search needs)
-    (λ c. c .refused .ensures ∙ ap writtenOf (sym (by-own _ _ _ _ _ (inside (c .before .before .before .before .before)) (c .before .before .if2 .taken))))
+    (λ c. c .refused .ensures ∙ ap writtenOf (sym (by-own _ _ _ _ _ (inside (c .before .before .before .before .before))
+    (c .before .before .if2 .taken))))
     (λ c κs. search needs)
-    (λ c. c .refused-by .ensures ∙ ap writtenOf (sym (by-22 _ _ _ _ _ (inside (c .before .before .before .before .before .before .before)) (c .before .before .before .before .if2 .left) (c .before .if3 .taken))))
+    (λ c. c .refused-by .ensures ∙ ap writtenOf (sym (by-22 _ _ _ _ _ (inside (c .before .before .before .before .before .before .before))
+    (c .before .before .before .before .if2 .left) (c .before .if3 .taken))))
     (λ c κs. search needs)
     (λ c. c .refused-by2 .ensures ∙ ap writtenOf (sym (by-3 _ _ _ _ _ (open-state (c .before .before)) (c .before .if4 .taken))))
     (λ c κs. tt)
@@ -45,13 +55,16 @@ answered-spec =
     (λ c κs. search needs)
     (λ c.
     let count = rw (c .before .before .before .row-for .ensures) at (c .before .before .values-of .ensures) in
-    c .refused-by3 .ensures ∙ ap writtenOf (sym (by-4 _ _ _ _ _ (open-state (c .before .before .before .before .before)) (c .before .before .before .before .if4 .left) (λ e. c .before .if5 .taken (e ∙ sym count)))))
-    (λ c κs. let y = open-state (c .before .before .before .before) in (y .range .account, y .early, of-row _ _ (c .before .before .row-for .ensures) (values c)))
+    c .refused-by3 .ensures ∙ ap writtenOf (sym (by-4 _ _ _ _ _ (open-state (c .before .before .before .before .before))
+    (c .before .before .before .before .if4 .left) (λ e. c .before .if5 .taken (e ∙ sym count)))))
+    (λ c κs. let y = open-state (c .before .before .before .before) in
+    (y .range .account, y .early, of-row _ _ (c .before .before .row-for .ensures) (values c)))
     (λ c κs. search needs)
     (λ c.
     let e = c .before .before .before .before .before .before in
     let next = rw (e .before .before .row-for .ensures) at (c .before .before .before .before .before .weighed .ensures .account) in
-    c .refused2 .ensures ∙ ap writtenOf (sym (by-reader _ _ _ _ _ (open-state (e .before .before .before .before)) (valued e) _ next (c .before .before .if6 .taken))))
+    c .refused2 .ensures ∙ ap writtenOf (sym (by-reader _ _ _ _ _ (open-state (e .before .before .before .before)) (valued e) _ next
+    (c .before .before .if6 .taken))))
     (λ c κs. let e = c .before .before .before .before in let o = of-row _ _ (e .before .before .row-for .ensures) (values e) in (o .least, o .most))
     (λ c κs. search needs)
     (λ c.
@@ -59,7 +72,8 @@ answered-spec =
     let row = e .before .before .row-for .ensures in
     let next = rw row at (c .before .before .before .before .before .before .weighed .ensures .account) in
     let short = rw (c .before .before .bytes-of .ensures, row) at (c .before .if7 .taken) in
-    c .refused-by4 .ensures ∙ ap writtenOf (sym (by-16 _ _ _ _ _ (open-state (e .before .before .before .before)) (valued e) _ next (c .before .before .before .if6 .left) short)))
+    c .refused-by4 .ensures ∙ ap writtenOf (sym (by-16 _ _ _ _ _ (open-state (e .before .before .before .before)) (valued e) _ next
+    (c .before .before .before .if6 .left) short)))
     (λ c.
     let e = c .before .before .before .before .before .before in
     let row = e .before .before .row-for .ensures in

@@ -38,7 +38,8 @@ again c =
       to = search needs;
       room = search needs;
       small = search needs;
-      rest = λ zs q p. turn .inv .rest zs q (rw (drop-cons values (turn .k) 0 (c .before .before .before .before .before .loop-test .taken)) (and-then (put .ensures .0) (rw add-one at p)));
+      rest = λ zs q p. turn .inv .rest zs q (rw (drop-cons values (turn .k) 0 (c .before .before .before .before .before .loop-test .taken))
+          (and-then (put .ensures .0) (rw add-one at p)));
     }
 
 returns : tie.Need-returns Inv-loop μ-loop

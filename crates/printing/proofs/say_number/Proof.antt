@@ -17,5 +17,7 @@ say-number-spec =
     (λ c κs. search needs)
     (λ c. search needs)
     (λ c.
-    let digits = c .before .before .before .first-of .ensures ∙ text-at-start (c .before .before .before .before .before .before .before .put-decimal .ensures .0) in
+    let digits =
+    c .before .before .before .first-of .ensures ∙ text-at-start (c .before .before .before .before .before .before .before .put-decimal
+    .ensures .0) in
     rw digits at (c .before .before .say .ensures)))

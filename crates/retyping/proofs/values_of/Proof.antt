@@ -16,7 +16,8 @@ eleven c =
     let least : 1 ≤ c .before .before .args .kind = omega (arith, p .1, p .0 .least) in
     let most : c .before .before .args .kind ≤ lastRow = omega (arith, p .1, p .0 .most) in
     let s = r .0 .0 .0 .0 .0 in
-    last-row _ least most (s .0 .0 .0 .0 .1) (s .0 .0 .0 .1) (s .0 .0 .1) (s .0 .1) (s .1) (r .0 .0 .0 .0 .1) (r .0 .0 .0 .1) (r .0 .0 .1) (r .0 .1) (r .1)
+    last-row _ least most (s .0 .0 .0 .0 .1) (s .0 .0 .0 .1) (s .0 .0 .1) (s .0 .1) (s .1) (r .0 .0 .0 .0 .1) (r .0 .0 .0 .1) (r .0 .0 .1) (r .0 .1)
+    (r .1)
 
 pub values-of-spec : {M : Type 1} → statement M
 unfolding table size

@@ -12,7 +12,8 @@ ten c =
     let p = c .before .before .pre in
     let k = p .2 .kinds in
     let s = r .0 .0 .0 .0 in
-    last-kind _ (rw (p .3) (kind-least _ k)) (rw (p .3) (kind-most _ k)) (s .0 .0 .0 .0 .1) (s .0 .0 .0 .1) (s .0 .0 .1) (s .0 .1) (s .1) (r .0 .0 .0 .1) (r .0 .0 .1) (r .0 .1) (r .1)
+    last-kind _ (rw (p .3) (kind-least _ k)) (rw (p .3) (kind-most _ k)) (s .0 .0 .0 .0 .1) (s .0 .0 .0 .1) (s .0 .0 .1) (s .0 .1) (s .1)
+    (r .0 .0 .0 .1) (r .0 .0 .1) (r .0 .1) (r .1)
 
 pub by-kind-spec : {M : Type 1} → statement M
 unfolding table size

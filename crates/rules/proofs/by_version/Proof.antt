@@ -11,7 +11,8 @@ use Rattle.rules.proofs.by_version.Statement.{statement}
 use Rattle.rules.proofs.by_version.Tie as tie
 
 returns : tie.Need-returns
-returns c = let s = c .before .before .before .before .before in wrong-version _ _ _ _ (no-version (s .args .r .now) (s .pre .3) (c .before .if1 .taken)) (c .wrong .ensures)
+returns c = let s = c .before .before .before .before .before in
+    wrong-version _ _ _ _ (no-version (s .args .r .now) (s .pre .3) (c .before .if1 .taken)) (c .wrong .ensures)
 
 eleven : (c : tie.Else1) → Kind 11 (c .before .before .before .before .args .r .now)
 eleven c = second-version (c .before .before .before .before .args .r .now) (c .before .before .before .before .pre .2) (c .if1 .left)

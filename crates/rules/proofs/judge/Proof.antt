@@ -15,7 +15,8 @@ returns-2 : tie.Need-returns-2
 returns-2 c =
     let r = c .before .before .before .before .before .before .before .args .r .now in
     let one = c .before .before .before .before .if1 .left in
-    wrong-kind _ _ _ _ (first-version r one) (rw (not-listed (kindByte r) _ (c .before .before .size-of .ensures) (c .before .if2 .taken)) refl) (c .wrong .ensures)
+    wrong-kind _ _ _ _ (first-version r one) (rw (not-listed (kindByte r) _ (c .before .before .size-of .ensures) (c .before .if2 .taken)) refl)
+    (c .wrong .ensures)
 
 -- as long as its kind, or not
 returns-3 : tie.Need-returns-3
@@ -26,7 +27,12 @@ returns-3 c =
     let r = start .args .r .now in
     let one = k .before .before .before .if1 .left in
     let w : Kind (kindByte r) r =
-    record { whole = start .pre .2; version = first-version r one; listed = rw (listed (kindByte r) _ e (k .if2 .left)) refl; kind = own-row r one } in
+    record {
+      whole = start .pre .2;
+      version = first-version r one;
+      listed = rw (listed (kindByte r) _ e (k .if2 .left)) refl;
+      kind = own-row r one;
+    } in
     wrong-length _ _ _ _ w (omega (arith, size-is (kindByte r) _ e (k .if2 .left))) _ _ (c .before .if3 .taken) (c .wrong2 .ensures)
 
 by-kind-requires : tie.Need-by-kind-requires

@@ -11,7 +11,8 @@ returns c =
     let ym = head .before .before .before .before in
     let ge = ym .before .before .before .before .put-spaced-shown .ensures in
     let days = c .before .before .put-decimal .ensures in (
-      and-then (ge .0) (and-then (ym .put-spaced-shown2 .ensures .0) (and-then (head .put-spaced-shown3 .ensures .0) (and-then (space .put-byte .ensures) (days .0)))),
+      and-then (ge .0) (and-then (ym .put-spaced-shown2 .ensures .0) (and-then (head .put-spaced-shown3 .ensures .0)
+          (and-then (space .put-byte .ensures) (days .0)))),
       omega (arith, ge .1, ym .put-spaced-shown2 .ensures .1, head .put-spaced-shown3 .ensures .1, space .put-byte .ensures .next, days .1),
     )
 

@@ -11,7 +11,13 @@ feed c =
 ym : tie.Need-returns-2
 ym c =
     let feed = c .before .before .before in
-    simp (sym (feed .before .before .before .word .ensures), sym (feed .before .is-word .ensures), feed .if1 .left, sym (c .before .is-word2 .ensures), c .if2 .taken)
+    simp (
+      sym (feed .before .before .before .word .ensures),
+      sym (feed .before .is-word .ensures),
+      feed .if1 .left,
+      sym (c .before .is-word2 .ensures),
+      c .if2 .taken,
+    )
 
 head : tie.Need-returns-3
 head c =

@@ -16,4 +16,5 @@ type-line-spec =
     (λ c.
     let p = c .before .before .before .before .before .before .before in
     let args = p .before .before .before .before .before .args in
-    line-typed (args .t) (args .number) (args .text .now) (length (args .out .now)) (args .out .now) (p .enter .ensures .0) (p .enter .ensures .1) (c .before .before .say-remark .ensures)))
+    line-typed (args .t) (args .number) (args .text .now) (length (args .out .now)) (args .out .now) (p .enter .ensures .0) (p .enter .ensures .1)
+    (c .before .before .say-remark .ensures)))

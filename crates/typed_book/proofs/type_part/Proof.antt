@@ -10,7 +10,8 @@ goes-on : tie.Need-returns
 goes-on c =
     let cut = c .before .before .before .before .before .cut-line .ensures in
     let start = c .before .before .before .before .before .before .before .before .before .before .before .before .before in
-    open-call (start .args .typing) (start .args .line .now) (start .args .part .now) (length (start .args .out .now)) (cut .0) (not-true _ (c .if1 .taken)) (cut .1 .0) (cut .1 .1 .0)
+    open-call (start .args .typing) (start .args .line .now) (start .args .part .now) (length (start .args .out .now)) (cut .0)
+    (not-true _ (c .if1 .taken)) (cut .1 .0) (cut .1 .1 .0)
     (start .args .out .now) (start .args .remarks .now)
 
 ends : tie.Need-returns-2
@@ -19,7 +20,8 @@ ends c =
     let test = line .before .before .before .before .before in
     let cut = test .before .before .before .before .before .cut-line .ensures in
     let start = test .before .before .before .before .before .before .before .before .before .before .before .before .before in
-    ended-call (start .args .typing) (start .args .line .now) (start .args .part .now) (length (start .args .out .now)) (cut .0) (not-false _ (test .if1 .left)) (cut .1 .0) (cut .1 .1 .0)
+    ended-call (start .args .typing) (start .args .line .now) (start .args .part .now) (length (start .args .out .now)) (cut .0)
+    (not-false _ (test .if1 .left)) (cut .1 .0) (cut .1 .1 .0)
     (line .before .before .before .whole .ensures) (line .type-line .result) (start .args .out .now) (line .type-line .ensures) (c .next .ensures)
 
 pub type-part-spec : {M : Type 1} → statement M

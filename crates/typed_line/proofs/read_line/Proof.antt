@@ -10,7 +10,8 @@ no-kind : tie.Need-returns-3
 no-kind c =
     let front = c .before .before .before .before in
     c .without3 .ensures
-    ∙ wrong-kind _ (front .before .before .if1 .left) (front .before .word .ensures) (front .if2 .left) (c .before .before .before .read-kind .ensures) (not-true _ (c .before .if3 .taken))
+    ∙ wrong-kind _ (front .before .before .if1 .left) (front .before .word .ensures) (front .if2 .left)
+    (c .before .before .before .read-kind .ensures) (not-true _ (c .before .if3 .taken))
 
 no-value : tie.Need-returns-4
 no-value c =
@@ -18,7 +19,8 @@ no-value c =
     let kind = row .before in
     let front = kind .before .before .before in
     c .without4 .ensures
-    ∙ wrong-value _ (front .before .before .if1 .left) (front .before .word .ensures) (front .if2 .left) (kind .before .before .read-kind .ensures) (not-false _ (kind .if3 .left))
+    ∙ wrong-value _ (front .before .before .if1 .left) (front .before .word .ensures) (front .if2 .left) (kind .before .before .read-kind .ensures)
+    (not-false _ (kind .if3 .left))
     (row .row-of-line .ensures) (c .before .before .before .read-values .ensures) (c .before .if4 .taken)
 
 a-record : tie.Need-returns-5
@@ -26,7 +28,8 @@ a-record c =
     let row = c .before .before .before .before in
     let kind = row .before in
     let front = kind .before .before .before in
-    says-record _ (front .before .before .if1 .left) (front .before .word .ensures) (front .if2 .left) (kind .before .before .read-kind .ensures) (not-false _ (kind .if3 .left))
+    says-record _ (front .before .before .if1 .left) (front .before .word .ensures) (front .if2 .left) (kind .before .before .read-kind .ensures)
+    (not-false _ (kind .if3 .left))
     (row .row-of-line .ensures) (c .before .before .before .read-values .ensures) (c .before .if4 .left)
 
 pub read-line-spec : {M : Type 1} → statement M

@@ -36,7 +36,11 @@ pub +word-spec : {M : Type 1} → statement M
     (at-measure t)
     word.Post
     (λ c κs. search needs)
-    (λ c. rw (c .first-word .ensures, no-others (c .before .before .before .args .n) (c .before .before .before .args .s .now) (c .before .if1 .taken)))
+    (λ c. rw (
+      c .first-word .ensures,
+      no-others (c .before .before .before .args .n) (c .before .before .before .args .s .now)
+          (c .before .if1 .taken),
+    ))
     (λ c κs. search needs)
     (λ c. search needs)
     (λ c κs. search needs)

@@ -20,11 +20,14 @@ broken-off c =
     let turn = c .before .before .before .before .loop in
     let s = c .before .before .before .before .before .before .args .s .now in
     let test = c .before .takes-digit in (
-      sym (turn .inv .2 ∙ breaks-off (turn .v) s (turn .i) (c .before .before .before .loop-test .taken) (test .result) (test .ensures) (c .if1 .taken)),
+      sym (turn .inv .2 ∙ breaks-off (turn .v) s (turn .i) (c .before .before .before .loop-test .taken) (test .result) (test .ensures)
+          (c .if1 .taken)),
       search needs,
     )
 
-told : (c : tie.Else1 Inv-loop μ-loop) → Taken (c .before .before .before .before .loop .v) (getD (c .before .before .before .before .before .before .args .s .now) (c .before .before .before .before .loop .i) 0)
+told : (c : tie.Else1 Inv-loop μ-loop)
+    → Taken (c .before .before .before .before .loop .v) (getD (c .before .before .before .before .before .before .args .s .now)
+    (c .before .before .before .before .loop .i) 0)
 told c = taken _ _ (c .before .takes-digit .result) (c .before .takes-digit .ensures) (c .if1 .left)
 
 again : tie.Need-loop-again Inv-loop μ-loop

@@ -31,7 +31,8 @@ again c =
     let test = c .before .is-blank in (
       search needs,
       turn .inv .1
-          ∙ goes-on (args .blanks) (args .s .now) (turn .i) (c .before .before .before .loop-test .taken) (test .result) (test .ensures) (c .if1 .left),
+          ∙ goes-on (args .blanks) (args .s .now) (turn .i) (c .before .before .before .loop-test .taken) (test .result) (test .ensures)
+          (c .if1 .left),
     )
 
 passed : tie.Need-returns-2 Inv-loop μ-loop

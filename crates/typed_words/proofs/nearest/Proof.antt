@@ -11,4 +11,5 @@ nearest-spec =
     (λ c κs. search needs)
     (λ c. exact (c .before .before .args .n) (omega arith))
     (λ c. exact (c .before .before .ten-to .result) (power-small (c .before .before .before .pre .1) (c .before .before .ten-to .ensures)))
-    (λ c. quotient-nearest (c .before .before .before .pre .1) (c .before .before .ten-to .ensures) (c .before .before .before .args .n) (omega arith)))
+    (λ c. quotient-nearest (c .before .before .before .pre .1) (c .before .before .ten-to .ensures) (c .before .before .before .args .n)
+    (omega arith)))

@@ -9,14 +9,16 @@ few c κs =
     let parts = c .before .before .before in
     let whole = parts .before .before .digits .result in (
       search needs,
-      few-places (parts .before .before .before .before .find .result) whole (parts .digits2 .result) (parts .before .behind-point .result .now) (c .if1 .taken),
+      few-places (parts .before .before .before .before .find .result) whole (parts .digits2 .result) (parts .before .behind-point .result .now)
+          (c .if1 .taken),
     )
 
 decimal : tie.Need-returns
 decimal c =
     let parts = c .before .before .before .before in
     let front = parts .before .before .before in
-    is-decimal (front .before .before .before .args .s .now) (front .before .find .ensures .0) (front .first-of .ensures) (parts .before .before .digits .ensures .0)
+    is-decimal (front .before .before .before .args .s .now) (front .before .find .ensures .0) (front .first-of .ensures)
+    (parts .before .before .digits .ensures .0)
     (parts .before .behind-point .ensures) (parts .digits2 .ensures .0) (c .nearest .result) (c .before .if1 .taken) (c .nearest .ensures)
 
 none : tie.Need-returns-2
@@ -24,7 +26,8 @@ unfolding ofBits
 none c =
     let parts = c .before .before .before in
     let front = parts .before .before .before in
-    is-none (front .before .before .before .args .s .now) (front .before .find .ensures .0) (front .first-of .ensures) (parts .before .before .digits .ensures .0)
+    is-none (front .before .before .before .args .s .now) (front .before .find .ensures .0) (front .first-of .ensures)
+    (parts .before .before .digits .ensures .0)
     (parts .before .behind-point .ensures) (parts .digits2 .ensures .0) (c .if1 .left)
 
 pub read-decimal-spec : {M : Type 1} → statement M

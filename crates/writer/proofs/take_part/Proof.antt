@@ -16,7 +16,8 @@ abbrev μ-loop : tie.MeasureT-loop
 
 -- what a call took lies in what was left
 ahead : (c : tie.After-take-line Inv-loop μ-loop)
-    → c .before .before .before .before .loop .i + c .take-line .result .taken ≤ length (c .before .before .before .before .before .before .before .args .part .now)
+    → c .before .before .before .before .loop .i + c .take-line .result .taken ≤ length
+    (c .before .before .before .before .before .before .before .args .part .now)
 ahead c =
     let l = c .before .before .before .before in
     let part = l .before .before .before .args .part .now in

@@ -25,7 +25,8 @@ both : (c : tie.Else3) → from-both c .args .j .line .given ≡ linesMost
 both c =
     let s = from-both c in
     let second = c .before .before .before .before .before in
-    both-are (s .args .out .now) (s .args .w) (s .args .j) (s .pre .0) (second .before .before .before .if1 .left) (second .if2 .left) (c .if3 .left) (s .pre .1)
+    both-are (s .args .out .now) (s .args .w) (s .args .j) (s .pre .0) (second .before .before .before .if1 .left) (second .if2 .left) (c .if3 .left)
+    (s .pre .1)
 
 line-returns : tie.Need-returns-2
 line-returns c =
@@ -54,7 +55,8 @@ returns-4 c =
     let s = from-both b in
     c .before .before .put-total2 .ensures
     ∙ ap (λ (l : List ℕ). sets l (s .args .w + lineSize) (total (s .args .j))) (c .before .before .before .before .before .before .put-line2 .ensures)
-    ∙ both-written (s .args .out .now) (s .args .w) (s .args .j) (s .pre .0) (second .before .before .before .if1 .left) (second .if2 .left) (b .if3 .left) (s .pre .1)
+    ∙ both-written (s .args .out .now) (s .args .w) (s .args .j) (s .pre .0) (second .before .before .before .if1 .left) (second .if2 .left)
+    (b .if3 .left) (s .pre .1)
 
 pub write-spec : {M : Type 1} → statement M
 write-spec =

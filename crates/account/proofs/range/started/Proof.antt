@@ -4,4 +4,6 @@ use Rattle.account.proofs.range.started.Statement.{statement}
 use Rattle.account.proofs.range.started.Tie as tie
 
 pub started-spec : {M : Type 1} → statement M
-started-spec = tie.close (tie.spec (λ c. rw (c .if1 .taken) (let a = c .before .args in open-started (a .records) (a .ch4) (a .n2o))) (λ c κs. tt) (λ c κs. tt) (λ c κs. tt) (λ c. cc))
+started-spec =
+    tie.close (tie.spec (λ c. rw (c .if1 .taken) (let a = c .before .args in open-started (a .records) (a .ch4) (a .n2o))) (λ c κs. tt) (λ c κs. tt)
+    (λ c κs. tt) (λ c. cc))

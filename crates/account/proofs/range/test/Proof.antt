@@ -6,7 +6,13 @@ use Rattle.account.proofs.range.test.Tie as tie
 returns : tie.Need-returns
 returns c =
     let e = c .before in
-    rw (c .grazed-in .ensures, e .ended .ensures, e .before .under .ensures, e .before .before .bounded .ensures, e .before .before .before .started .ensures)
+    rw (
+      c .grazed-in .ensures,
+      e .ended .ensures,
+      e .before .under .ensures,
+      e .before .before .bounded .ensures,
+      e .before .before .before .started .ensures,
+    )
     (in-parts (e .before .before .before .before .before .before .before .before .before .before .args .a))
 
 pub test-spec : {M : Type 1} → statement M

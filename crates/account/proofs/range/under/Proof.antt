@@ -9,7 +9,9 @@ under-spec =
     (tie.spec
     (λ c κs. tt)
     (λ c κs. tt)
-    (λ c. rw (c .ungrouped .ensures, c .before .unheaded .ensures) (let a = c .before .before .before .before .args in under-none (a .h) (a .d) (a .s) (a .records) (c .before .before .if1 .taken)))
+    (λ c. rw (c .ungrouped .ensures, c .before .unheaded .ensures) (let a = c .before .before .before .before .args in
+    under-none (a .h) (a .d) (a .s) (a .records) (c .before .before .if1 .taken)))
     (λ c κs. tt)
     (λ c κs. tt)
-    (λ c. rw (c .grouped .ensures, c .before .headed .ensures) (let a = c .before .before .before .before .args in under-some (a .h) (a .d) (a .s) (a .records) (c .before .before .if1 .left))))
+    (λ c. rw (c .grouped .ensures, c .before .headed .ensures) (let a = c .before .before .before .before .args in
+    under-some (a .h) (a .d) (a .s) (a .records) (c .before .before .if1 .left))))

@@ -54,7 +54,8 @@ feed-spec =
     μ-loop
     (λ c κs. tt)
     (λ c κs. tt)
-    (λ c. let t = c .before .before .in-range in meets-outside _ _ _ (sym (t .ensures) ∙ not-true (t .result) (c .before .if1 .taken)) (c .outside .ensures))
+    (λ c. let t = c .before .before .in-range in
+    meets-outside _ _ _ (sym (t .ensures) ∙ not-true (t .result) (c .before .if1 .taken)) (c .outside .ensures))
     (λ c. let t = c .before .in-range in reading-none _ _ _ (range-parts _ (sym (t .ensures) ∙ not-false (t .result) (c .if1 .left))))
     (λ c κs. tt)
     (λ c. c .before .before .before .before .before .loop .inv .long)

@@ -27,6 +27,9 @@ past-zeros-spec =
     (λ c. search needs)
     (λ c. omega arith)
     (λ c.
-    let l = c .before .before .before .before .loop in
-    (l .inv .0, sym (zeros-four _ (l .i) (omega (arith, l .inv .0, c .before .before .before .loop-test .taken)) (sym (c .before .be32 .ensures) ∙ c .if1 .left)) ∙ l .inv .1))
+    let l = c .before .before .before .before .loop in (
+      l .inv .0,
+      sym (zeros-four _ (l .i) (omega (arith, l .inv .0, c .before .before .before .loop-test .taken))
+          (sym (c .before .be32 .ensures) ∙ c .if1 .left)) ∙ l .inv .1,
+    ))
     (λ c. c .before .loop .inv .1))

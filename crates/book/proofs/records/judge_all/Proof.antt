@@ -2,7 +2,8 @@ use Prim.Native.Nat.{_-_}
 use native.Mathlib.Omega.{arith}
 use lib.ListN.{length}
 use Rattle.account.proofs.Told.{tells-fit}
-use Rattle.book.proofs.RecordLaws.{record-in, record-whole, Running, running-none, ran-ended, ran-end, ran-out, Next, record-inside, ran-full, running-on}
+use Rattle.book.proofs.RecordLaws.{record-in, record-whole, Running, running-none, ran-ended, ran-end, ran-out, Next, record-inside, ran-full}
+use Rattle.book.proofs.RecordLaws.{running-on}
 use Rattle.book.proofs.records.judge_all.Statement.{statement}
 use Rattle.book.proofs.records.judge_all.Tie as tie
 
@@ -58,12 +59,24 @@ judge-all-spec =
     (λ c. next (c .before .before) .running .reading .fits)
     (λ c. next (c .before .before .before .before) .running .reading .long)
     (λ c. ran-full (next (c .before .before .before .before)) (c .if3 .taken))
-    (λ c κs. let x = next (c .before .before .before .before .before) in (omega (arith, c .before .if3 .left, x .running .reading .fits), tells-fit (x .tells) (c .before .if3 .left) .long))
+    (λ c κs. let x = next (c .before .before .before .before .before) in
+    (omega (arith, c .before .if3 .left, x .running .reading .fits), tells-fit (x .tells) (c .before .if3 .left) .long))
     (λ c.
     let x = next (c .before .before .before .before .before .before .before .before .before) .running .reading in
-    omega (arith, c .before .before .before .before .before .if3 .left, x .fits, x .long, entry (c .before .before .before .before .before .before .before .before .before) .good))
-    (λ c. omega (arith, record-inside (next (c .before .before .before .before .before .before .before .before .before)), entry (c .before .before .before .before .before .before .before .before .before) .good))
+    omega (
+      arith,
+      c .before .before .before .before .before .if3 .left,
+      x .fits,
+      x .long,
+      entry (c .before .before .before .before .before .before .before .before .before) .good,
+    ))
+    (λ c. omega (
+      arith,
+      record-inside (next (c .before .before .before .before .before .before .before .before .before)),
+      entry (c .before .before .before .before .before .before .before .before .before) .good,
+    ))
     (λ c. let x = next (c .before .before .before .before .before .before .before .before .before) in omega (arith, record-inside x, x .some))
-    (λ c. running-on (next (c .before .before .before .before .before .before .before .before .before)) (c .before .before .before .before .before .if3 .left) (c .before .before .before .write .ensures))
+    (λ c. running-on (next (c .before .before .before .before .before .before .before .before .before))
+    (c .before .before .before .before .before .if3 .left) (c .before .before .before .write .ensures))
     (λ c. c .before .loop .inv .reading .long)
     (λ c. let p = c .before .before .before .before .pre in ran-end (p .1) (c .before .loop .inv) (c .loop-test .left)))

@@ -23,4 +23,11 @@ write-spec =
     (λ c. omega arith)
     (λ c κs. omega arith)
     (λ c. omega arith)
-    (λ c. rw (fields-stored, c .before .before .put1 .ensures, c .before .before .before .before .before .before .put2 .ensures, c .before .before .before .before .before .before .before .before .before .before .put4 .ensures, c .before .before .before .before .before .before .before .before .before .before .before .before .before .before .put-start .ensures) refl))
+    (λ c. rw (
+      fields-stored,
+      c .before .before .put1 .ensures,
+      c .before .before .before .before .before .before .put2 .ensures,
+      c .before .before .before .before .before .before .before .before .before .before .put4 .ensures,
+      c .before .before .before .before .before .before .before .before .before .before .before .before .before .before .put-start
+          .ensures,
+    ) refl))

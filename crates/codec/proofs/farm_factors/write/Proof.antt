@@ -16,7 +16,8 @@ returns c =
       c .before .before .before .before .before .before .put22 .ensures,
       c .before .before .before .before .before .before .before .before .before .before .put2 .ensures,
       c .before .before .before .before .before .before .before .before .before .before .before .before .before .before .put4 .ensures,
-      c .before .before .before .before .before .before .before .before .before .before .before .before .before .before .before .before .before .before .put-versioned .ensures,
+      c .before .before .before .before .before .before .before .before .before .before .before .before .before .before .before .before .before
+          .before .put-versioned .ensures,
     )
     refl
 

@@ -16,7 +16,8 @@ returns c =
       c .before .before .before .before .before .before .put2 .ensures,
       c .before .before .before .before .before .before .before .before .before .before .put12 .ensures,
       c .before .before .before .before .before .before .before .before .before .before .before .before .before .before .put1 .ensures,
-      c .before .before .before .before .before .before .before .before .before .before .before .before .before .before .before .before .before .before .put-start .ensures,
+      c .before .before .before .before .before .before .before .before .before .before .before .before .before .before .before .before .before
+          .before .put-start .ensures,
     )
     refl
 

@@ -20,4 +20,7 @@ detail-numbers-spec =
     (λ c κs. omega arith)
     (λ c κs. omega arith)
     (λ c κs. omega arith)
-    (λ c. λ j. c .before .before .before .before .before .before .before .be8 .ensures j ∷ c .before .before .before .before .before .before .be16 .ensures j ∷ c .before .before .before .before .before .be64 .ensures j ∷ c .before .before .before .before .be642 .ensures j ∷ c .before .before .before .be643 .ensures j ∷ c .before .before .be644 .ensures j ∷ c .before .be645 .ensures j ∷ c .be646 .ensures j ∷ []))
+    (λ c. λ j. c .before .before .before .before .before .before .before .be8 .ensures j
+    ∷ c .before .before .before .before .before .before .be16 .ensures j ∷ c .before .before .before .before .before .be64 .ensures j
+    ∷ c .before .before .before .before .be642 .ensures j ∷ c .before .before .before .be643 .ensures j ∷ c .before .before .be644 .ensures j
+    ∷ c .before .be645 .ensures j ∷ c .be646 .ensures j ∷ []))

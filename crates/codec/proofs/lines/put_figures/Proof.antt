@@ -22,4 +22,13 @@ put-figures-spec =
     (λ c. omega arith)
     (λ c κs. omega arith)
     (λ c. omega arith)
-    (λ c. rw (c .before .before .put86 .ensures, c .before .before .before .before .before .before .put85 .ensures, c .before .before .before .before .before .before .before .before .before .before .put84 .ensures, c .before .before .before .before .before .before .before .before .before .before .before .before .before .before .put83 .ensures, c .before .before .before .before .before .before .before .before .before .before .before .before .before .before .before .before .before .before .put82 .ensures, c .before .before .before .before .before .before .before .before .before .before .before .before .before .before .before .before .before .before .before .before .before .before .put8 .ensures) refl))
+    (λ c. rw (
+      c .before .before .put86 .ensures,
+      c .before .before .before .before .before .before .put85 .ensures,
+      c .before .before .before .before .before .before .before .before .before .before .put84 .ensures,
+      c .before .before .before .before .before .before .before .before .before .before .before .before .before .before .put83 .ensures,
+      c .before .before .before .before .before .before .before .before .before .before .before .before .before .before .before .before
+          .before .before .put82 .ensures,
+      c .before .before .before .before .before .before .before .before .before .before .before .before
+          .before .before .before .before .before .before .before .before .before .before .put8 .ensures,
+    ) refl))

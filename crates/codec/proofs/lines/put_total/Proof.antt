@@ -20,4 +20,11 @@ put-total-spec =
     (λ c. omega arith)
     (λ c κs. omega arith)
     (λ c. omega arith)
-    (λ c. rw (bytes-stored, c .before .before .put8 .ensures, c .before .before .before .before .before .before .put-figures .ensures, c .before .before .before .before .before .before .before .before .before .before .put2 .ensures, c .before .before .before .before .before .before .before .before .before .before .before .before .before .before .put-start .ensures) refl))
+    (λ c. rw (
+      bytes-stored,
+      c .before .before .put8 .ensures,
+      c .before .before .before .before .before .before .put-figures .ensures,
+      c .before .before .before .before .before .before .before .before .before .before .put2 .ensures,
+      c .before .before .before .before .before .before .before .before .before .before .before .before .before .before .put-start
+          .ensures,
+    ) refl))

@@ -35,9 +35,11 @@ put8-spec =
     (λ c. let l = c .before .loop in (
       omega arith,
       simp length-set (l .inv .1),
-      copied-one (c .before .before .bytes8 .result) (l .out) (c .before .before .before .before .args .at) (l .i) (omega (arith, eight (c .before .before))) ∙ l .inv .2,
+      copied-one (c .before .before .bytes8 .result) (l .out) (c .before .before .before .before .args .at) (l .i)
+          (omega (arith, eight (c .before .before))) ∙ l .inv .2,
     ))
     (λ c. c .before .loop .inv .1)
     (λ c.
     let l = c .before .loop in
-    rw (← c .before .before .bytes8 .ensures) (sym (copied-all (c .before .before .bytes8 .result) (l .out) (c .before .before .before .before .args .at) (l .i) (omega (arith, eight (c .before .before)))) ∙ l .inv .2)))
+    rw (← c .before .before .bytes8 .ensures) (sym (copied-all (c .before .before .bytes8 .result) (l .out)
+    (c .before .before .before .before .args .at) (l .i) (omega (arith, eight (c .before .before)))) ∙ l .inv .2)))

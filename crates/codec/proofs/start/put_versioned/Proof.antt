@@ -15,4 +15,8 @@ put-versioned-spec =
     (λ c. omega arith)
     (λ c κs. omega arith)
     (λ c. omega arith)
-    (λ c. rw (c .before .before .put12 .ensures, c .before .before .before .before .before .before .put1 .ensures, c .before .before .before .before .before .before .before .before .before .before .put2 .ensures) refl))
+    (λ c. rw (
+      c .before .before .put12 .ensures,
+      c .before .before .before .before .before .before .put1 .ensures,
+      c .before .before .before .before .before .before .before .before .before .before .put2 .ensures,
+    ) refl))

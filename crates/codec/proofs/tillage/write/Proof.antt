@@ -16,8 +16,10 @@ returns c =
       c .before .before .before .before .before .before .put2 .ensures,
       c .before .before .before .before .before .before .before .before .before .before .put13 .ensures,
       c .before .before .before .before .before .before .before .before .before .before .before .before .before .before .put12 .ensures,
-      c .before .before .before .before .before .before .before .before .before .before .before .before .before .before .before .before .before .before .put1 .ensures,
-      c .before .before .before .before .before .before .before .before .before .before .before .before .before .before .before .before .before .before .before .before .before .before .put-start .ensures,
+      c .before .before .before .before .before .before .before .before .before .before .before .before .before .before .before .before .before
+          .before .put1 .ensures,
+      c .before .before .before .before .before .before .before .before .before .before .before .before .before .before .before .before .before
+          .before .before .before .before .before .put-start .ensures,
     )
     refl
 

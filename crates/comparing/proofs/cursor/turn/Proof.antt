@@ -24,8 +24,10 @@ turn-spec =
     let i = o .before in
     let y = i .before .before .before in
     let s = y .before .before .before in
-    let g = fed-account (s .args .a) _ (o .first-of .result .now) (s .args .lines .now) _ (i .idle .ensures) (s .pre) (f .feed .ensures .0) in
-    (turned-refused (s .args .a) _ _ (y .ready .ensures) (i .before .if1 .left) _ (rw (o .first-of .ensures) at g) (c .if2 .taken), none-written _ _ _))
+    let g = fed-account (s .args .a) _ (o .first-of .result .now) (s .args .lines .now) _ (i .idle .ensures) (s .pre) (f .feed .ensures .0) in (
+      turned-refused (s .args .a) _ _ (y .ready .ensures) (i .before .if1 .left) _ (rw (o .first-of .ensures) at g) (c .if2 .taken),
+      none-written _ _ _,
+    ))
     (λ c. search needs)
     (λ c.
     let f = c .before .before .before .before .before .before in

@@ -13,7 +13,10 @@ say-last-spec =
     (λ c. search needs)
     (λ c κs. search needs)
     (λ c. search needs)
-    (λ c. rw (last-nothing (c .before .before .before .before .before .before .before .before .before .before .args .p) _ _ (c .before .before .before .before .before .before .before .before .old-between .ensures) (c .before .before .before .before .before .before .before .new-between .ensures) (c .before .before .before .before .before .if1 .taken)) (c .before .before .say .ensures))
+    (λ c. rw (last-nothing (c .before .before .before .before .before .before .before .before .before .before .args .p) _ _
+    (c .before .before .before .before .before .before .before .before .old-between .ensures)
+    (c .before .before .before .before .before .before .before .new-between .ensures) (c .before .before .before .before .before .if1 .taken))
+    (c .before .before .say .ensures))
     (λ c κs. tt)
     (λ c. search needs)
     (λ c. search needs)
@@ -25,5 +28,16 @@ say-last-spec =
     (λ c κs. search needs)
     (λ c. search needs)
     (λ c.
-    rw (last-others (c .before .before .before .before .before .before .before .before .before .before .before .before .before .before .before .before .before .before .before .before .before .before .before .before .before .before .args .p) _ _ (c .before .before .before .before .before .before .before .before .before .before .before .before .before .before .before .before .before .before .before .before .before .before .before .before .old-between .ensures) (c .before .before .before .before .before .before .before .before .before .before .before .before .before .before .before .before .before .before .before .before .before .before .before .new-between .ensures) (c .before .before .before .before .before .before .before .before .before .before .before .before .before .before .before .before .before .before .before .before .before .if1 .left))
-    ((rw (c .before .before .before .before .before .before .before .before .before .before .before .before .before .before .before .before .before .before .before .before .less .ensures) at (c .before .before .before .before .before .before .before .before .before .before .before .before .before .before .before .before .say-two .ensures)) ⟫ c .before .before .before .before .before .before .before .before .before .before .before .say2 .ensures ⟫ c .before .before .before .before .before .before .before .say-number .ensures ⟫ c .before .before .say3 .ensures)))
+    rw (last-others (c .before .before .before .before .before .before .before .before .before .before .before .before .before .before .before .before
+    .before .before .before .before .before .before .before .before .before .before .args .p) _ _
+    (c .before .before .before .before .before .before .before .before .before .before .before .before .before .before .before .before .before
+    .before .before .before .before .before .before .before .old-between .ensures)
+    (c .before .before .before .before .before .before .before .before .before .before .before .before .before .before .before .before
+    .before .before .before .before .before .before .before .new-between .ensures)
+    (c .before .before .before .before .before .before .before .before .before .before .before .before .before .before .before
+    .before .before .before .before .before .before .if1 .left))
+    ((rw (c .before .before .before .before .before .before .before .before .before .before .before .before .before .before .before .before .before
+    .before .before .before .less .ensures) at (c .before .before .before .before .before .before .before .before .before .before .before .before
+    .before .before .before .before .say-two .ensures)) ⟫ c .before .before .before .before .before .before .before .before .before .before
+    .before .say2 .ensures ⟫ c .before .before .before .before .before .before .before .say-number .ensures ⟫ c .before .before .say3
+    .ensures)))

@@ -18,4 +18,5 @@ say-plan-spec =
     (λ c. search needs)
     (λ c κs. search needs)
     (λ c. search needs)
-    (λ c. c .before .before .before .before .before .before .before .before .before .before .before .before .before .say-two .ensures ⟫ c .before .before .before .before .before .before .before .say-two2 .ensures ⟫ c .before .before .say .ensures))
+    (λ c. c .before .before .before .before .before .before .before .before .before .before .before .before .before .say-two .ensures ⟫ c .before
+    .before .before .before .before .before .before .say-two2 .ensures ⟫ c .before .before .say .ensures))

@@ -21,15 +21,42 @@ say-records-spec =
     (λ c κs. c .before .loop .inv .inside)
     (λ c κs. tt)
     (λ c. c .before .before .before .before .before .loop .inv .long)
-    (λ c. telling-ends _ _ _ _ _ _ _ _ _ _ _ (c .before .before .before .before .before .loop .inv) _ (c .before .before .before .rest-of .ensures) _ (c .before .before .step .ensures) (c .if1 .taken))
+    (λ c. telling-ends _ _ _ _ _ _ _ _ _ _ _ (c .before .before .before .before .before .loop .inv) _ (c .before .before .before .rest-of .ensures) _
+    (c .before .before .step .ensures) (c .if1 .taken))
     (λ c κs. c .before .before .before .step .ensures .inside)
     (λ c κs.
-    let u = c .before .before .before .before .step .ensures in
-    (c .before .before .before .before .before .before .before .loop .inv .room, long-enough _ _ _ (c .first-of .ensures) (u .inside) (u .some (omega (arith, c .before .before .if1 .left)))))
-    (λ c. omega (arith, tell-inside _ _ _ _ _ _ _ _ _ _ _ (c .before .before .before .before .before .before .before .before .before .before .before .before .loop .inv) _ (c .before .before .before .before .before .before .before .before .before .before .rest-of .ensures) _ (c .before .before .before .before .before .before .before .before .before .step .ensures), c .before .before .before .before .before .before .before .before .before .before .before .before .before .before .before .before .before .good))
-    (λ c. let l = c .before .before .before .before .before .before .before .before .before .before .before .before .loop .inv in omega (arith, l .few, l .inside, c .before .before .before .before .before .before .before .before .before .before .before .before .before .before .before .before .before .good))
-    (λ c. omega (arith, c .before .before .before .before .before .before .before .before .before .before .before .loop-test .taken, c .before .before .before .before .before .before .before .before .before .before .before .before .before .before .before .before .before .fits))
+    let u = c .before .before .before .before .step .ensures in (
+      c .before .before .before .before .before .before .before .loop .inv .room,
+      long-enough _ _ _ (c .first-of .ensures) (u .inside) (u .some (omega (arith, c .before .before .if1 .left))),
+    ))
+    (λ c. omega (
+      arith,
+      tell-inside _ _ _ _ _ _ _ _ _ _ _ (c .before .before .before .before .before .before .before .before .before .before .before
+          .before .loop .inv) _ (c .before .before .before .before .before .before .before .before .before .before .rest-of .ensures) _
+          (c .before .before .before .before .before .before .before .before .before .step .ensures),
+      c .before .before .before .before .before .before .before .before .before .before .before .before .before .before .before .before
+          .before .good,
+    ))
+    (λ c. let l = c .before .before .before .before .before .before .before .before .before .before .before .before .loop .inv in
+    omega (
+      arith,
+      l .few,
+      l .inside,
+      c .before .before .before .before .before .before .before .before .before .before .before .before .before
+          .before .before .before .before .good,
+    ))
+    (λ c. omega (
+      arith,
+      c .before .before .before .before .before .before .before .before .before .before .before .loop-test .taken,
+      c .before .before .before .before .before .before .before .before .before .before .before .before .before .before .before .before .before
+          .fits,
+    ))
     (λ c. omega (arith, c .before .before .before .before .before .before .before .before .before .before .before .loop-test .taken))
-    (λ c. telling-on _ _ _ _ _ _ _ _ _ _ _ (c .before .before .before .before .before .before .before .before .before .before .before .before .loop .inv) _ (c .before .before .before .before .before .before .before .before .before .before .rest-of .ensures) _ (c .before .before .before .before .before .before .before .before .before .step .ensures) _ _ _ (c .before .before .before .before .before .before .before .if1 .left) (c .before .before .before .before .before .before .before .before .before .before .before .loop-test .taken) (c .before .before .before .before .before .first-of .ensures) (c .before .before .before .before .say-entry .ensures))
+    (λ c. telling-on _ _ _ _ _ _ _ _ _ _ _ (c .before .before .before .before .before .before .before .before .before .before .before .before .loop
+    .inv) _ (c .before .before .before .before .before .before .before .before .before .before .rest-of .ensures) _
+    (c .before .before .before .before .before .before .before .before .before .step .ensures) _ _ _
+    (c .before .before .before .before .before .before .before .if1 .left)
+    (c .before .before .before .before .before .before .before .before .before .before .before .loop-test .taken)
+    (c .before .before .before .before .before .first-of .ensures) (c .before .before .before .before .say-entry .ensures))
     (λ c. c .before .loop .inv .long)
     (λ c. telling-far _ _ _ _ _ _ _ _ _ _ _ (c .before .loop .inv) (c .loop-test .left)))

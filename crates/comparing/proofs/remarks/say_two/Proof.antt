@@ -12,4 +12,6 @@ say-two-spec =
     (λ c κs. search needs)
     (λ c κs. search needs)
     (λ c. search needs)
-    (λ c. c .before .before .before .before .before .before .before .before .before .before .before .before .before .before .say .ensures ⟫ c .before .before .before .before .before .before .before .before .before .before .say-number .ensures ⟫ c .before .before .before .before .before .before .say2 .ensures ⟫ c .before .before .say-number2 .ensures))
+    (λ c. c .before .before .before .before .before .before .before .before .before .before .before .before .before .before .say .ensures ⟫ c .before
+    .before .before .before .before .before .before .before .before .before .say-number .ensures ⟫ c .before .before .before .before .before
+    .before .say2 .ensures ⟫ c .before .before .say-number2 .ensures))

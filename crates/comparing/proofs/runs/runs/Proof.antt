@@ -27,25 +27,39 @@ runs-spec =
     let k = c .before .before in
     let f = k .before in
     let e = f .before in
-    pairing-ends _ _ _ _ _ _ _ _ _ (e .before .before .loop .inv) _ _ (e .rest-of .ensures) (f .rest-of2 .ensures) _ (k .look .ensures) (c .if1 .taken))
+    pairing-ends _ _ _ _ _ _ _ _ _ (e .before .before .loop .inv) _ _ (e .rest-of .ensures) (f .rest-of2 .ensures) _ (k .look .ensures)
+    (c .if1 .taken))
     (λ c κs.
     let l = c .before .before .before .before .before in
     let n = l .before .loop .inv .counts in
     let m = l .loop-test .taken in
     let g = l .before .before .before .before .before .before .before .before .good in
-    record { pairs = omega (arith, n .pairs, m, g); leading = omega (arith, n .leading, m, g); trailing = omega (arith, n .trailing, m, g); others = omega (arith, n .others, m, g) })
+    record {
+      pairs = omega (arith, n .pairs, m, g);
+      leading = omega (arith, n .leading, m, g);
+      trailing = omega (arith, n .trailing, m, g);
+      others = omega (arith, n .others, m, g);
+    })
     (λ c.
     let k = c .before .before .before .before .before .before in
     let f = k .before in
     let e = f .before in
     let l = e .before .before in
-    omega (arith, pair-inside _ _ _ _ _ _ _ _ _ (l .loop .inv) _ _ (e .rest-of .ensures) (f .rest-of2 .ensures) _ (k .look .ensures), l .before .before .before .before .before .before .before .good))
+    omega (
+      arith,
+      pair-inside _ _ _ _ _ _ _ _ _ (l .loop .inv) _ _ (e .rest-of .ensures) (f .rest-of2 .ensures) _ (k .look .ensures),
+      l .before .before .before .before .before .before .before .good,
+    ))
     (λ c.
     let k = c .before .before .before .before .before .before .before in
     let f = k .before in
     let e = f .before in
     let l = e .before .before in
-    omega (arith, pair-inside′ _ _ _ _ _ _ _ _ _ (l .loop .inv) _ _ (e .rest-of .ensures) (f .rest-of2 .ensures) _ (k .look .ensures), l .before .before .before .before .before .before .before .good))
+    omega (
+      arith,
+      pair-inside′ _ _ _ _ _ _ _ _ _ (l .loop .inv) _ _ (e .rest-of .ensures) (f .rest-of2 .ensures) _ (k .look .ensures),
+      l .before .before .before .before .before .before .before .good,
+    ))
     (λ c.
     let k = c .before .before .before .before .before .before .before in
     let f = k .before in
@@ -59,5 +73,6 @@ runs-spec =
     let e = f .before in
     let l = e .before .before in
     let o = c .before .before .before .before in
-    pairing-on _ _ _ _ _ _ _ _ _ (l .loop .inv) _ _ (e .rest-of .ensures) (f .rest-of2 .ensures) _ (k .look .ensures) _ (o .one-more .ensures) (o .before .if1 .left))
+    pairing-on _ _ _ _ _ _ _ _ _ (l .loop .inv) _ _ (e .rest-of .ensures) (f .rest-of2 .ensures) _ (k .look .ensures) _ (o .one-more .ensures)
+    (o .before .if1 .left))
     (λ c. pairing-far _ _ _ _ _ _ _ _ _ (c .before .loop .inv) (c .loop-test .left)))

@@ -32,6 +32,12 @@ same-spec =
     (λ c. search needs)
     (λ c.
     let l = c .before .before .before in
-    let i = l .before .loop .inv in
-    (omega (arith, l .loop-test .taken), (i .1 .0, same-on _ _ _ (i .1 .1) (l .loop-test .taken) (omega (arith, l .loop-test .taken, i .1 .0)) (search needs))))
+    let i = l .before .loop .inv in (
+      omega (arith, l .loop-test .taken),
+      (
+        i .1 .0,
+        same-on _ _ _ (i .1 .1) (l .loop-test .taken) (omega (arith, l .loop-test .taken, i .1 .0))
+            (search needs),
+      ),
+    ))
     (λ c. let i = c .before .loop .inv in same-end _ _ _ (i .1 .1) (c .loop-test .left) (i .1 .0)))

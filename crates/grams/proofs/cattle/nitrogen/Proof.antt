@@ -26,7 +26,8 @@ unfolding belowZero
 below-is r head p = simp (lt-ltb _ _ p)
 
 -- the answer where the feed brings enough
-given-is : (r : CattleRation) (head n : ℕ) (g : N2o) → keptOf r ≤ fedOf r → n ≡ excretedOf (fedOf r - keptOf r) head (r .days) → g ≡ storageOf n (r .solid) (r .liquid) → Given (record { excreted = n; n2o = g }) ≡ nitrogenOf r head
+given-is : (r : CattleRation) (head n : ℕ) (g : N2o) → keptOf r ≤ fedOf r → n ≡ excretedOf (fedOf r - keptOf r) head (r .days)
+    → g ≡ storageOf n (r .solid) (r .liquid) → Given (record { excreted = n; n2o = g }) ≡ nitrogenOf r head
 unfolding belowZero manureOf
 given-is r head n g p e f = simp (le-ltb _ _ p) (cc)
 

@@ -20,7 +20,8 @@ returns : tie.Need-returns
 unfolding co2eOf
 returns c =
     let g = c .before .before in
-    rw (← g .grams2 .ensures, ← g .before .grams .ensures) (c .plus .ensures ∙ ap (plusCo2 (g .before .before .before .before .args .co2)) (c .before .of .ensures))
+    rw (← g .grams2 .ensures, ← g .before .grams .ensures) (c .plus .ensures
+    ∙ ap (plusCo2 (g .before .before .before .before .args .co2)) (c .before .of .ensures))
 
 pub co2e-spec : {M : Type 1} → statement M
 co2e-spec =
@@ -39,6 +40,9 @@ co2e-spec =
     (λ c κs. tt)
     (λ c κs.
     let g = c .before in
-    let p = g .before .before .before .before .pre in
-    (p .1 .co2-in, counted _ _ (c .of .ensures) (rw (g .grams2 .ensures, g .before .grams .ensures) (others-most (p .0) (p .1 .ch4-in) (p .1 .n2o-in) (p .1 .grazing-in)))))
+    let p = g .before .before .before .before .pre in (
+      p .1 .co2-in,
+      counted _ _ (c .of .ensures) (rw (g .grams2 .ensures, g .before .grams .ensures)
+          (others-most (p .0) (p .1 .ch4-in) (p .1 .n2o-in) (p .1 .grazing-in))),
+    ))
     returns)

@@ -14,7 +14,9 @@ returns : tie.Need-returns
 unfolding grazingOf
 returns c =
     let d = c .before .before in
-    pasture (grazing-small (d .before .pre)) (c .of .ensures ∙ ap gramsGrazed (c .before .round-div .ensures ∙ ap (λ (f : ℕ). roundDiv (f * d .before .args .weight * d .before .args .fraction * d .before .args .head) 1000) (d .factor-at .ensures .exact)))
+    pasture (grazing-small (d .before .pre)) (c .of .ensures ∙ ap gramsGrazed
+    (c .before .round-div .ensures ∙ ap (λ (f : ℕ). roundDiv (f * d .before .args .weight * d .before .args .fraction * d .before .args
+    .head) 1000) (d .factor-at .ensures .exact)))
 
 pub grazing-spec : {M : Type 1} → statement M
 grazing-spec =

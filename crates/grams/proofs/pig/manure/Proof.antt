@@ -11,7 +11,9 @@ use Rattle.grams.proofs.pig.manure.Statement.{statement}
 use Rattle.grams.proofs.pig.manure.Tie as tie
 
 -- the steps of the code, put together
-manure-is : (p : PigRation) (head v g n l : ℕ) (a b s : N2o) → v ≡ recordSolids p → g ≡ ch4Of v (p .mcf) head (p .days) → n ≡ recordNitrogen p head → a ≡ directOf n (p .direct) → b ≡ indirectOf n (p .volatilised) (p .volatilisedef) (p .leached) (p .leachedef) → s ≡ gramsN2o (a .0 + b .0) → l ≡ landOf n (p .volatilised) (p .leached) → figures g s n l ≡ manureOf p head
+manure-is : (p : PigRation) (head v g n l : ℕ) (a b s : N2o) → v ≡ recordSolids p → g ≡ ch4Of v (p .mcf) head (p .days) → n ≡ recordNitrogen p head
+    → a ≡ directOf n (p .direct) → b ≡ indirectOf n (p .volatilised) (p .volatilisedef) (p .leached) (p .leachedef) → s ≡ gramsN2o (a .0 + b .0)
+    → l ≡ landOf n (p .volatilised) (p .leached) → figures g s n l ≡ manureOf p head
 unfolding manureOf
 manure-is p head v g n l a b s e₁ e₂ e₃ e₄ e₅ e₆ e₇ = cc
 

@@ -11,7 +11,8 @@ eleven c =
     let r = c .match .rest in
     let o = c .before .before .pre .2 in
     let s = r .0 .0 .0 .0 .0 in
-    last-row _ (o .least) (o .most) (s .0 .0 .0 .0 .1) (s .0 .0 .0 .1) (s .0 .0 .1) (s .0 .1) (s .1) (r .0 .0 .0 .0 .1) (r .0 .0 .0 .1) (r .0 .0 .1) (r .0 .1) (r .1)
+    last-row _ (o .least) (o .most) (s .0 .0 .0 .0 .1) (s .0 .0 .0 .1) (s .0 .0 .1) (s .0 .1) (s .1) (r .0 .0 .0 .0 .1) (r .0 .0 .0 .1) (r .0 .0 .1)
+    (r .0 .1) (r .1)
 
 pub weighed-spec : {M : Type 1} → statement M
 unfolding table

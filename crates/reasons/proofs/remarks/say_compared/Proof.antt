@@ -23,16 +23,22 @@ say-compared-spec =
     (λ c κs. search needs)
     (λ c κs. search needs)
     (λ c. (
-    c .before .before .before .before .before .before .before .before .before .before .before .before .before .before .before .before .before .before .before .before .before .before .before .before .before .before .say-subject .ensures
-    ⟫ c .before .before .before .before .before .before .before .before .before .before .before .before .before .before .before .before .before .before .before .before .before .say .ensures
-    ⟫ c .before .before .before .before .before .before .before .before .before .before .before .before .before .before .before .before .before .say-number .ensures
+    c .before .before .before .before .before .before .before .before .before .before .before .before .before .before .before .before .before .before
+    .before .before .before .before .before .before .before .before .say-subject .ensures
+    ⟫ c .before .before .before .before .before .before .before .before .before .before .before .before .before .before .before .before .before
+    .before .before .before .before .say .ensures
+    ⟫ c .before .before .before .before .before .before .before .before .before .before .before .before .before .before .before .before .before
+    .say-number .ensures
     ⟫ c .before .before .before .before .before .before .before .before .before .before .before .before .say2 .ensures
     ⟫ c .before .before .before .before .before .before .say-relation .ensures
     ⟫ c .before .before .say-number2 .ensures) .long)
     (λ c.
-    c .before .before .before .before .before .before .before .before .before .before .before .before .before .before .before .before .before .before .before .before .before .before .before .before .before .before .say-subject .ensures
-    ⟫ c .before .before .before .before .before .before .before .before .before .before .before .before .before .before .before .before .before .before .before .before .before .say .ensures
-    ⟫ c .before .before .before .before .before .before .before .before .before .before .before .before .before .before .before .before .before .say-number .ensures
+    c .before .before .before .before .before .before .before .before .before .before .before .before .before .before .before .before .before .before
+    .before .before .before .before .before .before .before .before .say-subject .ensures
+    ⟫ c .before .before .before .before .before .before .before .before .before .before .before .before .before .before .before .before .before
+    .before .before .before .before .say .ensures
+    ⟫ c .before .before .before .before .before .before .before .before .before .before .before .before .before .before .before .before .before
+    .say-number .ensures
     ⟫ c .before .before .before .before .before .before .before .before .before .before .before .before .say2 .ensures
     ⟫ c .before .before .before .before .before .before .say-relation .ensures
     ⟫ c .before .before .say-number2 .ensures))

@@ -17,4 +17,5 @@ say-fault-spec =
     (λ c. search needs)
     (λ c κs. search needs)
     (λ c. (c .before .before .before .before .before .before .before .say .ensures ⟫ c .before .before .say-sentence .ensures) .long)
-    (λ c. rw (c .before .before .before .before .before .before .before .before .before .before .if1 .left) (c .before .before .before .before .before .before .before .say .ensures ⟫ c .before .before .say-sentence .ensures)))
+    (λ c. rw (c .before .before .before .before .before .before .before .before .before .before .if1 .left)
+    (c .before .before .before .before .before .before .before .say .ensures ⟫ c .before .before .say-sentence .ensures)))

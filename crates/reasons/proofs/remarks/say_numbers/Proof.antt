@@ -20,7 +20,9 @@ say-numbers-spec =
     ⟫ c .before .before .before .before .before .before .before .before .before .before .before .say-number .ensures
     ⟫ c .before .before .before .before .before .before .say2 .ensures
     ⟫ c .before .before .say-number2 .ensures) .long)
-    (λ c. rw (not-false (c .before .before .before .before .before .before .before .before .before .before .before .before .before .before .before .before .before .before .before .before .args .some) (c .before .before .before .before .before .before .before .before .before .before .before .before .before .before .before .before .before .before .if1 .left)) (
+    (λ c. rw (not-false (c .before .before .before .before .before .before .before .before .before .before .before .before .before .before .before
+    .before .before .before .before .before .args .some) (c .before .before .before .before .before .before .before .before .before .before
+    .before .before .before .before .before .before .before .before .if1 .left)) (
     c .before .before .before .before .before .before .before .before .before .before .before .before .before .before .before .say .ensures
     ⟫ c .before .before .before .before .before .before .before .before .before .before .before .say-number .ensures
     ⟫ c .before .before .before .before .before .before .say2 .ensures

@@ -13,4 +13,5 @@ say-position-spec =
     (λ c κs. search needs)
     (λ c κs. search needs)
     (λ c. (c .before .before .before .before .before .before .say .ensures ⟫ c .before .before .say-number .ensures) .long)
-    (λ c. rw (ne-eqb _ _ (c .before .before .before .before .before .before .before .before .before .if1 .left)) (c .before .before .before .before .before .before .say .ensures ⟫ c .before .before .say-number .ensures)))
+    (λ c. rw (ne-eqb _ _ (c .before .before .before .before .before .before .before .before .before .if1 .left))
+    (c .before .before .before .before .before .before .say .ensures ⟫ c .before .before .say-number .ensures)))

@@ -21,16 +21,22 @@ say-refused-spec =
     (λ c. search needs)
     (λ c κs. search needs)
     (λ c. (
-    c .before .before .before .before .before .before .before .before .before .before .before .before .before .before .before .before .before .before .before .before .before .before .before .before .before .before .say .ensures
-    ⟫ c .before .before .before .before .before .before .before .before .before .before .before .before .before .before .before .before .before .before .before .before .before .say-number .ensures
-    ⟫ c .before .before .before .before .before .before .before .before .before .before .before .before .before .before .before .before .say-place .ensures
+    c .before .before .before .before .before .before .before .before .before .before .before .before .before .before .before .before .before .before
+    .before .before .before .before .before .before .before .before .say .ensures
+    ⟫ c .before .before .before .before .before .before .before .before .before .before .before .before .before .before .before .before .before
+    .before .before .before .before .say-number .ensures
+    ⟫ c .before .before .before .before .before .before .before .before .before .before .before .before .before .before .before .before .say-place
+    .ensures
     ⟫ c .before .before .before .before .before .before .before .before .before .before .before .say-position .ensures
     ⟫ c .before .before .before .before .before .before .before .say-numbers .ensures
     ⟫ c .before .before .say2 .ensures) .long)
     (λ c.
-    c .before .before .before .before .before .before .before .before .before .before .before .before .before .before .before .before .before .before .before .before .before .before .before .before .before .before .say .ensures
-    ⟫ c .before .before .before .before .before .before .before .before .before .before .before .before .before .before .before .before .before .before .before .before .before .say-number .ensures
-    ⟫ c .before .before .before .before .before .before .before .before .before .before .before .before .before .before .before .before .say-place .ensures
+    c .before .before .before .before .before .before .before .before .before .before .before .before .before .before .before .before .before .before
+    .before .before .before .before .before .before .before .before .say .ensures
+    ⟫ c .before .before .before .before .before .before .before .before .before .before .before .before .before .before .before .before .before
+    .before .before .before .before .say-number .ensures
+    ⟫ c .before .before .before .before .before .before .before .before .before .before .before .before .before .before .before .before .say-place
+    .ensures
     ⟫ c .before .before .before .before .before .before .before .before .before .before .before .say-position .ensures
     ⟫ c .before .before .before .before .before .before .before .say-numbers .ensures
     ⟫ c .before .before .say2 .ensures))

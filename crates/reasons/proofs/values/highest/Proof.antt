@@ -8,7 +8,9 @@ use Rattle.reasons.proofs.values.highest.Tie as tie
 
 returns : tie.Need-returns
 unfolding highestValues
-returns c = highest-is (c .before .args .row) (c .before .args .position - 1) (omega (arith, c .before .pre .0)) (omega (arith, c .before .pre .1, c .before .pre .2))
+returns c =
+    highest-is (c .before .args .row) (c .before .args .position - 1) (omega (arith, c .before .pre .0))
+    (omega (arith, c .before .pre .1, c .before .pre .2))
 
 pub highest-spec : {M : Type 1} → statement M
 highest-spec =

@@ -8,7 +8,9 @@ use Rattle.reasons.proofs.values.lowest.Tie as tie
 
 returns : tie.Need-returns
 unfolding lowestValues
-returns c = lowest-is (c .before .args .row) (c .before .args .position - 1) (omega (arith, c .before .pre .0)) (omega (arith, c .before .pre .1, c .before .pre .2))
+returns c =
+    lowest-is (c .before .args .row) (c .before .args .position - 1) (omega (arith, c .before .pre .0))
+    (omega (arith, c .before .pre .1, c .before .pre .2))
 
 pub lowest-spec : {M : Type 1} → statement M
 lowest-spec =

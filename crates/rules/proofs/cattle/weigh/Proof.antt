@@ -7,18 +7,22 @@ use Rattle.account.specs.Figures.{figuresOf}
 use Rattle.account.specs.Sorts.{sortOf}
 use Rattle.account.specs.Judge.{inPlace, first, accepted}
 use Rattle.account.proofs.Ranges.{cattle-in, cattle-shares}
-use Rattle.account.proofs.Told.{head-most, days-most, sums-most, subtotal-most, small-cattle, below-zero, not-below, manure-is, tells-detail, told-in, Passes, passes, stops, refuses, accepts}
+use Rattle.account.proofs.Told.{head-most, days-most, sums-most, subtotal-most, small-cattle, below-zero, not-below, manure-is, tells-detail}
+use Rattle.account.proofs.Told.{told-in, Passes, passes, stops, refuses, accepts}
 use Rattle.rules.proofs.cattle.weigh.Statement.{statement}
 use Rattle.rules.proofs.cattle.weigh.Tie as tie
 
 returns : tie.Need-returns
 unfolding inPlace
 returns c =
-    stops _ 4 _ _ _ _ (c .before .before .before .cattle-placed .ensures) (c .before .before .before .before .first-bad .ensures) (c .before .before .barred .ensures) _ _ (c .before .if1 .taken) (c .stopped .ensures)
+    stops _ 4 _ _ _ _ (c .before .before .before .cattle-placed .ensures) (c .before .before .before .before .first-bad .ensures)
+    (c .before .before .barred .ensures) _ _ (c .before .if1 .taken) (c .stopped .ensures)
 
 passed : (c : tie.Else1) → Passes (c .before .before .before .before .before .args .a) 4 (c .before .before .before .before .before .args .t2)
 unfolding inPlace
-passed c = passes _ 4 _ _ _ _ (c .before .before .cattle-placed .ensures) (c .before .before .before .first-bad .ensures) (c .before .barred .ensures) (c .if1 .left)
+passed c =
+    passes _ 4 _ _ _ _ (c .before .before .cattle-placed .ensures) (c .before .before .before .first-bad .ensures) (c .before .barred .ensures)
+    (c .if1 .left)
 
 add-sum : tie.Need-add-sum
 add-sum c =
@@ -37,21 +41,37 @@ add-if3-2 c = omega (arith, cattle-shares _ (passed (c .before .before .before) 
 
 returns-3 : tie.Need-returns-3
 unfolding first
-returns-3 c = refuses _ 4 _ (passed (c .before .before .before .before .before)) _ 10 _ (rw (le-ltb _ _ (c .before .before .if2 .left), ne-eqb _ 10000 (c .before .if3 .taken))) refl refl (c .wrong2 .ensures)
+returns-3 c =
+    refuses _ 4 _ (passed (c .before .before .before .before .before)) _ 10 _
+    (rw (le-ltb _ _ (c .before .before .if2 .left), ne-eqb _ 10000 (c .before .if3 .taken))) refl refl (c .wrong2 .ensures)
 
 nitrogen-requires : tie.Need-nitrogen-requires
-nitrogen-requires c κs = rw (c .before .cattle-ration .ensures) (cattle-in _ _ (head-most _ (c .before .before .before .before .before .before .before .before .before .before .before .pre .0)) (passed (c .before .before .before .before .before .before) .ranges))
+nitrogen-requires c κs =
+    rw (c .before .cattle-ration .ensures) (cattle-in _ _ (head-most _
+    (c .before .before .before .before .before .before .before .before .before .before .before .pre .0))
+    (passed (c .before .before .before .before .before .before) .ranges))
 
 grouped-detail-requires : tie.Need-grouped-detail-requires
-grouped-detail-requires c κs =
-    (passed (c .before .before .before .before .before .before .before .before .before .before .before) .room, sums-most _ (c .before .before .before .before .before .before .before .before .before .before .before .before .before .before .before .before .pre .0), subtotal-most _ (c .before .before .before .before .before .before .before .before .before .before .before .before .before .before .before .before .pre .0), small-cattle _ _ _ (c .before .before .before .before .nitrogen .ensures) _ (c .before .before .n .given .1) _ (c .cattle-figures .ensures))
+grouped-detail-requires c κs = (
+  passed (c .before .before .before .before .before .before .before .before .before .before .before) .room,
+  sums-most _ (c .before .before .before .before .before .before .before .before .before .before .before .before .before .before .before .before
+      .pre .0),
+  subtotal-most _ (c .before .before .before .before .before .before .before .before .before .before .before .before .before
+      .before .before .before .pre .0),
+  small-cattle _ _ _ (c .before .before .before .before .nitrogen .ensures) _
+      (c .before .before .n .given .1) _ (c .cattle-figures .ensures),
+)
 
 returns-4 : tie.Need-returns-4
 unfolding first
 returns-4 c =
     let below = below-zero _ _ _ (c .before .before .before .nitrogen .ensures) (c .before .enum-told .given .1) in
     refuses _ 4 _ (passed (c .before .before .before .before .before .before .before .before .before .before)) _ 11 _
-    (rw (le-ltb _ _ (c .before .before .before .before .before .before .before .if2 .left), eq-eqb _ 10000 (c .before .before .before .before .before .before .if3 .left), rw (c .before .before .before .before .before .cattle-ration .ensures) at below))
+    (rw (
+      le-ltb _ _ (c .before .before .before .before .before .before .before .if2 .left),
+      eq-eqb _ 10000 (c .before .before .before .before .before .before .if3 .left),
+      rw (c .before .before .before .before .before .cattle-ration .ensures) at below,
+    ))
     refl refl (c .wrong3 .ensures)
 
 returns-5 : tie.Need-returns-5
@@ -62,11 +82,17 @@ returns-5 c =
     let manure = manure-is _ _ _ (c .before .before .before .before .before .nitrogen .ensures) _ given in
     told-in _ _ _ _ _ (c .grouped-detail .ensures)
     (rw (
-      accepts _ 4 _ (passed (c .before .before .before .before .before .before .before .before .before .before .before .before)) (rw (le-ltb _ _ (c .before .before .before .before .before .before .before .before .before .if2 .left), eq-eqb _ 10000 (c .before .before .before .before .before .before .before .before .if3 .left), rw (c .before .before .before .before .before .before .before .cattle-ration .ensures) at above)),
+      accepts _ 4 _ (passed (c .before .before .before .before .before .before .before .before .before .before .before .before))
+          (rw (
+            le-ltb _ _ (c .before .before .before .before .before .before .before .before .before .if2 .left),
+            eq-eqb _ 10000 (c .before .before .before .before .before .before .before .before .if3 .left),
+            rw (c .before .before .before .before .before .before .before .cattle-ration .ensures) at above,
+          )),
       c .before .cattle-figures .ensures,
       rw (c .before .before .before .before .before .before .before .cattle-ration .ensures) at manure,
     )
-    (tells-detail (c .before .before .before .before .before .before .before .before .before .before .before .before .before .before .before .before .before .args .a) _ _ _ _ _ _))
+    (tells-detail (c .before .before .before .before .before .before .before .before .before .before .before .before .before .before .before .before
+    .before .args .a) _ _ _ _ _ _))
 
 pub weigh-spec : {M : Type 1} → statement M
 weigh-spec =

@@ -15,8 +15,19 @@ totalled-spec =
     (λ c κs. tt)
     (λ c κs. tt)
     (λ c.
-    rw (← c .before .before .closing-length .ensures, lt-leb _ _ (c .before .if1 .taken), ← c .before .before .before .group-figures .ensures, ← c .before .before .before .before .before .before .co2e .ensures) (c .full .ensures))
+    rw (
+      ← c .before .before .closing-length .ensures,
+      lt-leb _ _ (c .before .if1 .taken),
+      ← c .before .before .before .group-figures .ensures,
+      ← c .before .before .before .before .before .before .co2e .ensures,
+    ) (c .full .ensures))
     (λ c κs. tt)
     (λ c. omega (arith, c .before .before .before .before .before .before .before .before .before .before .before .before .pre .0))
     (λ c.
-    rw (← c .before .before .before .closing-length .ensures, le-leb _ _ (c .before .before .if1 .left), ← c .before .before .before .before .group-figures .ensures, ← c .before .before .before .before .before .before .before .co2e .ensures, c .before .by-fields .ensures) refl))
+    rw (
+      ← c .before .before .before .closing-length .ensures,
+      le-leb _ _ (c .before .before .if1 .left),
+      ← c .before .before .before .before .group-figures .ensures,
+      ← c .before .before .before .before .before .before .before .co2e .ensures,
+      c .before .by-fields .ensures,
+    ) refl))

@@ -11,11 +11,13 @@ use Rattle.rules.proofs.close.weigh.Tie as tie
 returns : tie.Need-returns
 unfolding inPlace
 returns c =
-    stops _ 8 _ _ _ _ (c .before .before .before .begun .ensures) (c .before .before .before .before .first-bad .ensures) (c .before .before .barred .ensures) _ _ (c .before .if1 .taken) (c .stopped .ensures)
+    stops _ 8 _ _ _ _ (c .before .before .before .begun .ensures) (c .before .before .before .before .first-bad .ensures)
+    (c .before .before .barred .ensures) _ _ (c .before .if1 .taken) (c .stopped .ensures)
 
 passed : (c : tie.Else1) → Passes (c .before .before .before .before .args .a) 8 (c .before .before .before .before .args .t2)
 unfolding inPlace
-passed c = passes _ 8 _ _ _ _ (c .before .before .begun .ensures) (c .before .before .before .first-bad .ensures) (c .before .barred .ensures) (c .if1 .left)
+passed c =
+    passes _ 8 _ _ _ _ (c .before .before .begun .ensures) (c .before .before .before .first-bad .ensures) (c .before .barred .ensures) (c .if1 .left)
 
 returns-2 : tie.Need-returns-2
 unfolding first
@@ -30,7 +32,8 @@ returns-3 : tie.Need-returns-3
 unfolding first accepted sortOf
 returns-3 c =
     told-in _ _ _ _ _ (c .totalled .ensures)
-    (rw (accepts _ 8 _ (passed (c .before .before .before)) (rw (eq-eqb _ _ (c .before .if2 .left)))) (tells-close (c .before .before .before .before .before .before .before .args .a)))
+    (rw (accepts _ 8 _ (passed (c .before .before .before)) (rw (eq-eqb _ _ (c .before .if2 .left))))
+    (tells-close (c .before .before .before .before .before .before .before .args .a)))
 
 pub weigh-spec : {M : Type 1} → statement M
 weigh-spec =

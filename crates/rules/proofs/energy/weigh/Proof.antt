@@ -12,20 +12,30 @@ use Rattle.rules.proofs.energy.weigh.Tie as tie
 returns : tie.Need-returns
 unfolding inPlace
 returns c =
-    stops _ 6 _ _ _ _ (c .before .before .before .begun .ensures) (c .before .before .before .before .first-bad .ensures) (c .before .before .barred .ensures) _ _ (c .before .if1 .taken) (c .stopped .ensures)
+    stops _ 6 _ _ _ _ (c .before .before .before .begun .ensures) (c .before .before .before .before .first-bad .ensures)
+    (c .before .before .barred .ensures) _ _ (c .before .if1 .taken) (c .stopped .ensures)
 
 passed : (c : tie.Else1) → Passes (c .before .before .before .before .args .a) 6 (c .before .before .before .before .args .t2)
 unfolding inPlace
-passed c = passes _ 6 _ _ _ _ (c .before .before .begun .ensures) (c .before .before .before .first-bad .ensures) (c .before .barred .ensures) (c .if1 .left)
+passed c =
+    passes _ 6 _ _ _ _ (c .before .before .begun .ensures) (c .before .before .before .first-bad .ensures) (c .before .barred .ensures) (c .if1 .left)
 
 detailed-requires : tie.Need-detailed-requires
-detailed-requires c κs = (passed (c .before .before .before .before) .room, sums-most _ (c .before .before .before .before .before .before .before .before .pre .0), small-co2 _ _ (c .before .before .co2-alone .ensures) (c .before .before .before .energy .ensures .small))
+detailed-requires c κs = (
+  passed (c .before .before .before .before) .room,
+  sums-most _ (c .before .before .before .before .before .before .before .before .pre .0),
+  small-co2 _ _ (c .before .before .co2-alone .ensures) (c .before .before .before .energy .ensures .small),
+)
 
 returns-2 : tie.Need-returns-2
 unfolding first accepted figuresOf sortOf
 returns-2 c =
     told-in _ _ _ _ _ (c .detailed .ensures)
-    (rw (accepts _ 6 _ (passed (c .before .before .before .before .before)) refl, c .before .before .before .co2-alone .ensures, c .before .before .before .before .energy .ensures .exact)
+    (rw (
+      accepts _ 6 _ (passed (c .before .before .before .before .before)) refl,
+      c .before .before .before .co2-alone .ensures,
+      c .before .before .before .before .energy .ensures .exact,
+    )
     (tells-detail (c .before .before .before .before .before .before .before .before .before .args .a) _ _ _ _ _ _))
 
 pub weigh-spec : {M : Type 1} → statement M

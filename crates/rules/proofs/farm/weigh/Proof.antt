@@ -10,7 +10,9 @@ use Rattle.rules.proofs.farm.weigh.Tie as tie
 
 returns : tie.Need-returns
 unfolding inPlace
-returns c = stops _ 1 _ _ _ _ refl (c .before .before .before .before .first-bad .ensures) (c .before .before .barred .ensures) _ _ (c .before .if1 .taken) (c .stopped .ensures)
+returns c =
+    stops _ 1 _ _ _ _ refl (c .before .before .before .before .first-bad .ensures) (c .before .before .barred .ensures) _ _ (c .before .if1 .taken)
+    (c .stopped .ensures)
 
 passed : (c : tie.Else1) → Passes (c .before .before .before .before .args .a) 1 (c .before .before .before .before .args .t2)
 unfolding inPlace
@@ -20,7 +22,12 @@ returns-2 : tie.Need-returns-2
 unfolding first accepted sortOf
 returns-2 c =
     quiet-in _ _ _ _ _ (c .silent .ensures)
-    (rw (accepts _ 1 _ (passed (c .before .before .before .before .before .before)) refl, c .silent .ensures, c .before .before .before .before .by-fields .ensures, c .before .before .before .before .before .factors-of .ensures) (tells-quiet _))
+    (rw (
+      accepts _ 1 _ (passed (c .before .before .before .before .before .before)) refl,
+      c .silent .ensures,
+      c .before .before .before .before .by-fields .ensures,
+      c .before .before .before .before .before .factors-of .ensures,
+    ) (tells-quiet _))
 
 pub weigh-spec : {M : Type 1} → statement M
 weigh-spec =

@@ -11,7 +11,9 @@ use Rattle.rules.proofs.farm_factors.weigh.Tie as tie
 
 returns : tie.Need-returns
 unfolding inPlace
-returns c = stops _ 11 _ _ _ _ refl (c .before .before .before .before .first-bad .ensures) (c .before .before .barred .ensures) _ _ (c .before .if1 .taken) (c .stopped .ensures)
+returns c =
+    stops _ 11 _ _ _ _ refl (c .before .before .before .before .first-bad .ensures) (c .before .before .barred .ensures) _ _ (c .before .if1 .taken)
+    (c .stopped .ensures)
 
 passed : (c : tie.Else1) → Passes (c .before .before .before .before .args .a) 11 (c .before .before .before .before .args .t2)
 unfolding inPlace
@@ -21,7 +23,11 @@ returns-2 : tie.Need-returns-2
 unfolding first accepted sortOf
 returns-2 c =
     quiet-in _ _ _ _ _ (c .silent .ensures)
-    (rw (accepts _ 11 _ (passed (c .before .before .before .before .before)) refl, c .silent .ensures, c .before .before .before .before .by-fields .ensures) (tells-quiet _))
+    (rw (
+      accepts _ 11 _ (passed (c .before .before .before .before .before)) refl,
+      c .silent .ensures,
+      c .before .before .before .before .by-fields .ensures,
+    ) (tells-quiet _))
 
 pub weigh-spec : {M : Type 1} → statement M
 weigh-spec =

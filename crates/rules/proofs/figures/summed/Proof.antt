@@ -11,11 +11,15 @@ summed-spec =
     tie.close
     (tie.spec
     (λ c κs. search needs)
-    (λ c κs. let a = c .before .before .before .before .before in (a .pre .0 .co2, within-more (a .args .g .co2) 1 49152 (omega arith) (a .pre .1 .co2)))
+    (λ c κs. let a = c .before .before .before .before .before in (
+      a .pre .0 .co2,
+      within-more (a .args .g .co2) 1 49152 (omega arith) (a .pre .1 .co2),
+    ))
     (λ c κs. search needs)
     (λ c. search needs)
     (λ c. search needs)
-    (λ c. let p = c .before .before .before .before .before .before .before .before .before .before .before .before .before .before .before .pre in omega (arith, p .0 .land, p .1 .land))
+    (λ c. let p = c .before .before .before .before .before .before .before .before .before .before .before .before .before .before .before .pre in
+    omega (arith, p .0 .land, p .1 .land))
     (λ c.
     let grazing = c .before .before .before .before .before .before in
     let co2 = grazing .before .before .before in

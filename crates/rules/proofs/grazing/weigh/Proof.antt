@@ -14,11 +14,14 @@ use Rattle.rules.proofs.grazing.weigh.Tie as tie
 returns : tie.Need-returns
 unfolding inPlace
 returns c =
-    stops _ 10 _ _ _ _ (c .before .before .before .cattle-placed .ensures) (c .before .before .before .before .first-bad .ensures) (c .before .before .barred .ensures) _ _ (c .before .if1 .taken) (c .stopped .ensures)
+    stops _ 10 _ _ _ _ (c .before .before .before .cattle-placed .ensures) (c .before .before .before .before .first-bad .ensures)
+    (c .before .before .barred .ensures) _ _ (c .before .if1 .taken) (c .stopped .ensures)
 
 passed : (c : tie.Else1) → Passes (c .before .before .before .before .before .args .a) 10 (c .before .before .before .before .before .args .t2)
 unfolding inPlace
-passed c = passes _ 10 _ _ _ _ (c .before .before .cattle-placed .ensures) (c .before .before .before .first-bad .ensures) (c .before .barred .ensures) (c .if1 .left)
+passed c =
+    passes _ 10 _ _ _ _ (c .before .before .cattle-placed .ensures) (c .before .before .before .first-bad .ensures) (c .before .barred .ensures)
+    (c .if1 .left)
 
 add-sum : tie.Need-add-sum
 add-sum c =
@@ -30,16 +33,28 @@ unfolding first
 returns-2 c = refuses _ 10 _ (passed (c .before .before .before)) _ 10 _ (rw (lt-ltb _ _ (c .before .if2 .taken))) refl refl (c .wrong .ensures)
 
 grazing-requires : tie.Need-grazing-requires
-grazing-requires c κs = grazing-in _ _ (head-most _ (c .before .before .before .before .before .before .before .before .pre .0)) (passed (c .before .before .before) .ranges)
+grazing-requires c κs =
+    grazing-in _ _ (head-most _ (c .before .before .before .before .before .before .before .before .pre .0))
+    (passed (c .before .before .before) .ranges)
 
 grouped-detail-requires : tie.Need-grouped-detail-requires
-grouped-detail-requires c κs = (passed (c .before .before .before .before .before .before) .room, sums-most _ (c .before .before .before .before .before .before .before .before .before .before .before .pre .0), subtotal-most _ (c .before .before .before .before .before .before .before .before .before .before .before .pre .0), small-grazing _ _ (c .before .grazing-alone .ensures) (c .before .before .grazing .ensures .small))
+grouped-detail-requires c κs = (
+  passed (c .before .before .before .before .before .before) .room,
+  sums-most _ (c .before .before .before .before .before .before .before .before .before .before .before .pre .0),
+  subtotal-most _ (c .before .before .before .before .before .before .before .before .before .before .before .pre .0),
+  small-grazing _ _ (c .before .grazing-alone .ensures) (c .before .before .grazing .ensures .small),
+)
 
 returns-3 : tie.Need-returns-3
 unfolding first accepted figuresOf sortOf
 returns-3 c =
     told-in _ _ _ _ _ (c .grouped-detail .ensures)
-    (rw (accepts _ 10 _ (passed (c .before .before .before .before .before .before .before)) (rw (le-ltb _ _ (c .before .before .before .before .before .if2 .left))), c .before .before .grazing-alone .ensures, c .before .before .before .grazing .ensures .exact)
+    (rw (
+      accepts _ 10 _ (passed (c .before .before .before .before .before .before .before))
+          (rw (le-ltb _ _ (c .before .before .before .before .before .if2 .left))),
+      c .before .before .grazing-alone .ensures,
+      c .before .before .before .grazing .ensures .exact,
+    )
     (tells-detail (c .before .before .before .before .before .before .before .before .before .before .before .before .args .a) _ _ _ _ _ _))
 
 pub weigh-spec : {M : Type 1} → statement M

@@ -12,11 +12,14 @@ use Rattle.rules.proofs.heading.weigh.Tie as tie
 
 returns : tie.Need-returns
 unfolding inPlace
-returns c = stops _ 2 _ _ _ _ (c .before .before .before .begun .ensures) (c .before .before .before .before .first-bad .ensures) (c .before .before .barred .ensures) _ _ (c .before .if1 .taken) (c .stopped .ensures)
+returns c =
+    stops _ 2 _ _ _ _ (c .before .before .before .begun .ensures) (c .before .before .before .before .first-bad .ensures)
+    (c .before .before .barred .ensures) _ _ (c .before .if1 .taken) (c .stopped .ensures)
 
 passed : (c : tie.Else1) → Passes (c .before .before .before .before .args .a) 2 (c .before .before .before .before .args .t2)
 unfolding inPlace
-passed c = passes _ 2 _ _ _ _ (c .before .before .begun .ensures) (c .before .before .before .first-bad .ensures) (c .before .barred .ensures) (c .if1 .left)
+passed c =
+    passes _ 2 _ _ _ _ (c .before .before .begun .ensures) (c .before .before .before .first-bad .ensures) (c .before .barred .ensures) (c .if1 .left)
 
 returns-2 : tie.Need-returns-2
 unfolding first
@@ -26,7 +29,8 @@ returns-3 : tie.Need-returns-3
 unfolding first accepted sortOf
 returns-3 c =
     told-in _ _ _ _ _ (c .headed .ensures)
-    (rw (accepts _ 2 _ (passed (c .before .before .before .before)) (rw (lt-leb _ _ (c .before .if2 .left)))) (tells-heading (c .before .before .before .before .before .before .before .before .args .a) _ _ _))
+    (rw (accepts _ 2 _ (passed (c .before .before .before .before)) (rw (lt-leb _ _ (c .before .if2 .left))))
+    (tells-heading (c .before .before .before .before .before .before .before .before .args .a) _ _ _))
 
 pub weigh-spec : {M : Type 1} → statement M
 weigh-spec =

@@ -22,4 +22,10 @@ step-spec =
     (λ c κs. search needs)
     (λ c. search needs)
     (λ c. search needs)
-    (λ c. let k = c .before .before .before .before .before in omega (arith, k .call .ensures, length-take (k .before .before .before .before .before .least .result) (k .before .before .before .before .before .before .before .before .before .before .before .before .before .args .rest .now))))
+    (λ c. let k = c .before .before .before .before .before in
+    omega (
+      arith,
+      k .call .ensures,
+      length-take (k .before .before .before .before .before .least .result)
+          (k .before .before .before .before .before .before .before .before .before .before .before .before .before .args .rest .now),
+    )))

@@ -12,7 +12,8 @@ enter-record-spec =
     (λ c. gives-withheld _ _ _ _ (c .before .if1 .taken) (c .withholding .ensures) _)
     (λ c κs. search needs)
     (λ c κs. search needs)
-    (λ c. gives-headless _ _ _ _ (c .before .before .before .before .if1 .left) (c .before .before .before .in-group .ensures) (c .before .if2 .taken) (c .unheaded .ensures) _)
+    (λ c. gives-headless _ _ _ _ (c .before .before .before .before .if1 .left) (c .before .before .before .in-group .ensures) (c .before .if2 .taken)
+    (c .unheaded .ensures) _)
     (λ c κs. search needs)
     (λ c κs.
     let tests = c .before .before .before .before in
@@ -21,5 +22,6 @@ enter-record-spec =
     (λ c.
     let tests = c .before .before .before .before .before in
     let start = tests .before .before .before .before .before .before .before .before .before .before in
-    judged _ _ _ (start .args .out .now) (tests .before .before .before .if1 .left) (tests .before .before .in-group .ensures) (tests .if2 .left) (c .before .before .before .write-entry .ensures .0)
+    judged _ _ _ (start .args .out .now) (tests .before .before .before .if1 .left) (tests .before .before .in-group .ensures) (tests .if2 .left)
+    (c .before .before .before .write-entry .ensures .0)
     (c .before .before .before .write-entry .ensures .1 .0) (c .answered .ensures)))

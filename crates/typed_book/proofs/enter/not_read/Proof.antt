@@ -12,4 +12,10 @@ not-read-spec =
     (λ c κs. search needs)
     (λ c κs. search needs)
     (λ c κs. search needs)
-    (λ c. rw (c .one-more2 .ensures, c .before .one-more .ensures, c .before .before .first-failed .ensures, c .before .before .before .chosen .ensures, c .before .before .before .before .may-head .ensures)))
+    (λ c. rw (
+      c .one-more2 .ensures,
+      c .before .one-more .ensures,
+      c .before .before .first-failed .ensures,
+      c .before .before .before .chosen .ensures,
+      c .before .before .before .before .may-head .ensures,
+    )))

@@ -11,4 +11,9 @@ refused-at-spec =
     (λ c κs. search needs)
     (λ c κs. search needs)
     (λ c κs. search needs)
-    (λ c. rw (c .one-more2 .ensures, c .before .one-more .ensures, c .before .before .first-failed .ensures, c .before .before .before .chosen .ensures)))
+    (λ c. rw (
+      c .one-more2 .ensures,
+      c .before .one-more .ensures,
+      c .before .before .first-failed .ensures,
+      c .before .before .before .chosen .ensures,
+    )))

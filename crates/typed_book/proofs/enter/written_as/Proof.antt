@@ -12,4 +12,9 @@ written-as-spec =
     (λ c κs. search needs)
     (λ c κs. search needs)
     (λ c κs. search needs)
-    (λ c. rw (c .one-more .ensures, c .before .chosen2 .ensures, c .before .before .chosen .ensures, c .before .before .before .days-of-year .ensures)))
+    (λ c. rw (
+      c .one-more .ensures,
+      c .before .chosen2 .ensures,
+      c .before .before .chosen .ensures,
+      c .before .before .before .days-of-year .ensures,
+    )))

@@ -25,4 +25,5 @@ say-all-days-spec =
     let p1 = c .before .before in
     let p2 = p1 .before .before .before .before .before .before .before in
     let p3 = p2 .before .before .before .before .before .before in
-    rw (c .before .before .before .before .before .before .before .before .before .before .before .before .before .before .before .before .before .before .if1 .left) (p3 .say-days .ensures ⟫ p2 .say-days2 .ensures ⟫ p1 .say-days3 .ensures)))
+    rw (c .before .before .before .before .before .before .before .before .before .before .before .before .before .before .before .before .before
+    .before .if1 .left) (p3 .say-days .ensures ⟫ p2 .say-days2 .ensures ⟫ p1 .say-days3 .ensures)))

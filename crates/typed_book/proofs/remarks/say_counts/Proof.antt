@@ -27,4 +27,5 @@ say-counts-spec =
     let p5 = p4 .before .before .before .before .before in
     let p6 = p5 .before .before .before .before in
     let p7 = p6 .before .before .before .before .before in
-    p7 .say-number .ensures ⟫ p6 .say .ensures ⟫ p5 .say-number2 .ensures ⟫ p4 .say2 .ensures ⟫ p3 .say-number3 .ensures ⟫ p2 .say3 .ensures ⟫ p1 .say-without-count .ensures))
+    p7 .say-number .ensures ⟫ p6 .say .ensures ⟫ p5 .say-number2 .ensures ⟫ p4 .say2 .ensures ⟫ p3 .say-number3 .ensures ⟫ p2 .say3 .ensures ⟫ p1
+    .say-without-count .ensures))

@@ -28,4 +28,7 @@ say-days-spec =
     let p4 = p3 .before .before .before .before in
     let p5 = p4 .before .before .before .before .before in
     let p6 = p5 .before .before .before .before in
-    rw (ne-eqb _ _ (c .before .before .before .before .before .before .before .before .before .before .before .before .before .before .before .before .before .before .before .before .before .before .before .before .before .before .if1 .left)) (p6 .say-between .ensures ⟫ p5 .say-kind .ensures ⟫ p4 .say .ensures ⟫ p3 .say-number .ensures ⟫ p2 .say2 .ensures ⟫ p1 .say-of-year .ensures)))
+    rw (ne-eqb _ _ (c .before .before .before .before .before .before .before .before .before .before .before .before .before .before .before .before
+    .before .before .before .before .before .before .before .before .before .before .if1 .left))
+    (p6 .say-between .ensures ⟫ p5 .say-kind .ensures ⟫ p4 .say .ensures ⟫ p3 .say-number .ensures ⟫ p2 .say2 .ensures ⟫ p1 .say-of-year
+    .ensures)))

@@ -13,5 +13,8 @@ say-ended-spec =
     (λ c κs. search needs)
     (λ c κs. search needs)
     (λ c. search needs)
-    (λ c. rw (← c .before .before .before .before .before .before .before .kind-written .ensures, c .before .before .before .before .before .before .if1 .taken) (c .before .before .say-group .ensures))
+    (λ c. rw (
+      ← c .before .before .before .before .before .before .before .kind-written .ensures,
+      c .before .before .before .before .before .before .if1 .taken,
+    ) (c .before .before .say-group .ensures))
     (λ c. rw (← c .before .kind-written .ensures, c .if1 .left) (said-none (c .before .before .before .pre))))

@@ -32,4 +32,6 @@ say-group-spec =
     let p4 = p3 .before .before .before .before .before .before in
     let p5 = p4 .before .before .before .before .before in
     let p6 = p5 .before .before .before .before .before in
-    rw (ne-eqb _ _ (c .before .before .before .before .before .before .before .before .before .before .before .before .before .before .before .before .before .before .before .before .before .before .before .before .before .before .before .before .before .before .before .if1 .left)) (p6 .say .ensures ⟫ p5 .say-number .ensures ⟫ p4 .say2 .ensures ⟫ p3 .say-head .ensures ⟫ p2 .say-all-days .ensures ⟫ p1 .say3 .ensures)))
+    rw (ne-eqb _ _ (c .before .before .before .before .before .before .before .before .before .before .before .before .before .before .before .before
+    .before .before .before .before .before .before .before .before .before .before .before .before .before .before .before .if1 .left))
+    (p6 .say .ensures ⟫ p5 .say-number .ensures ⟫ p4 .say2 .ensures ⟫ p3 .say-head .ensures ⟫ p2 .say-all-days .ensures ⟫ p1 .say3 .ensures)))

@@ -21,4 +21,5 @@ say-more-spec =
     let p1 = c .before .before in
     let p2 = p1 .before .before .before .before .before in
     let p3 = p2 .before .before .before .before in
-    rw (lt-leb _ _ (c .before .before .before .before .before .before .before .before .before .before .before .before .before .before .if1 .left)) (p3 .say .ensures ⟫ p2 .say-number .ensures ⟫ p1 .say2 .ensures)))
+    rw (lt-leb _ _ (c .before .before .before .before .before .before .before .before .before .before .before .before .before .before .if1 .left))
+    (p3 .say .ensures ⟫ p2 .say-number .ensures ⟫ p1 .say2 .ensures)))

@@ -28,4 +28,7 @@ say-range-spec =
     let p5 = p4 .before .before .before .before in
     let p6 = p5 .before .before .before .before .before in
     let p7 = p6 .before .before .before .before in
-    rw (c .before .before .before .before .before .before .before .before .before .before .before .before .before .before .before .before .before .before .before .before .before .before .before .before .before .before .before .before .before .before .before .before-it .ensures) at (p7 .say .ensures ⟫ p6 .say-number .ensures ⟫ p5 .say2 .ensures ⟫ p4 .say-field .ensures ⟫ p3 .say3 .ensures ⟫ p2 .say-word .ensures ⟫ p1 .say-out-of-range .ensures)))
+    rw (c .before .before .before .before .before .before .before .before .before .before .before .before .before .before .before .before .before
+    .before .before .before .before .before .before .before .before .before .before .before .before .before .before .before-it .ensures) at
+    (p7 .say .ensures ⟫ p6 .say-number .ensures ⟫ p5 .say2 .ensures ⟫ p4 .say-field .ensures ⟫ p3 .say3 .ensures ⟫ p2 .say-word .ensures ⟫ p1
+    .say-out-of-range .ensures)))

@@ -31,5 +31,9 @@ say-remark-spec =
     let p1 = c .before .before in
     let p2 = p1 .before .before .before .before .before in
     let p3 = p2 .before .before .before .before in
-    let some = sym (c .before .before .before .before .before .before .before .before .before .before .before .before .before .before .before .before .failed .ensures) ∙ not-false _ (c .before .before .before .before .before .before .before .before .before .before .before .before .before .before .before .if1 .left) in
-    rw (some, lt-leb _ _ (c .before .before .before .before .before .before .before .before .before .before .before .before .before .if2 .left)) (p3 .say-line .ensures ⟫ p2 .say-words .ensures ⟫ p1 .say .ensures)))
+    let some =
+    sym (c .before .before .before .before .before .before .before .before .before .before .before .before .before .before .before .before .failed
+    .ensures) ∙ not-false _ (c .before .before .before .before .before .before .before .before .before .before .before .before .before .before
+    .before .if1 .left) in
+    rw (some, lt-leb _ _ (c .before .before .before .before .before .before .before .before .before .before .before .before .before .if2 .left))
+    (p3 .say-line .ensures ⟫ p2 .say-words .ensures ⟫ p1 .say .ensures)))
