@@ -1,24 +1,24 @@
 -- A test that refuses compares wrongly: from the refusals by name to the two numbers that are told.
 -- Assumes nothing.
 use Prim.Native.Nat.{ℕ, zero, suc, _+_, _-_, _≤_, _<_}
-use mathlib.Core.Path.{_≡_, refl, sym, ap, _∙_}
+use mathlib.Core.Path.{_≡_, refl, sym}
 use mathlib.Core.List.{List, [], _∷_}
 use mathlib.Core.Bool.{Bool, true, false, _&&_, _||_, not}
-use mathlib.Core.Logic.{_⊎_, inl, inr, ⊎-elim}
+use mathlib.Core.Logic.{_⊎_, inl, inr}
 use native.Mathlib.Omega.{arith}
 use native.Mathlib.Nat.{zero-add, add-zero, add-suc, suc-add}
-use borrow.Author.Tests.{leb-true, leb-false, ltb-true, ltb-false, eqb-true, eqb-false, lt-ltb, le-ltb}
+use borrow.Author.Tests.{leb-true, leb-false, ltb-true, eqb-true, eqb-false, lt-ltb, le-ltb}
 use lib.ListN.{getD}
 use lib.Dec.{ltb, leb, eqb}
 use Rattle.base.specs.Choice.{pick}
 use Rattle.base.proofs.Tests.{no-bool, not-true, and-l, and-r, or-l, or-r}
 use Rattle.codec.specs.declared.Field.{Field}
-use Rattle.codec.specs.Table.{field, fields, lengthOf, lengthMost, lastKind, isKind}
-use Rattle.codec.specs.Codec.{valAt, firstBad}
+use Rattle.codec.specs.Table.{field, fields, lengthMost, lastKind, isKind}
+use Rattle.codec.specs.Codec.{firstBad}
 use Rattle.account.specs.declared.Account.{Account}
 use Rattle.account.specs.declared.Days.{Days}
 use Rattle.account.specs.Judge.{versionOf, kindByte, kindOf, valuesOf, daysOver, partsWrong, grazedOver, RefusedBy}
-use Rattle.account.specs.Compared.{Compared, numbers, noNumbers, outside, rangeOf, valueAt, badField, daysWith, sharesOf, partsOf, grazedWith}
+use Rattle.account.specs.Compared.{Compared, numbers, outside, rangeOf, valueAt, badField, daysWith, sharesOf, partsOf, grazedWith}
 use Rattle.account.specs.Compared.{valuesCompared, compared}
 use Rattle.account.specs.Compared.{BeyondEnd, ComparesWrongly}
 

@@ -24,16 +24,7 @@ each-good (f ∷ fs) vs i e = let w = first-within f fs vs i e in (w .0 .above, 
 pub good : (k : ℕ) (v : List ℕ) → firstBad (fields k) v 0 ≡ 0 → Good (length (fields k)) (fields k) v 0
 good k v e = each-good (fields k) v 0 e
 
--- what a farm record and a heading store
-pub record FarmIn (v : List ℕ) : Type 0 where
-  pub set-least : 1 ≤ getD v 2 0
-  pub set-most : getD v 2 0 ≤ 2
-
-pub farm-in : (v : List ℕ) → firstBad (fields 1) v 0 ≡ 0 → FarmIn v
-unfolding table
-farm-in v e = let g = good 1 v e in record { set-least = omega arith; set-most = omega arith }
-
--- with version 2
+-- what a farm record of version 2 and a heading store
 pub record FactorsIn (v : List ℕ) : Type 0 where
   pub ch4-least : 1 ≤ getD v 2 0
   pub ch4-most : getD v 2 0 ≤ 1000

@@ -1,15 +1,13 @@
 -- Laws of sorts and of kinds: what holds of each of the five sorts, and of each row of the table, holds of all.
 -- Assumes nothing.
-use Prim.Native.Nat.{ℕ, _+_, _≤_}
+use Prim.Native.Nat.{ℕ}
 use mathlib.Core.Path.{_≡_, refl, sym, _∙_}
-use mathlib.Core.Bool.{Bool, true, false, _&&_, _||_}
-use mathlib.Core.Logic.{_⊎_, ⊎-elim}
+use mathlib.Core.Bool.{Bool, true, false, _||_}
 use native.Mathlib.Omega.{arith}
-use borrow.Author.Tests.{leb-true, eqb-true, eqb-false}
-use lib.Dec.{leb, eqb}
+use borrow.Author.Tests.{eqb-true}
+use lib.Dec.{eqb}
 use Rattle.base.specs.Choice.{pick}
-use Rattle.base.proofs.Tests.{and-l, and-r, by-test, no-bool, true-or-false}
-use Rattle.codec.specs.Table.{isKind, lastKind}
+use Rattle.base.proofs.Tests.{by-test, no-bool}
 use Rattle.account.specs.Sorts.{isFarm, Sort, opens, heads, ofGroup, ofFarm, closes, sortOf, bySort}
 
 -- ---- sorts

@@ -3,7 +3,7 @@
 use Prim.Native.Nat.{ℕ, _+_, _^_, _≤_, _<_}
 use mathlib.Core.Path.{_≡_, refl, sym, ap, _∙_}
 use mathlib.Core.List.{List, [], _∷_, _++_, append-nil}
-use mathlib.Core.Bool.{Bool, true, false, not, _&&_}
+use mathlib.Core.Bool.{Bool, true, false, not}
 use mathlib.Core.Logic.{⊎-elim}
 use native.Mathlib.Omega.{arith}
 use borrow.Author.Tests.{leb-false, le-leb, lt-leb, eqb-true, eq-eqb, ne-eqb}
@@ -33,7 +33,7 @@ use Rattle.account.specs.declared.Judged.{Judged}
 use Rattle.account.specs.Figures.{groupFigures, ch4Alone, co2Alone, grazingAlone, cattleFigures, pigFigures}
 use Rattle.account.specs.Line.{joined, bytesOf, lineWith, totalWith, co2eIn, subtotals, totalOf}
 use Rattle.account.specs.Range.{Headed, Unheaded, Bounded, Grouped, AccountInRange}
-use Rattle.account.specs.Judge.{kindOf, wrongVersion, wrongKind, judge, first, inPlace, notRising, daysOver, partsWrong, grazedOver, feedBelow}
+use Rattle.account.specs.Judge.{wrongVersion, wrongKind, judge, first, inPlace, notRising, daysOver, partsWrong, grazedOver, feedBelow}
 use Rattle.account.specs.Judge.{wrongCount, valueRefusals}
 use Rattle.account.specs.Judge.{refused, underHeading, withDetail, closed, Step, accepted, weigh}
 use Rattle.account.specs.Told.{Tells, TellsIn, inRoom, Kind, Small, noLine, quiet, refusing, detailing, heading, closing}

@@ -1,7 +1,7 @@
 -- Theorem: the bench's calls are a way of rule 3: some parts give the bytes of its lines.
 -- Assumes nothing.
 use Prim.Native.Nat.{ℕ, zero, suc, _-_}
-use mathlib.Core.Path.{_≡_, refl, ap, sym, _∙_}
+use mathlib.Core.Path.{_≡_, refl, ap}
 use mathlib.Core.List.{List, [], _∷_, _++_, append-nil}
 use lib.ListN.{length, take, drop}
 use Rattle.base.proofs.Tests.{of-choice}

@@ -18,7 +18,7 @@ use Rattle.book.specs.declared.State.{State}
 use Rattle.book.specs.declared.Fed.{Fed}
 use Rattle.book.specs.State.{noRecordYet}
 use Rattle.book.specs.Call.{Call, call, fedOf, laid}
-use Rattle.benchdesk.specs.Bench.{Bench, codeOf, andThen, last, benchBy, benched, numberOf, laidBy}
+use Rattle.benchdesk.specs.Bench.{codeOf, andThen, last, benchBy, benched, numberOf, laidBy}
 
 -- the first bytes, at most p of them
 pub take-least : (p : ℕ) (xs : List ℕ) → take (min p (length xs)) xs ≡ take p xs

@@ -155,11 +155,6 @@ code-unfinished unfinished e = refl
 code-unfinished badLength e = absurd (omega arith)
 code-unfinished whole e = absurd (omega arith)
 
-pub code-bad : (f : Front) → codeOf f ≡ 1 → f ≡ badLength
-code-bad unfinished e = absurd (omega arith)
-code-bad badLength e = refl
-code-bad whole e = absurd (omega arith)
-
 pub code-whole : (f : Front) → (codeOf f ≡ 0 → ⊥) → (codeOf f ≡ 1 → ⊥) → f ≡ whole
 code-whole unfinished p q = absurd (p refl)
 code-whole badLength p q = absurd (q refl)

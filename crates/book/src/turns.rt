@@ -110,7 +110,8 @@ impl State {
     // What the bytes of src do, which begins with the bytes held.
     fn turn(self, src: &[u8], out: &mut [u8]) -> Turn
         requires { ⌜ Begins self (now src) ⌝ }
-        ensures { λ t. ⌜ Turned (λ n. book (self .account) (take (self .count + n) (now (src .entry)))) (length (now (src .entry)) - self .count) (now (out .entry)) (now (out .exit)) t ⌝ }
+        ensures { λ t. ⌜ Turned (λ n. book (self .account) (take (self .count + n) (now (src .entry)))) (length (now (src .entry)) - self .count)
+            (now (out .entry)) (now (out .exit)) t ⌝ }
     {
         let a = self.account;
         let r = judge_all(a, src, out);
@@ -130,7 +131,8 @@ impl State {
     // One turn over the input from i on.
     pub(crate) fn next(self, input: &[u8], i: usize, out: &mut [u8]) -> Turn
         requires { ⌜ Offered self (now input) i ⌝ }
-        ensures { λ t. ⌜ Turned (λ n. run self (take n (drop i (now (input .entry))))) (length (now (input .entry)) - i) (now (out .entry)) (now (out .exit)) t ⌝ }
+        ensures { λ t. ⌜ Turned (λ n. run self (take n (drop i (now (input .entry))))) (length (now (input .entry)) - i) (now (out .entry))
+            (now (out .exit)) t ⌝ }
     {
         let rest = rest_of(input, i);
         if self.count == 0 {

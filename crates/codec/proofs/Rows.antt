@@ -9,7 +9,7 @@ use lib.Dec.{T, leb, ltb, leb→le, ltb→lt}
 use lib.ListN.{length, getD}
 use Rattle.base.specs.Choice.{pick}
 use Rattle.codec.specs.declared.Field.{Field}
-use Rattle.codec.specs.Table.{table, fields, lastKind, size, lengthOf, lengthMost, lineFields, totalFields, lineSize, totalSize}
+use Rattle.codec.specs.Table.{table, fields, size, lengthOf, lengthMost, lineFields, totalFields, lineSize, totalSize}
 use Rattle.codec.specs.Codec.{Fit, bytesHold, firstBad}
 use Rattle.codec.proofs.Within.{first-within}
 

@@ -26,7 +26,8 @@ fn put_figures(
     grazing: u64,
 )
     requires { ⌜ at + lineSize ≤ length (now out) ⌝ }
-    ensures { λ _. ⌜ now (out .exit) ≡ sets (sets (sets (sets (sets (sets (now (out .entry)) (at + 6) (be 8 ch4)) (at + 14) (be 8 n2o)) (at + 22) (be 8 co2)) (at + 30) (be 8 excreted)) (at + 38) (be 8 land)) (at + 46) (be 8 grazing) ⌝ }
+    ensures { λ _. ⌜ now (out .exit) ≡ sets (sets (sets (sets (sets (sets (now (out .entry)) (at + 6) (be 8 ch4)) (at + 14) (be 8 n2o)) (at + 22)
+        (be 8 co2)) (at + 30) (be 8 excreted)) (at + 38) (be 8 land)) (at + 46) (be 8 grazing) ⌝ }
 {
     put8(out, at + 6, ch4);
     put8(out, at + 14, n2o);

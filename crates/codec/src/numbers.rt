@@ -66,7 +66,8 @@ pub fn put2(out: &mut [u8], at: usize, v: u64)
 // Values of two bytes each, one after the other.
 pub(crate) fn put2_each(out: &mut [u8], at: usize, v: &[u64])
     requires { ⌜ at + length (now v) * 2 ≤ length (now out) ⌝ }
-    ensures { λ _. ⌜ now (out .exit) ≡ sets (now (out .entry)) at (bytesOf (replicate (length (now (v .entry))) (field 2 0 65535)) (now (v .entry)) 0) ⌝ }
+    ensures { λ _. ⌜ now (out .exit) ≡ sets (now (out .entry)) at
+        (bytesOf (replicate (length (now (v .entry))) (field 2 0 65535)) (now (v .entry)) 0) ⌝ }
 {
     let mut p = at;
     let mut i = 0;

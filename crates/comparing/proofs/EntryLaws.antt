@@ -1,9 +1,9 @@
 -- The entries of some bytes by the record at their front.
 -- Assumes nothing.
 use Prim.Native.Nat.{ℕ, _≤_, _<_}
-use mathlib.Core.Path.{_≡_, refl, sym, ap, _∙_}
-use mathlib.Core.List.{List, [], _∷_, _++_}
-use mathlib.Core.Bool.{Bool, true, false, _||_}
+use mathlib.Core.Path.{_≡_, refl}
+use mathlib.Core.List.{List, [], _∷_}
+use mathlib.Core.Bool.{true, false, _||_}
 use mathlib.Core.Logic.{⊎-elim}
 use native.Mathlib.Omega.{arith}
 use borrow.Author.Tests.{lt-ltb, le-ltb, eqb-true, eqb-false, leb-true, leb-false, eq-eqb, ne-eqb}
@@ -25,7 +25,7 @@ use Rattle.book.proofs.WholeRecordLaws.{records-whole}
 use Rattle.book.proofs.RecordLaws.{record-in}
 use Rattle.listing.specs.Listing.{linesText, lineRoom}
 use Rattle.comparing.specs.declared.cursor.Taken.{Taken}
-use Rattle.comparing.specs.Entries.{read, after, linesOf, takes, Entry, entriesFrom, entriesAfter}
+use Rattle.comparing.specs.Entries.{after, linesOf, entriesFrom, entriesAfter}
 use Rattle.comparing.specs.Inner.{entry, Turned, Written}
 
 -- a book that has ended has no more

@@ -2,7 +2,7 @@
 -- Assumes nothing.
 use Prim.Native.Nat.{ℕ, suc, _+_, _-_, _≤_, _<_, min}
 use mathlib.Core.Path.{_≡_, refl, sym, ap, _∙_}
-use mathlib.Core.List.{List, [], _∷_, _++_}
+use mathlib.Core.List.{List, [], _∷_}
 use mathlib.Core.Bool.{Bool, true, false, _||_, _&&_, not}
 use mathlib.Core.Logic.{_⊎_, inl, inr, ⊎-elim}
 use native.Mathlib.Omega.{arith}
@@ -21,7 +21,7 @@ use Rattle.comparing.specs.declared.runs.Pair.{Pair}
 use Rattle.comparing.specs.Entries.{Entry, linesOf, entriesAfter, entriesOf}
 use Rattle.comparing.specs.Same.{same}
 use Rattle.comparing.specs.Compare.{shapeOf, noRuns, oneMore, runsFrom, runsOf, movedOf, planOf}
-use Rattle.comparing.specs.Inner.{entry, Turned, Written, Reached, Looked, CountsIn}
+use Rattle.comparing.specs.Inner.{Turned, Written, Reached, Looked, CountsIn}
 use Rattle.comparing.proofs.WalkLaws.{entries-behind}
 
 -- ---- the next pair

@@ -1,6 +1,6 @@
 -- What is told of records, one after the other.
 -- Assumes nothing.
-use Prim.Native.Nat.{ℕ, zero, suc, _+_, _-_, _≤_, _<_, min}
+use Prim.Native.Nat.{ℕ, zero, suc, _+_, _-_, _≤_, _<_}
 use native.Mathlib.Nat.{sub-zero, add-zero}
 use native.Mathlib.Omega.{arith}
 use mathlib.Core.Path.{_≡_, refl, sym, ap, _∙_}
@@ -18,7 +18,7 @@ use Rattle.comparing.specs.declared.runs.Pair.{Pair}
 use Rattle.comparing.specs.Entries.{Entry, linesOf, entriesAfter, entriesOf}
 use Rattle.comparing.specs.Same.{same}
 use Rattle.comparing.specs.Remarks.{entryText, recordsText, partText, otherText, pairsText, pairsPart}
-use Rattle.comparing.specs.Inner.{entry, Turned, Reached, Looked}
+use Rattle.comparing.specs.Inner.{Turned, Reached, Looked}
 
 take-nil : (n : ℕ) → take {A = Entry} n [] ≡ []
 take-nil zero = refl

@@ -1,20 +1,18 @@
 -- What is told of two books is true. The records called the same are the same; the entries of a book are its accepted records and their lines by
 -- rule 2; and a detail record that is the same in both, under the same heading, is never listed.
 -- Assumes nothing.
-use Prim.Native.Nat.{ℕ, zero, suc, _+_, _-_, _≤_, _<_, min}
+use Prim.Native.Nat.{ℕ, zero, suc, _+_, _-_, _≤_, _<_}
 use mathlib.Core.Path.{_≡_, refl, sym, ap, _∙_}
 use mathlib.Core.List.{List, [], _∷_, _++_, append-assoc, append-nil, head-eq-of-cons-eq}
 use mathlib.Core.Bool.{Bool, true, false, _&&_}
-use mathlib.Core.Logic.{_⊎_, inl, inr, ⊎-elim}
+use mathlib.Core.Logic.{_⊎_, inl, ⊎-elim}
 use native.Mathlib.Omega.{arith}
 use native.Mathlib.Nat.{sub-zero}
-use borrow.Author.Tests.{lt-ltb, le-leb, eq-eqb, ne-eqb, eqb-true, eqb-false}
+use borrow.Author.Tests.{lt-ltb, le-leb, eq-eqb, ne-eqb}
 use lib.ListN.{length, take, drop, length-drop}
 use lib.Seq.{take-length}
-use lib.Dec.{eqb}
 use Rattle.base.specs.Choice.{pick}
-use Rattle.base.proofs.Tests.{by-test, true-or-false, lt-or-ge, no-bool, of-choice}
-use Rattle.codec.specs.Table.{linesMost}
+use Rattle.base.proofs.Tests.{lt-or-ge}
 use Rattle.account.specs.declared.Account.{Account}
 use Rattle.account.specs.declared.Heading.{Heading}
 use Rattle.account.specs.Sorts.{ofGroup, sortOf}
@@ -33,7 +31,7 @@ use Rattle.book.proofs.WholeRecordLaws.{records-whole}
 use Rattle.book.proofs.RunLaws.{book-ended, book-unfinished, book-bad, book-whole}
 use Rattle.book.proofs.Longest.{longest-top}
 use Rattle.book.proofs.CallLaws.{call-at}
-use Rattle.book.proofs.RecordLaws.{record-in, book-one}
+use Rattle.book.proofs.RecordLaws.{book-one}
 use Rattle.promises.specs.Headings.{acceptedRecords}
 use Rattle.promises.specs.Subtotals.{headingAfter}
 use Rattle.promises.specs.WholeLines.{isDetail, lastHeading}
@@ -43,7 +41,7 @@ use Rattle.promises.proofs.WholeLines.{shaped, bookRecords}
 use Rattle.promises.proofs.SameLine.{heading-is, gives-line, same-line}
 use Rattle.reasons.proofs.FaultLaws.{refused-is}
 use Rattle.comparing.specs.declared.runs.Counts.{Counts}
-use Rattle.comparing.specs.Entries.{read, after, linesOf, takes, Entry, recordsIn, entriesFrom, entriesAfter, entriesOf}
+use Rattle.comparing.specs.Entries.{read, after, linesOf, Entry, recordsIn, entriesFrom, entriesAfter, entriesOf}
 use Rattle.comparing.specs.Same.{same}
 use Rattle.comparing.specs.Compare.{shapeOf, noRuns, oneMore, runsFrom, runsOf, frontOf}
 use Rattle.comparing.specs.Remarks.{otherText}

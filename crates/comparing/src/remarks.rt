@@ -119,7 +119,8 @@ fn say_other(
 
 // At most many pairs of records, from the numbers i and j on, where their lines differ; from the start of out.
 pub fn say_pairs(out: &mut [u8], old: &[u8], i: usize, new: &[u8], j: usize, many: usize) -> usize
-    ensures { λ r. ⌜ Said (now (out .entry)) (now (out .exit)) 0 (pairsPart i j many (entriesOf (now (old .entry))) (entriesOf (now (new .entry)))) r ⌝ }
+    ensures { λ r. ⌜ Said (now (out .entry)) (now (out .exit)) 0
+        (pairsPart i j many (entriesOf (now (old .entry))) (entriesOf (now (new .entry)))) r ⌝ }
 {
     let c = reach(old, i);
     let d = reach(new, j);

@@ -50,7 +50,8 @@ pub extern "C" fn herd_call(image: &mut [u8], part: &[u8], lines: &mut [u8], tak
     ensures number { λ r. ⌜ r ≡ callNumber (callOn (now (image .entry)) (now (part .entry)) (length (now (lines .entry)))) ⌝ }
     ensures taken { λ r. ⌜ now (taken .exit) ≡ callOn (now (image .entry)) (now (part .entry)) (length (now (lines .entry))) .taken ⌝ }
     ensures image { λ r. ⌜ now (image .exit) ≡ imageAfter (now (image .entry)) (now (part .entry)) (length (now (lines .entry))) ⌝ }
-    ensures lines { λ r. ⌜ now (lines .exit) ≡ laid (callOn (now (image .entry)) (now (part .entry)) (length (now (lines .entry)))) (now (lines .entry)) ⌝ }
+    ensures lines { λ r. ⌜ now (lines .exit) ≡ laid (callOn (now (image .entry)) (now (part .entry)) (length (now (lines .entry))))
+        (now (lines .entry)) ⌝ }
 {
     let called = call(image, part, lines);
     let answer = called.answer;

@@ -57,7 +57,3 @@ plus-assoc a b c = ap asWord
 -- none added to a word
 pub plus-none : (c : Co2) → c .0 < 2 ^ 64 → plusCo2 c noCo2 ≡ c
 plus-none c h = ap gramsCo2 (+ℤ-idr (co2Grams c)) ∙ ap asWord (word-signed (c .0) h)
-
--- to none
-pub none-plus : (c : Co2) → c .0 < 2 ^ 64 → plusCo2 noCo2 c ≡ c
-none-plus c h = plus-comm noCo2 c ∙ plus-none c h

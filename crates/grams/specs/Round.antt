@@ -2,7 +2,7 @@
 -- What an exact half does stands in `roundDiv` and in the first group of laws alone; all else in the house goes by the laws. Assumes nothing.
 use mathlib.Core.Path.{_≡_, sym}
 use mathlib.Core.Logic.{⊎-elim}
-use Prim.Native.Nat.{ℕ, suc, _+_, _*_, _/_, _%_, _<_, _≤_}
+use Prim.Native.Nat.{ℕ, _+_, _*_, _/_, _%_, _<_, _≤_}
 use native.Mathlib.Nat.{le-refl, mul-le-mul-left, div-add-mod, mod-lt, le-antisymm, eq-or-lt-of-le, lt-of-mul-lt-mul-left, mul-pos}
 use native.Mathlib.Omega.{arith}
 use lib.Dec.{ltb, eqb}

@@ -1,9 +1,9 @@
 -- A call on an image is the call on the state.
 -- Assumes nothing.
-use Prim.Native.Nat.{ℕ, _-_, _≤_, _<_}
+use Prim.Native.Nat.{ℕ, _-_, _≤_}
 use mathlib.Core.Path.{_≡_, refl, ap, sym, _∙_}
-use mathlib.Core.List.{List, []}
-use mathlib.Core.Bool.{Bool, true, false}
+use mathlib.Core.List.{List}
+use mathlib.Core.Bool.{true, false}
 use native.Mathlib.Omega.{arith}
 use borrow.Author.Tests.{eq-eqb, ne-eqb, ltb-false, eqb-false}
 use lib.ListN.{length, take}
@@ -23,7 +23,7 @@ use Rattle.book.proofs.CallLaws.{call-at}
 use Rattle.image.specs.declared.Called.{Called}
 use Rattle.image.specs.Image.{imageSize, imageOf, stateIn, Possible, isImage}
 use Rattle.image.specs.Calls.{started, callOn, imageAfter, calledOf, codeOf, noImage}
-use Rattle.image.proofs.Images.{image-back, is-image, image-possible, other-length, by-range}
+use Rattle.image.proofs.Images.{image-back, is-image, other-length, by-range}
 use Rattle.image.proofs.Words.{call-possible}
 
 -- ---- what a call on an image is

@@ -3,7 +3,7 @@
 use Prim.Native.Nat.{ℕ, _+_, _<_, _≤_}
 use mathlib.Core.Path.{_≡_, refl, ap, sym, _∙_}
 use mathlib.Core.List.{List, [], _++_, append-nil}
-use mathlib.Core.Bool.{Bool, true, false, _&&_}
+use mathlib.Core.Bool.{true, false}
 use mathlib.Core.Logic.{_⊎_, ⊎-elim}
 use native.Mathlib.Omega.{arith}
 use borrow.Author.Tests.{eq-eqb, ne-eqb, eqb-true}
@@ -11,7 +11,6 @@ use lib.ListN.{length, getD, take, drop, replicate, length-drop, take-append-dro
 use lib.Seq.{take-all, take-at}
 use lib.Dec.{eqb}
 use Rattle.base.proofs.Tests.{lt-or-ge, both, no-bool}
-use Rattle.codec.specs.Table.{size}
 use Rattle.codec.specs.Codec.{Bytes, Fit, bytesHold, be, valAt, valuesAt, bytesOf}
 use Rattle.codec.proofs.BigEndian.{valAt-lt}
 use Rattle.codec.proofs.Round.{values-back, encode-decode}

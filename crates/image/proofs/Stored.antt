@@ -1,10 +1,10 @@
 -- An image's parts stored one after the other.
 -- Assumes nothing.
-use Prim.Native.Nat.{ℕ, _+_, _≤_}
-use mathlib.Core.Path.{_≡_, refl, ap, sym, _∙_}
-use mathlib.Core.List.{List, [], _++_, append-nil}
+use Prim.Native.Nat.{ℕ, _≤_}
+use mathlib.Core.Path.{_≡_, refl, sym, _∙_}
+use mathlib.Core.List.{List, append-nil}
 use native.Mathlib.Omega.{arith}
-use lib.ListN.{length, drop, length-append, drop-of-length-le}
+use lib.ListN.{length, length-append, drop-of-length-le}
 use lib.Seq.{sets}
 use Rattle.codec.specs.Table.{size}
 use Rattle.codec.specs.Codec.{bytesOf}

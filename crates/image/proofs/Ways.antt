@@ -2,7 +2,7 @@
 -- uncut run, and the image left is that of its state.
 -- Assumes nothing.
 use Prim.Native.Nat.{ℕ}
-use mathlib.Core.Path.{_≡_, refl, ap, sym, _∙_}
+use mathlib.Core.Path.{_≡_, refl, ap, _∙_}
 use mathlib.Core.List.{List, [], _∷_}
 use native.Mathlib.Omega.{arith}
 use lib.ListN.{take, drop, replicate}
@@ -14,7 +14,7 @@ use Rattle.book.specs.Way.{Part, way, Ended}
 use Rattle.promises.proofs.RuleThree.{rule-three}
 use Rattle.promises.proofs.StaysInRange.{new-in-range}
 use Rattle.image.specs.Image.{imageSize, imageOf, Possible}
-use Rattle.image.specs.Calls.{OutcomeOn, onImage, afterOn, wayOn}
+use Rattle.image.specs.Calls.{onImage, afterOn, wayOn}
 use Rattle.image.proofs.Images.{image-zero}
 use Rattle.image.proofs.Words.{call-possible}
 use Rattle.image.proofs.Calls.{call-is-feed}

@@ -7,7 +7,7 @@ use mathlib.Core.Logic.{⊎-elim}
 use native.Mathlib.Omega.{arith}
 use lib.ListN.{length, take, drop, length-drop}
 use lib.Dec.{eqb}
-use Rattle.base.specs.Signed.{wordOf, signedOf}
+use Rattle.base.specs.Signed.{signedOf}
 use Rattle.base.proofs.Signed.{signed-mag, word-plus}
 use Rattle.base.proofs.Tests.{lt-or-ge, of-choice}
 use Rattle.grams.specs.Units.{co2Word, plusCo2}
@@ -19,8 +19,8 @@ use Rattle.account.specs.Judge.{kindOf, valuesOf, refusals, first, Step, accept
 use Rattle.account.proofs.Sorts.{by-sort}
 use Rattle.book.specs.declared.State.{State}
 use Rattle.book.specs.Front.{Front, unfinished, badLength, whole, need, front}
-use Rattle.book.specs.State.{heldOf, InRange}
-use Rattle.book.specs.Run.{Run, outcome, book, run}
+use Rattle.book.specs.State.{heldOf}
+use Rattle.book.specs.Run.{outcome, book, run}
 use Rattle.book.specs.Call.{longest, fits, call}
 use Rattle.book.proofs.FrontLaws.{meaning}
 use Rattle.book.proofs.RunLaws.{book-ended, book-unfinished, book-bad, book-whole}

@@ -68,7 +68,8 @@ pub fn start(image: &mut [u8]) -> bool
 pub fn call(image: &mut [u8], part: &[u8], lines: &mut [u8]) -> Called
     ensures result { λ r. ⌜ r ≡ calledOf (callOn (now (image .entry)) (now (part .entry)) (length (now (lines .entry)))) ⌝ }
     ensures image { λ r. ⌜ now (image .exit) ≡ imageAfter (now (image .entry)) (now (part .entry)) (length (now (lines .entry))) ⌝ }
-    ensures lines { λ r. ⌜ now (lines .exit) ≡ laid (callOn (now (image .entry)) (now (part .entry)) (length (now (lines .entry)))) (now (lines .entry)) ⌝ }
+    ensures lines { λ r. ⌜ now (lines .exit) ≡ laid (callOn (now (image .entry)) (now (part .entry)) (length (now (lines .entry))))
+        (now (lines .entry)) ⌝ }
     ensures counts { λ r. ⌜ (r .taken ≤ length (now (part .entry))) × (r .written ≤ length (now (lines .entry))) ⌝ }
 {
     let size = image.len();

@@ -1,7 +1,7 @@
 -- Worked lines: the credit of a hectare in its first year, grazing, and a farm whose total is below zero.
-use Prim.Native.Nat.{ℕ, _-_, _^_}
+use Prim.Native.Nat.{_-_, _^_}
 use mathlib.Core.Path.{_≡_, refl}
-use mathlib.Core.List.{List, [], _∷_}
+use mathlib.Core.List.{[], _∷_}
 use Rattle.printing.specs.Ascii.{ascii}
 use Rattle.printing.specs.Decimal.{digitsBy, decimal, signed}
 use Rattle.listing.specs.Listing.{columnsText, lineText}

@@ -1,6 +1,6 @@
 -- Theorem: however a book is cut into parts and whatever room its lines have, what the calls print together is the listing of the whole book.
 -- Assumes nothing.
-use Prim.Native.Nat.{ℕ, zero, suc, _%_, _+_, _≤_, _<_}
+use Prim.Native.Nat.{ℕ, zero, suc, _%_, _+_, _<_}
 use native.Mathlib.Omega.{arith}
 use mathlib.Core.Path.{_≡_, refl, sym, ap, _∙_}
 use mathlib.Core.Bool.{Bool, true, false}
@@ -28,14 +28,14 @@ use Rattle.account.proofs.Told.{line-long, total-long}
 use Rattle.book.specs.declared.State.{State}
 use Rattle.book.specs.Front.{Front, unfinished, badLength, whole, need, front}
 use Rattle.book.specs.State.{InRange, inRange, noRecordYet}
-use Rattle.book.specs.Run.{Run, byFront, bookBy, book, run, Outcome, outcome}
+use Rattle.book.specs.Run.{Run, byFront, bookBy, book, run, Outcome}
 use Rattle.book.specs.Call.{Call, call}
 use Rattle.book.specs.Way.{Part, way, Ended}
 use Rattle.promises.proofs.Headings.{kind-in}
 use Rattle.promises.proofs.RuleThree.{rule-three}
 use Rattle.promises.proofs.StaysInRange.{new-in-range}
 use Rattle.listing.specs.Listing.{lineNumbers, lineText, linesText, endText, textOf, listingFrom, listingOf, printed}
-use Rattle.listing.proofs.Lines.{size-least, text-none, text-some, size-total, numbers-total, size-detail, numbers-detail}
+use Rattle.listing.proofs.Lines.{size-least, text-none, text-some, size-total, size-detail}
 
 -- ---- a line is as long as its kind says
 

@@ -2,7 +2,7 @@
 -- figures, and for kind 8 CO2e; then `closed`, `unfinished`, or `refused` with code, records, field, one space between."
 -- Document 02, W7: "CO2 figures, their sum and CO2e become signed, eight bytes in two's complement."
 -- Document 02, W10: "Lines and the state gain it as a sixth figure, .., before CO2e in the total".
-use Prim.Native.Nat.{ℕ, zero, suc, _/_, _≤_}
+use Prim.Native.Nat.{ℕ, zero, suc, _/_}
 use mathlib.Core.Path.{_≡_}
 use mathlib.Core.List.{List, [], _∷_, _++_}
 use mathlib.Core.Bool.{Bool, _&&_, _||_}

@@ -1,10 +1,10 @@
 -- Document 02, W1: "7 also for a value too big for its bytes". No range of the table goes past what its field's bytes can hold, so that a
 -- value too big for its bytes is out of its range, and 7 gives the position of the first value that is.
 -- Assumes nothing.
-use Prim.Native.Nat.{ℕ, zero, suc, _+_, _≤_, _<_}
-use mathlib.Core.Path.{_≡_, refl, sym, ap, _∙_}
+use Prim.Native.Nat.{ℕ, zero, suc, _≤_, _<_}
+use mathlib.Core.Path.{_≡_, refl, sym, ap}
 use mathlib.Core.List.{List, [], _∷_}
-use mathlib.Core.Bool.{Bool, true, false, _&&_}
+use mathlib.Core.Bool.{Bool, true, _&&_}
 use native.Mathlib.Omega.{arith}
 use native.Mathlib.Nat.{zero-add}
 use borrow.Author.Tests.{ltb-true, lt-leb, ne-eqb}
@@ -15,11 +15,10 @@ use Rattle.codec.specs.declared.Field.{Field}
 use Rattle.codec.specs.Table.{table, fields}
 use Rattle.codec.specs.Codec.{bytesHold, firstBad}
 use Rattle.codec.proofs.Within.{none, Good, too-high}
-use Rattle.account.specs.declared.Account.{Account}
 use Rattle.account.specs.Judge.{first, inPlace, weigh, refused}
 use Rattle.book.specs.declared.State.{State}
 use Rattle.make_record.specs.declared.Answer.the-variants.{Refused}
-use Rattle.make_record.specs.Write.{rowFor, next, write, Ready, OfKind}
+use Rattle.make_record.specs.Write.{rowFor, write, Ready, OfKind}
 use Rattle.make_record.proofs.Answers.{by-reader}
 
 -- ---- the table, field by field: antt computes the test

@@ -1,5 +1,5 @@
 -- Laws of the table's lines: the lines past the last, the digits of the decimals, and the kinds that the book has not.
-use Prim.Native.Nat.{ℕ, zero, suc, _+_, _-_, _<_, _≤_, min, zero-le}
+use Prim.Native.Nat.{ℕ, zero, suc, _+_, _-_, _<_, _≤_, min}
 use native.Mathlib.Omega.{arith}
 use native.Mathlib.Numerals.{add-one}
 use mathlib.Core.Path.{_≡_, refl, sym, subst}
@@ -12,7 +12,7 @@ use borrow.Author.Tests.{eqb-true, eqb-false}
 use Rattle.base.proofs.Tests.{by-test}
 use Rattle.bytes.specs.Bytes.{indexOf, indexAfter}
 use Rattle.typed_words.specs.Words.{nthPart}
-use Rattle.codec.specs.Table.{lastKind, table, fields}
+use Rattle.codec.specs.Table.{lastKind}
 use Rattle.printing.specs.Ascii.{ascii}
 use Rattle.names.specs.Names.{lineOf, noRow, kindName, namesFrom, decimalsTable, decimalsOf, decimalsAt}
 

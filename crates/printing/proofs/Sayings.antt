@@ -1,10 +1,10 @@
 -- Laws of `Said`: a text that fits, one that is cut off, and one text behind another.
-use Prim.Native.Nat.{ℕ, zero, suc, _+_, _-_, _≤_, _<_}
+use Prim.Native.Nat.{ℕ, zero, suc, _+_, _-_, _≤_}
 use native.Mathlib.Omega.{arith}
-use mathlib.Core.Path.{_≡_, refl, sym, ap, _∙_}
+use mathlib.Core.Path.{_≡_, refl, ap, _∙_}
 use mathlib.Core.List.{List, [], _∷_, _++_}
-use lib.ListN.{length, take, drop, length-append, length-take}
-use lib.Seq.{take-all, take-at, length-take-le, take-append-add, take-append-le}
+use lib.ListN.{length, take, drop, length-take}
+use lib.Seq.{take-all, take-at}
 use Rattle.printing.specs.Decimal.{Put}
 use Rattle.printing.specs.Said.{Said}
 use Rattle.printing.proofs.Puts.{none, put-length, and-then}

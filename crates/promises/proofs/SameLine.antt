@@ -34,7 +34,7 @@ use Rattle.promises.specs.Paper.{everyKind}
 use Rattle.promises.specs.WholeLines.{isDetail, lastHeading, headingFrom}
 use Rattle.promises.specs.SameLine.{lastHeadingFrom, headingBefore, Accepts, Gives, lineUnder, sharedHeading, sharedPig, everyKindBefore}
 use Rattle.promises.specs.SameLine.{otherBefore, otherBook, sharedLine}
-use Rattle.promises.proofs.WholeLines.{Next, next, shaped, bookRecords}
+use Rattle.promises.proofs.WholeLines.{next, shaped, bookRecords}
 
 -- ---- a record at the front of a book
 

@@ -4,17 +4,17 @@
 use Prim.Native.Nat.{ℕ, zero, suc, _+_, _-_, _≤_, _<_}
 use mathlib.Core.Path.{_≡_, refl, sym, ap, _∙_}
 use mathlib.Core.List.{List, [], _∷_, _++_, map, append-nil}
-use mathlib.Core.Bool.{Bool, true, false, _&&_}
+use mathlib.Core.Bool.{Bool, true, false}
 use mathlib.Core.Logic.{_⊎_, inl, inr, ⊎-elim}
 use native.Mathlib.Omega.{arith}
 use borrow.Author.Tests.{eqb-true, ne-eqb}
 use lib.ListN.{length, take, drop, length-drop}
-use lib.Dec.{leb, eqb}
+use lib.Dec.{eqb}
 use Rattle.base.specs.Choice.{pick}
 use Rattle.base.proofs.Tests.{lt-or-ge, no-bool, of-choice, true-or-false}
 use Rattle.codec.proofs.EachKind.{row-most}
 use Rattle.codec.specs.Table.{isRow}
-use Rattle.codec.specs.Codec.{valAt, lineBytes}
+use Rattle.codec.specs.Codec.{valAt}
 use Rattle.account.specs.declared.Account.{Account}
 use Rattle.grams.specs.declared.units.Co2.{Co2}
 use Rattle.account.specs.declared.Figures.{Figures}

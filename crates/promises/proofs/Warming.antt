@@ -1,22 +1,22 @@
 -- W11: the factors of a book are its farm record's; those of a set give what the set gives; the rules before refuse version 2.
 -- Assumes nothing.
-use Prim.Native.Nat.{ℕ, zero, suc, _+_, _≤_, _<_}
+use Prim.Native.Nat.{ℕ, zero, suc, _+_, _≤_}
 use mathlib.Core.Path.{_≡_, refl, sym, ap, _∙_}
-use mathlib.Core.List.{List, [], _∷_, _++_}
-use mathlib.Core.Bool.{Bool, true, false, not, _||_}
+use mathlib.Core.List.{List, [], _++_}
+use mathlib.Core.Bool.{Bool, true, false, _||_}
 use native.Mathlib.Omega.{arith}
-use borrow.Author.Tests.{eqb-true, eq-eqb, ne-eqb, le-leb}
+use borrow.Author.Tests.{eqb-true}
 use lib.ListN.{length, getD, take, drop}
 use lib.Dec.{eqb, ltb, leb}
 use Rattle.base.specs.Choice.{pick}
-use Rattle.base.proofs.Tests.{of-choice, not-false, no-bool, true-or-false}
+use Rattle.base.proofs.Tests.{of-choice, not-false}
 use Rattle.codec.specs.Table.{table, fields, size, lengthOf}
-use Rattle.codec.specs.Codec.{valAt, be, valuesAt, bytesOf, firstBad, recordBytes}
+use Rattle.codec.specs.Codec.{valAt, be, bytesOf, firstBad, recordBytes}
 use Rattle.codec.proofs.Round.{record-length, record-back}
 use Rattle.grams.specs.Farm.{setFactors}
 use Rattle.grams.specs.declared.farm.Factors.{Factors}
 use Rattle.account.specs.declared.Account.{Account}
-use Rattle.account.specs.Sorts.{isFarm, opens, heads, ofGroup, ofFarm, closes, Sort, sortOf, bySort}
+use Rattle.account.specs.Sorts.{isFarm, opens, heads, ofGroup, ofFarm, closes, sortOf}
 use Rattle.account.specs.Judge.{WholeRecord, versionOf, opened, refused, kindByte, kindOf, valuesOf, noRecord, refusals, first, inPlace, Step}
 use Rattle.account.specs.Judge.{accepted, weigh, judge}
 use Rattle.account.specs.Told.{Kind}

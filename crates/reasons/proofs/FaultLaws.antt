@@ -4,15 +4,14 @@ use Prim.Native.Nat.{ℕ, _+_, _≤_, _<_}
 use mathlib.Core.Path.{_≡_, refl, sym, ap, _∙_}
 use mathlib.Core.List.{List, [], _∷_}
 use mathlib.Core.Bool.{Bool, true, false, _&&_, _||_, not}
-use mathlib.Core.Logic.{_⊎_, inl, inr, ⊎-elim}
+use mathlib.Core.Logic.{_⊎_, inl, inr}
 use native.Mathlib.Omega.{arith}
 use borrow.Author.Tests.{leb-true, eqb-true, eqb-false, eq-eqb, ne-eqb}
 use lib.Dec.{ltb, leb, eqb}
 use lib.ListN.{length, getD}
 use Rattle.base.specs.Choice.{pick}
 use Rattle.base.proofs.Tests.{and-l, and-r, of-choice, no-bool, not-false, not-true}
-use Rattle.codec.specs.Table.{table, fields, lengthOf, linesMost, isRow}
-use Rattle.codec.specs.Codec.{firstBad}
+use Rattle.codec.specs.Table.{table, fields, linesMost, isRow}
 use Rattle.codec.proofs.Within.{Within, ranges, bad-position}
 use Rattle.account.specs.declared.Account.{Account}
 use Rattle.account.specs.declared.Judged.{Judged}

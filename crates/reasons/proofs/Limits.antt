@@ -2,8 +2,8 @@
 -- test.
 -- Assumes nothing.
 use Prim.Native.Nat.{ℕ, zero, suc, _-_, _≤_, _<_}
-use mathlib.Core.Path.{_≡_, refl, ap}
-use mathlib.Core.Bool.{Bool, true, false, _&&_}
+use mathlib.Core.Path.{_≡_, refl}
+use mathlib.Core.Bool.{Bool, true, _&&_}
 use mathlib.Core.List.{List, [], _∷_}
 use native.Mathlib.Omega.{arith}
 use borrow.Author.Tests.{eqb-true}
@@ -12,7 +12,6 @@ use lib.ListN.{getD}
 use lib.Dec.{eqb}
 use Rattle.base.proofs.Tests.{and-l, and-r, lt-or-ge}
 use Rattle.codec.specs.Table.{field, table, fields, lastRow}
-use Rattle.account.specs.Compared.{rangeOf}
 
 -- the lowest value of each field; 0 where there is no field
 unfoldable pub lowestValues : List (List ℕ)

@@ -1,11 +1,9 @@
 -- Lists of records, one longer.
 -- Assumes nothing.
-use Prim.Native.Nat.{ℕ, zero, suc, _+_}
+use Prim.Native.Nat.{ℕ, _+_}
 use mathlib.Core.Path.{_≡_, refl, ap, _∙_}
 use mathlib.Core.List.{List, [], _∷_, _++_, append-assoc, append-nil}
-use native.Mathlib.Omega.{arith}
-use native.Mathlib.Nat.{add-suc, add-zero}
-use lib.ListN.{length, take, drop, length-append}
+use lib.ListN.{take, drop}
 use lib.Seq.{drop-drop, take-add}
 use Rattle.account.specs.declared.Account.{Account}
 use Rattle.account.specs.Judge.{NotRefused, judge}

@@ -2,9 +2,9 @@
 -- are accepted. For an accepted book it says so. For an unfinished one it tells how many bytes are still missing from the last record, or that the
 -- next length isn't known yet."
 -- Assumes nothing.
-use Prim.Native.Nat.{ℕ, zero, suc, _+_, _-_, _≤_, _<_}
+use Prim.Native.Nat.{ℕ, _+_, _-_, _≤_, _<_}
 use mathlib.Core.Path.{_≡_, refl, sym, ap, _∙_}
-use mathlib.Core.List.{List, [], _∷_, _++_}
+use mathlib.Core.List.{List, _∷_, _++_}
 use mathlib.Core.Bool.{Bool, true, false, _||_}
 use mathlib.Core.Logic.{_⊎_, inl, inr, ⊎-elim}
 use native.Mathlib.Omega.{arith}
@@ -13,28 +13,26 @@ use lib.Dec.{ltb, eqb}
 use lib.ListN.{length, take, drop, length-append}
 use lib.Seq.{length-take-le}
 use Rattle.base.specs.Choice.{pick}
-use Rattle.base.proofs.Tests.{of-choice, or-cases, lt-or-ge}
+use Rattle.base.proofs.Tests.{of-choice, or-cases}
 use Rattle.codec.specs.Codec.{valAt}
 use Rattle.account.specs.declared.Account.{Account}
-use Rattle.account.specs.declared.Refusal.{Refusal}
 use Rattle.account.specs.Judge.{noRecord, RefusedBy, refused, judge}
-use Rattle.account.specs.Compared.{Compared, compared, ComparesWrongly}
+use Rattle.account.specs.Compared.{compared, ComparesWrongly}
 use Rattle.account.proofs.Keeps.{stage-most, in-range-judge, in-range-none}
 use Rattle.account.proofs.Compares.{compares-wrongly, length-beyond}
 use Rattle.book.specs.declared.State.{State}
-use Rattle.book.specs.Front.{Front, unfinished, badLength, whole, need, bad, front}
+use Rattle.book.specs.Front.{Front, unfinished, badLength, whole, need, front}
 use Rattle.book.specs.WholeRecords.{recordsOf}
-use Rattle.book.specs.State.{heldOf, InRange, noRecordYet}
+use Rattle.book.specs.State.{heldOf, noRecordYet}
 use Rattle.book.specs.Run.{run}
 use Rattle.book.proofs.FrontLaws.{meaning, is-whole, is-unfinished, length-append-two, length-take-two}
 use Rattle.book.proofs.RangeLaws.{range-idle}
 use Rattle.book.proofs.RunLeaves.{run-leaves}
 use Rattle.book.proofs.RecordLaws.{record-in, record-whole}
 use Rattle.reasons.specs.declared.Reason.{Reason}
-use Rattle.reasons.specs.declared.Verdict.{Verdict}
 use Rattle.reasons.specs.declared.Verdict.the-variants.{Accepted, Missing, NextLength, Refused}
 use Rattle.reasons.specs.Why.{reason, reasonOf, unfinishedBy, whyBy, whyOf}
-use Rattle.reasons.specs.Promised.{behind, AllAccepted, bytesTold, accountBefore, numbersTold, BrokenLength, BrokenRecord, Truth, begun}
+use Rattle.reasons.specs.Promised.{bytesTold, accountBefore, numbersTold, BrokenRecord, Truth, begun}
 use Rattle.reasons.specs.Promised.{MissingExact, Unfinished}
 use Rattle.reasons.specs.Inner.{unread, ended}
 use Rattle.reasons.proofs.FaultLaws.{faulty, refused-is}

@@ -2,25 +2,23 @@
 -- Assumes nothing.
 use Prim.Native.Nat.{ℕ, _+_, _-_, _≤_, _<_}
 use mathlib.Core.Path.{_≡_, refl, sym, ap, _∙_}
-use mathlib.Core.List.{List, [], _∷_}
-use mathlib.Core.Bool.{Bool, true, false, _||_}
+use mathlib.Core.List.{List}
+use mathlib.Core.Bool.{true, false, _||_}
 use mathlib.Core.Logic.{_⊎_, inl, inr, ⊎-elim}
 use native.Mathlib.Omega.{arith}
-use borrow.Author.Tests.{eqb-true, eqb-false, eq-eqb, ne-eqb, lt-ltb, le-ltb, ltb-false}
-use lib.Dec.{ltb, eqb}
+use borrow.Author.Tests.{eq-eqb, ne-eqb, lt-ltb, le-ltb, ltb-false}
+use lib.Dec.{ltb}
 use lib.ListN.{length, getD, take, List·getD-eq-default}
 use lib.Seq.{length-take-le}
-use Rattle.base.specs.Choice.{pick}
 use Rattle.base.proofs.Tests.{lt-or-ge, or-r}
 use Rattle.codec.specs.Table.{field, table, fields, lengthOf, lastKind}
 use Rattle.codec.specs.Codec.{valAt, valuesAt}
 use Rattle.codec.proofs.BigEndian.{one-byte}
-use Rattle.codec.proofs.Within.{Within, ranges}
+use Rattle.codec.proofs.Within.{ranges}
 use Rattle.account.specs.declared.Account.{Account}
-use Rattle.account.specs.declared.Days.{Days}
 use Rattle.account.specs.Judge.{versionOf, kindByte, kindOf, valuesOf}
-use Rattle.account.specs.Compared.{Compared, noNumbers, numbers, outside, badField, rangeOf, valueAt, daysWith, valuesCompared, compared}
-use Rattle.book.specs.Front.{Front, unfinished, badLength, whole, front, bad}
+use Rattle.account.specs.Compared.{noNumbers, numbers, outside, badField, rangeOf, valueAt, daysWith, valuesCompared, compared}
+use Rattle.book.specs.Front.{unfinished, badLength, whole, front, bad}
 use Rattle.book.proofs.FrontLaws.{length-take-two}
 use Rattle.reasons.specs.declared.Reason.{Reason}
 use Rattle.reasons.specs.declared.compared.Numbers.{Numbers}

@@ -2,36 +2,32 @@
 -- Assumes nothing.
 use Prim.Native.Nat.{ℕ, zero, suc, _+_, _-_, _≤_, _<_}
 use mathlib.Core.Path.{_≡_, refl, sym, ap, _∙_}
-use mathlib.Core.List.{List, [], _∷_, _++_, append-nil}
-use mathlib.Core.Bool.{Bool, true, false}
-use mathlib.Core.Logic.{_⊎_, inl, inr, ⊎-elim}
+use mathlib.Core.List.{List, [], _∷_, _++_}
+use mathlib.Core.Logic.{_⊎_, ⊎-elim}
 use native.Mathlib.Omega.{arith}
 use borrow.Author.Tests.{lt-ltb, le-ltb, eq-eqb, ne-eqb}
 use lib.ListN.{length, take, drop, length-drop, length-append, take-append-drop, drop-of-length-le}
 use lib.Seq.{length-take-le, drop-drop, take-add}
-use Rattle.base.specs.Choice.{pick}
 use Rattle.base.proofs.Tests.{lt-or-ge}
 use Rattle.account.specs.declared.Account.{Account}
 use Rattle.account.specs.declared.Refusal.{Refusal}
 use Rattle.account.specs.Range.{AccountInRange}
-use Rattle.account.specs.Judge.{WholeRecord, noRecord, NotRefused, refused, judge}
+use Rattle.account.specs.Judge.{noRecord, judge}
 use Rattle.account.specs.Line.{joined}
 use Rattle.account.proofs.Keeps.{in-range-none, in-range-judge, stage-most}
-use Rattle.book.specs.declared.State.{State}
 use Rattle.book.specs.Front.{Front, unfinished, badLength, whole, need, front}
 use Rattle.book.specs.WholeRecords.{recordsOf}
-use Rattle.book.specs.State.{heldOf, holding, noRecordYet}
+use Rattle.book.specs.State.{holding, noRecordYet}
 use Rattle.book.specs.Run.{book, run}
 use Rattle.book.proofs.FrontLaws.{meaning, front-none}
 use Rattle.book.proofs.WholeRecordLaws.{records-whole}
 use Rattle.book.proofs.RangeLaws.{held-holding, range-idle}
 use Rattle.book.proofs.RunLaws.{book-ended, book-unfinished, book-bad, book-whole, run-none, run-append}
 use Rattle.book.proofs.RecordLaws.{record-in, record-whole, book-one}
-use Rattle.reasons.specs.declared.Verdict.{Verdict}
-use Rattle.reasons.specs.declared.Verdict.the-variants.{Accepted, Missing, NextLength, Refused}
-use Rattle.reasons.specs.Why.{reason, reasonOf, firstByte, toldBytes, unfinishedBy, whyBy, whyOf}
+use Rattle.reasons.specs.declared.Verdict.the-variants.{NextLength, Refused}
+use Rattle.reasons.specs.Why.{reason, reasonOf, firstByte, whyBy, whyOf}
 use Rattle.reasons.specs.Promised.{behind, AllAccepted}
-use Rattle.reasons.specs.Inner.{Faulty, unread, ended}
+use Rattle.reasons.specs.Inner.{unread, ended}
 use Rattle.reasons.proofs.FaultLaws.{passes, counted, refused-is, faulty}
 use Rattle.reasons.proofs.RecordLists.{one-more, one-less, joined-one, behind-one, accepted-one}
 

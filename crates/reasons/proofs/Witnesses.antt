@@ -3,7 +3,7 @@
 use Prim.Native.Nat.{ℕ, _+_}
 use mathlib.Core.Path.{_≡_, refl}
 use mathlib.Core.List.{List, [], _∷_, _++_}
-use mathlib.Core.Bool.{Bool, true, false}
+use mathlib.Core.Bool.{true, false}
 use Rattle.codec.specs.Table.{table, size}
 use Rattle.codec.specs.Codec.{valAt, valuesAt, firstBad}
 use Rattle.grams.specs.Cattle.{belowZero}

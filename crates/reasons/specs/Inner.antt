@@ -1,6 +1,6 @@
 -- The contracts of the inner functions, in parts. A reader of the promises can pass this file over: no public contract cites it.
 -- Assumes nothing.
-use Prim.Native.Nat.{ℕ, _+_, _≤_, _<_}
+use Prim.Native.Nat.{ℕ, _+_, _≤_}
 use mathlib.Core.Path.{_≡_}
 use mathlib.Core.List.{List}
 use mathlib.Core.Logic.{_⊎_}
@@ -9,12 +9,11 @@ use lib.Dec.{eqb}
 use Rattle.base.specs.Choice.{pick}
 use Rattle.codec.specs.Table.{lastRow, lengthOf}
 use Rattle.account.specs.declared.Account.{Account}
-use Rattle.account.specs.declared.Days.{Days}
 use Rattle.account.specs.Judge.{WholeRecord, versionOf, kindByte, kindOf, valuesOf, RefusedBy}
 use Rattle.account.specs.Compared.{Compared, numbers, outside, badField, sharesOf, partsOf, grazedWith}
 use Rattle.book.specs.Front.{Front, unfinished, badLength, whole}
 use Rattle.reasons.specs.declared.Verdict.{Verdict}
-use Rattle.reasons.specs.declared.Verdict.the-variants.{Accepted, Missing, NextLength, Refused}
+use Rattle.reasons.specs.declared.Verdict.the-variants.{Accepted, NextLength, Refused}
 use Rattle.reasons.specs.declared.compared.Numbers.{Numbers}
 use Rattle.reasons.specs.Why.{reason, unfinishedBy}
 

@@ -11,7 +11,7 @@ use Rattle.account.specs.declared.Account.{Account}
 use Rattle.account.specs.Judge.{noRecord, NotRefused, RefusedBy, refused, judge}
 use Rattle.account.specs.Line.{joined}
 use Rattle.account.specs.Compared.{Compared, BeyondEnd, ComparesWrongly}
-use Rattle.book.specs.Front.{Front, unfinished, whole, front}
+use Rattle.book.specs.Front.{unfinished, whole, front}
 use Rattle.book.specs.WholeRecords.{recordsOf}
 use Rattle.book.specs.State.{heldOf, noRecordYet}
 use Rattle.book.specs.Run.{run}

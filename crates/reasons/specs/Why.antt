@@ -10,7 +10,7 @@ use Rattle.account.specs.declared.Account.{Account}
 use Rattle.account.specs.declared.Refusal.{Refusal}
 use Rattle.account.specs.Judge.{kindByte, kindOf}
 use Rattle.account.specs.Line.{joined}
-use Rattle.account.specs.Compared.{Compared, compared}
+use Rattle.account.specs.Compared.{compared}
 use Rattle.book.specs.declared.State.{State}
 use Rattle.book.specs.Front.{need}
 use Rattle.book.specs.WholeRecords.{recordsOf}

@@ -6,10 +6,10 @@ use native.Mathlib.Nat.{zero-add, add-zero}
 use mathlib.Core.Path.{_≡_, refl, sym, ap, _∙_}
 use mathlib.Core.Bool.{Bool, true, false, _&&_, not}
 use mathlib.Core.List.{List, [], _∷_, _++_, append-nil, append-assoc}
-use lib.ListN.{length, take, drop, getD, replicate, length-drop}
+use lib.ListN.{length, take, drop, replicate, length-drop}
 use lib.Seq.{drop-drop, take-all, take-at}
-use lib.Dec.{eqb, leb, ltb}
-use borrow.Author.Tests.{eq-eqb, ne-eqb, eqb-true, eqb-false, ltb-true, leb-true, lt-ltb, le-ltb, not-true, not-false}
+use lib.Dec.{eqb, ltb}
+use borrow.Author.Tests.{eq-eqb, ne-eqb, eqb-true, eqb-false, ltb-true, lt-ltb, le-ltb, not-true, not-false}
 use Rattle.base.proofs.Tests.{and-l, and-r}
 use Rattle.printing.specs.Decimal.{decimal, spaced, joined, numbersLine, Put}
 use Rattle.printing.specs.Said.{Said}
@@ -19,7 +19,6 @@ use Rattle.names.specs.Names.{kindName, sentence}
 use Rattle.codec.specs.Table.{table, fields, lengthOf, linesMost, isRow}
 use Rattle.codec.specs.Codec.{valAt, valuesAt}
 use Rattle.codec.proofs.Values.{values-length}
-use Rattle.codec.proofs.BigEndian.{one-byte}
 use Rattle.account.specs.declared.Account.{Account}
 use Rattle.account.specs.Judge.{versionOf, kindByte, WholeRecord, kindOf, valuesOf, judge}
 use Rattle.codec.proofs.EachKind.{row-least, row-most, row-of-kind}

@@ -3,9 +3,8 @@
 use Prim.Native.Nat.{ℕ, _+_}
 use mathlib.Core.Path.{_≡_}
 use mathlib.Core.List.{List}
-use mathlib.Core.Bool.{true, _&&_}
+use mathlib.Core.Bool.{true}
 use lib.ListN.{length}
-use lib.Dec.{leb}
 use Rattle.codec.specs.Table.{lengthOf, isKind}
 use Rattle.account.specs.Judge.{WholeRecord, versionOf, kindOf}
 

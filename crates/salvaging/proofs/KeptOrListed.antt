@@ -3,7 +3,7 @@
 use Prim.Native.Nat.{ℕ, suc, _+_, _≤_}
 use mathlib.Core.Path.{_≡_, refl, sym}
 use mathlib.Core.List.{List, [], _∷_}
-use mathlib.Core.Bool.{Bool, true, false, _&&_, _||_, not}
+use mathlib.Core.Bool.{Bool, true, false, _&&_, _||_}
 use mathlib.Core.Logic.{_⊎_, inl, inr}
 use native.Mathlib.Omega.{arith}
 use borrow.Author.Tests.{eq-eqb, ne-eqb}
@@ -14,7 +14,7 @@ use Rattle.base.proofs.Tests.{and-l, and-r, or-left}
 use Rattle.account.specs.Judge.{kindByte, noRecord, first}
 use Rattle.book.specs.WholeRecords.{recordsOf}
 use Rattle.salvaging.specs.declared.Reading.{Reading}
-use Rattle.salvaging.specs.Salvage.{wouldGet, oneOf, ofGroupKind, droppedBy, ends, after, start, Entry, Found, nothing, found, foundIn}
+use Rattle.salvaging.specs.Salvage.{wouldGet, oneOf, ofGroupKind, droppedBy, ends, after, start, Entry, Found, found, foundIn}
 use Rattle.salvaging.specs.Promised.{readBy, unlisted, Reason, Reasons}
 use Rattle.salvaging.proofs.FateLaws.{kept-account, dropped-account}
 use Rattle.salvaging.proofs.TurnLaws.{by-records}
@@ -29,11 +29,6 @@ From n (e ∷ es) = n ≤ e .number
 pub from-less : (n : ℕ) (es : List Entry) → From (n + 1) es → From n es
 from-less n [] h = tt
 from-less n (e ∷ es) h = omega arith
-
-pub numbers-from : (s : Reading) (rs : List (List ℕ)) → From (s .number) (found s rs .dropped)
-numbers-from =
-    by-records (λ s rs f. From (s .number) (f .dropped)) (λ s rs. tt) (λ s r rs f e d ih. from-less (s .number) (f .dropped) ih)
-    (λ s r rs f e n ih. omega arith)
 
 -- what is not listed is passed over, what is listed is left out
 module _ {A : Type 0} (x : A) (xs : List A) (n : ℕ) where

@@ -25,7 +25,7 @@ use Rattle.book.specs.WholeRecords.{beginsWith, recordsBy, recordsOf}
 use Rattle.salvaging.specs.declared.Reading.{Reading}
 use Rattle.salvaging.specs.declared.Lengths.{Lengths}
 use Rattle.salvaging.specs.declared.Salvaged.the-variants.{Saved}
-use Rattle.salvaging.specs.Salvage.{Found, nothing, with, droppedBy, ends, after, start, found, bookOf, listOf, farmAmong, refusing, saving}
+use Rattle.salvaging.specs.Salvage.{Found, nothing, droppedBy, ends, after, start, found, bookOf, listOf, farmAmong, refusing, saving}
 use Rattle.salvaging.specs.Salvage.{answering, salvageOf}
 use Rattle.salvaging.specs.Inner.{Open, bookFrom}
 use Rattle.salvaging.proofs.FateLaws.{few, kept-account, dropped-account, kept-records, open-after}

@@ -2,16 +2,15 @@
 -- Assumes nothing.
 use Prim.Native.Nat.{ℕ, zero, suc, _+_, _-_, _*_, _/_, _^_, _≤_, _<_, min}
 use mathlib.Core.Path.{_≡_, refl, sym, ap, subst, _∙_}
-use mathlib.Core.List.{List, [], _∷_, _++_, append-assoc, append-nil}
+use mathlib.Core.List.{List, [], _∷_, _++_, append-assoc}
 use mathlib.Core.Bool.{Bool, true, false, _&&_}
 use mathlib.Core.Logic.{⊎-elim}
 use native.Mathlib.Omega.{arith}
-use borrow.Author.Tests.{eqb-true, eqb-false, ltb-false, le-ltb, leb-true}
+use borrow.Author.Tests.{eqb-true, eqb-false, ltb-false, le-ltb}
 use lib.Dec.{T, ltb, leb, eqb, leb→le}
 use lib.ListN.{length, drop, length-append, length-drop}
 use lib.Ieee.Fits.{and-l as and-left, and-r as and-right}
 use lib.Seq.{drop-append-seam, getD-drop}
-use Rattle.base.specs.Choice.{pick}
 use Rattle.base.proofs.Tests.{of-choice, true-or-false}
 use Rattle.bytes.specs.Bytes.{indexOf, indexAfter}
 use Rattle.typed_words.specs.Words.{nthPart}
@@ -23,7 +22,7 @@ use Rattle.codec.specs.Table.{table, size}
 use Rattle.codec.specs.Codec.{bytesHold, valAt, be, bytesOf, recordBytes, Bytes}
 use Rattle.codec.proofs.BigEndian.{valAt-lt, valAt-be, be-length}
 use Rattle.account.specs.declared.Account.{Account}
-use Rattle.account.specs.Judge.{kindByte, first, refusals}
+use Rattle.account.specs.Judge.{kindByte, first}
 use Rattle.account.specs.Line.{joined}
 use Rattle.account.proofs.Refusals.{number-most}
 use Rattle.book.specs.Front.{Front, unfinished, badLength, whole, need, front}
@@ -31,14 +30,12 @@ use Rattle.book.specs.WholeRecords.{beginsWith, recordsBy, recordsOf}
 use Rattle.book.proofs.FrontLaws.{meaning}
 use Rattle.salvaging.specs.declared.Reading.{Reading}
 use Rattle.salvaging.specs.declared.Lengths.{Lengths}
-use Rattle.salvaging.specs.declared.Salvaged.{Salvaged}
 use Rattle.salvaging.specs.declared.Salvaged.the-variants.{Saved}
-use Rattle.salvaging.specs.Salvage.{oneOf, ofGroupKind, wouldGet, drops, droppedBy, ends, after, start, Entry, Found, found, foundIn, bookOf}
-use Rattle.salvaging.specs.Salvage.{entryBytes, listOf, saving, salvageOf}
+use Rattle.salvaging.specs.Salvage.{oneOf, ofGroupKind, wouldGet, drops, droppedBy, start, Entry, found, foundIn}
+use Rattle.salvaging.specs.Salvage.{entryBytes, listOf, salvageOf}
 use Rattle.salvaging.specs.Remarks.{droppedText, listTextBy, listText, entriesText, keptIn, savedText, endText}
 use Rattle.salvaging.proofs.FateLaws.{few, kept-records, dropped-account}
 use Rattle.salvaging.proofs.TurnLaws.{by-records}
-use Rattle.salvaging.proofs.PassLaws.{book-long}
 use Rattle.salvaging.proofs.AnswerLaws.{list-long}
 use Rattle.salvaging.proofs.SalvagedAccepted.{saved-so}
 use Rattle.salvaging.proofs.RemarkLaws.{text-none, text-some}

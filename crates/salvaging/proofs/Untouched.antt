@@ -29,7 +29,7 @@ use Rattle.book.proofs.RecordLaws.{record-whole}
 use Rattle.book.specs.WholeRecords.{recordsOf}
 use Rattle.book.proofs.WholeRecordLaws.{records-whole}
 use Rattle.salvaging.specs.declared.Reading.{Reading}
-use Rattle.salvaging.specs.Salvage.{Found, nothing, with, wouldGet, droppedBy, ends, after, start, found, bookOf, listOf, farmAmong, saving}
+use Rattle.salvaging.specs.Salvage.{Found, nothing, with, wouldGet, droppedBy, ends, after, start, bookOf, listOf, farmAmong, saving}
 use Rattle.salvaging.specs.Salvage.{answering, salvageOf, foundIn}
 use Rattle.salvaging.specs.Inner.{Open, bookFrom}
 use Rattle.salvaging.proofs.KindLaws.{row-eight, eight-row}

@@ -8,7 +8,7 @@ use lib.ListN.{length, take, drop}
 use lib.Seq.{take-append-seam}
 use Rattle.book.specs.declared.State.{State}
 use Rattle.book.specs.declared.Fed.{Fed}
-use Rattle.book.specs.Call.{Call, call, fedOf, laid}
+use Rattle.book.specs.Call.{call, fedOf, laid}
 use Rattle.sheets.specs.declared.Answer.{Answer}
 use Rattle.sheets.specs.declared.Answer.the-variants.{Written, Refused}
 use Rattle.sheets.specs.Sheets.{Made, rowsOf, exportOf, answer, buffer}

@@ -1,21 +1,20 @@
 -- A column's number as text and read off it, with what stands behind it.
-use Prim.Native.Nat.{ℕ, suc, _+_, _-_, _*_, _<_, _≤_}
+use Prim.Native.Nat.{ℕ, suc, _+_, _-_, _<_, _≤_}
 use native.Mathlib.Omega.{arith}
-use mathlib.Core.Bool.{Bool, true, false, _&&_}
+use mathlib.Core.Bool.{Bool, true, false}
 use mathlib.Core.Path.{_≡_, refl, sym, ap, _∙_}
 use mathlib.Core.List.{List, [], _∷_, _++_, append-assoc}
-use lib.ListN.{length, getD, drop}
+use lib.ListN.{length, drop}
 use lib.Seq.{drop-append-seam}
-use lib.Dec.{leb, ltb, eqb}
-use borrow.Author.Tests.{ltb-true, ltb-false, leb-true, eqb-true, lt-ltb, le-ltb, le-leb, eq-eqb, ne-eqb}
-use Rattle.base.specs.Choice.{pick}
+use lib.Dec.{ltb, eqb}
+use borrow.Author.Tests.{ltb-true, ltb-false, leb-true, eqb-true, le-leb, eq-eqb, ne-eqb}
 use Rattle.codec.specs.Codec.{bytesHold}
 use Rattle.printing.specs.Decimal.{decimal}
 use Rattle.printing.proofs.Digits.{signed-small, signed-below}
 use Rattle.sheets.specs.declared.rows.Column.{Column}
-use Rattle.sheets.specs.Numbers.{half, full, signedText, first, Number, found, positive, unsigned, Cell, inField, unsignedCell}
-use Rattle.sheets.specs.Numbers.{signedCell, emptyCell}
-use Rattle.sheets.specs.Rows.{ending, cellText, startsWith, readCell, ended, readColumn}
+use Rattle.sheets.specs.Numbers.{half, full, signedText, first, Number, positive, unsigned, Cell, unsignedCell}
+use Rattle.sheets.specs.Numbers.{signedCell}
+use Rattle.sheets.specs.Rows.{ending, cellText, startsWith, readCell, readColumn}
 use Rattle.base.proofs.Tests.{of-choice, by-test, no-bool, and-l, and-r}
 use Rattle.sheets.proofs.Numerals.{front, positive-above, positive-text, positive-back, unsigned-first, unsigned-text, unsigned-back}
 

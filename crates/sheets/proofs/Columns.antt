@@ -1,19 +1,19 @@
 -- A row of columns, both as text and as bytes: what is read is what would be written, and what is written is read.
 use Prim.Native.Nat.{ℕ, suc, _+_, _<_, _≤_}
 use native.Mathlib.Omega.{arith}
-use mathlib.Core.Bool.{Bool, true, false, _&&_}
-use mathlib.Core.Path.{_≡_, refl, sym, ap, _∙_}
+use mathlib.Core.Bool.{true}
+use mathlib.Core.Path.{_≡_, refl, ap, _∙_}
 use mathlib.Core.List.{List, [], _∷_, _++_, append-assoc}
 use lib.ListN.{length, getD, take, drop, length-append, length-drop}
 use lib.Seq.{take-add, drop-at, getD-drop}
-use Rattle.codec.specs.Codec.{bytesHold, valAt, be}
+use Rattle.codec.specs.Codec.{bytesHold, be}
 use Rattle.codec.specs.Codec.{Bytes}
 use Rattle.codec.proofs.BigEndian.{valAt-lt, be-length, valAt-be, be-valAt}
 use Rattle.sheets.specs.declared.rows.Column.{Column}
 use Rattle.sheets.specs.Numbers.{Cell}
 use Rattle.sheets.specs.Rows.{bytes, values, ending, cellText, rowText, readColumn, Row, andThen, readRow}
 use Rattle.base.proofs.Tests.{and-l, and-r}
-use Rattle.sheets.proofs.Cells.{Reads, right, Sound, column-reads, column-back}
+use Rattle.sheets.proofs.Cells.{right, Sound, column-reads, column-back}
 
 abbrev pub Sounds : List Column → Type 0
 Sounds [] = Unit

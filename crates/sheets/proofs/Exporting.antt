@@ -2,12 +2,11 @@
 use Prim.Native.Nat.{ℕ, suc, _+_, _<_, _≤_}
 use native.Mathlib.Omega.{arith}
 use native.Mathlib.Nat.{zero-add}
-use mathlib.Core.Bool.{Bool, true, false}
-use mathlib.Core.Path.{_≡_, refl, sym, ap, _∙_}
-use mathlib.Core.List.{List, [], _∷_, _++_}
+use mathlib.Core.Bool.{true, false}
+use mathlib.Core.Path.{_≡_, refl, ap, _∙_}
+use mathlib.Core.List.{List, _++_}
 use lib.ListN.{length, drop, length-append, length-drop}
 use lib.Seq.{drop-drop}
-use Rattle.base.specs.Choice.{pick}
 use Rattle.base.proofs.Tests.{of-choice}
 use Rattle.printing.specs.Decimal.{Put}
 use Rattle.printing.proofs.Puts.{and-then}
@@ -15,12 +14,12 @@ use Rattle.sheets.specs.declared.Answer.{Answer}
 use Rattle.sheets.specs.declared.Answer.the-variants.{Refused}
 use Rattle.sheets.specs.declared.lines.Total.{Total}
 use Rattle.sheets.specs.Rows.{columns, lengthOf, values, kindAt, isLine, rowText, lineRow}
-use Rattle.sheets.specs.Sheets.{Item, item, wrong, Made, made, refused, before, eachBy, each, lineItem, header, noRow, rowsOf, exportOf, answer}
+use Rattle.sheets.specs.Sheets.{Item, item, wrong, Made, made, refused, before, each, lineItem, header, noRow, rowsOf, exportOf, answer}
 use Rattle.sheets.specs.Code.{totalOf, answerAfter, madeOf}
 use Rattle.sheets.proofs.Runs.{not-made}
-use Rattle.sheets.proofs.RoundTrip.{other, Line, is-line}
+use Rattle.sheets.proofs.RoundTrip.{other, is-line}
 use Rattle.sheets.proofs.Fields.{length-least}
-use Rattle.sheets.proofs.Plans.{sized, Planned, plan-wrong, plan-more, plan-over, plan-written, Promised}
+use Rattle.sheets.proofs.Plans.{sized, Planned, plan-wrong, plan-more, Promised}
 use Rattle.sheets.proofs.Writing.{Run, writes-all}
 
 -- ---- one line

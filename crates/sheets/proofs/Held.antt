@@ -1,23 +1,20 @@
 -- Numbers as the code holds them: in 64 bits or too big, read from an index on.
-use Prim.Native.Nat.{ℕ, suc, _+_, _-_, _*_, _<_, _≤_}
+use Prim.Native.Nat.{ℕ, _+_, _-_, _*_, _<_, _≤_}
 use native.Mathlib.Omega.{arith}
 use native.Mathlib.Numerals.{add-one}
 use native.Mathlib.Nat.{add-zero}
 use mathlib.Core.Bool.{Bool, true, false, not, _&&_}
 use mathlib.Core.Path.{_≡_, refl, sym, ap, _∙_}
-use mathlib.Core.List.{List, [], _∷_}
+use mathlib.Core.List.{List}
 use lib.ListN.{length, getD, drop, drop-of-length-le, List·getD-eq-default}
 use lib.Seq.{drop-cons, drop-drop, getD-drop}
-use lib.Dec.{leb, eqb}
+use lib.Dec.{leb}
 use borrow.Author.Tests.{leb-true, leb-false, le-leb, lt-leb, eq-eqb, ne-eqb, not-true, not-false}
-use Rattle.base.specs.Choice.{pick}
 use Rattle.sheets.specs.declared.numbers.Amount.{Amount}
 use Rattle.sheets.specs.declared.numbers.Run.{Run}
-use Rattle.sheets.specs.declared.numbers.Read.{Read}
-use Rattle.sheets.specs.Numbers.{full, first, Number, found, none, digits, positive, unsigned, unsignedCell, signedCell, Cell, inField}
+use Rattle.sheets.specs.Numbers.{full, first, Number, found, none, digits, positive, unsigned, unsignedCell, signedCell, inField}
 use Rattle.sheets.specs.Code.{held, IsRun, IsRead}
-use Rattle.base.proofs.Tests.{by-test, no-bool, and-l, and-r}
-use Rattle.sheets.proofs.Numerals.{positive-above}
+use Rattle.base.proofs.Tests.{by-test, and-l, and-r}
 
 -- ---- an amount
 

@@ -1,19 +1,18 @@
 -- A row as an item, by what the code read of it.
-use Prim.Native.Nat.{ℕ, _+_, _<_, _≤_}
+use Prim.Native.Nat.{ℕ, _+_, _<_}
 use native.Mathlib.Omega.{arith}
 use mathlib.Core.Bool.{Bool, true, false, not, _&&_}
 use mathlib.Core.Path.{_≡_, refl, sym, ap, _∙_}
-use mathlib.Core.List.{List, [], _∷_, _++_}
+use mathlib.Core.List.{List, _∷_}
 use lib.ListN.{length, drop, length-append}
 use borrow.Author.Tests.{not-true, not-false}
-use Rattle.base.specs.Choice.{pick}
 use Rattle.codec.specs.Codec.{be}
 use Rattle.codec.proofs.BigEndian.{be-length}
 use Rattle.sheets.specs.declared.rows.RowRead.{RowRead}
-use Rattle.sheets.specs.Rows.{columns, isKind, lengthOf, bytes, lineOf, rowText, Row, readRow, kindIn}
-use Rattle.sheets.specs.Sheets.{Item, item, wrong, rowAs, rowItem}
+use Rattle.sheets.specs.Rows.{columns, isKind, lengthOf, bytes, lineOf, rowText, readRow, kindIn}
+use Rattle.sheets.specs.Sheets.{item, wrong, rowItem}
 use Rattle.sheets.specs.Code.{IsRow}
-use Rattle.base.proofs.Tests.{by-test, no-bool, and-l, and-r}
+use Rattle.base.proofs.Tests.{by-test, and-l}
 use Rattle.sheets.proofs.Columns.{bytes-length, row-reads}
 use Rattle.sheets.proofs.RoundTrip.{sounds, columns-widths, row-some, other}
 

@@ -1,13 +1,12 @@
 -- Numbers as text and read off it: what is read is what would be written, and what is written is read.
 use Prim.Native.Nat.{ℕ, zero, suc, _+_, _-_, _*_, _/_, _%_, _<_, _≤_}
 use native.Mathlib.Omega.{arith}
-use mathlib.Core.Bool.{Bool, true, false, _&&_}
+use mathlib.Core.Bool.{true, _&&_}
 use mathlib.Core.Path.{_≡_, refl, sym, ap, _∙_}
 use mathlib.Core.List.{List, [], _∷_, _++_, append-assoc}
 use lib.ListN.{drop}
 use lib.Dec.{leb, ltb, eqb}
-use borrow.Author.Tests.{ltb-true, ltb-false, leb-true, eqb-true, lt-ltb, le-ltb, le-leb, lt-leb, eq-eqb, ne-eqb}
-use Rattle.base.specs.Choice.{pick}
+use borrow.Author.Tests.{ltb-true, ltb-false, leb-true, eqb-true, le-leb, lt-leb, ne-eqb}
 use Rattle.printing.specs.Decimal.{digit, decimal}
 use Rattle.printing.proofs.Digits.{decimal-small, decimal-more}
 use Rattle.sheets.specs.Numbers.{first, Number, found, digits, positive, unsigned}

@@ -2,16 +2,15 @@
 use Prim.Native.Nat.{ℕ, zero, suc, _+_, _-_, _<_, _≤_}
 use native.Mathlib.Omega.{arith}
 use native.Mathlib.Numerals.{add-one}
-use native.Mathlib.Nat.{zero-add, add-assoc}
-use mathlib.Core.Bool.{Bool, true, false}
+use native.Mathlib.Nat.{zero-add}
+use mathlib.Core.Bool.{true, false}
 use mathlib.Core.Path.{_≡_, refl, sym, ap, _∙_}
-use mathlib.Core.List.{List, [], _∷_, _++_, append-nil}
-use lib.ListN.{length, take, drop, length-append}
+use mathlib.Core.List.{List, [], _++_}
+use lib.ListN.{length, drop, length-append}
 use lib.Dec.{leb, ltb}
 use borrow.Author.Tests.{leb-true, ltb-true, ltb-false, lt-ltb, le-ltb, le-leb, lt-leb}
 use Rattle.base.specs.Choice.{pick}
 use Rattle.printing.specs.Decimal.{Put}
-use Rattle.printing.proofs.Puts.{and-then, put-length}
 use Rattle.sheets.specs.declared.Answer.{Answer}
 use Rattle.sheets.specs.declared.Answer.the-variants.{Written, Refused}
 use Rattle.sheets.specs.declared.lines.Total.{Total}
@@ -20,7 +19,7 @@ use Rattle.sheets.specs.Sheets.{Item, item, wrong, Made, made, refused, 
 use Rattle.sheets.specs.Code.{totalOf, madeOf}
 use Rattle.base.proofs.Tests.{of-choice, by-test}
 use Rattle.sheets.proofs.Cells.{starts-text}
-use Rattle.sheets.proofs.Runs.{not-made, Goes, goes, each-some}
+use Rattle.sheets.proofs.Runs.{each-some}
 
 -- ---- a total
 

@@ -5,11 +5,10 @@ use native.Mathlib.Numerals.{add-one}
 use mathlib.Core.Bool.{Bool, true, false, _&&_}
 use mathlib.Core.Path.{_≡_, refl, sym, ap, _∙_}
 use mathlib.Core.List.{List, [], _∷_, _++_, append-assoc, append-nil}
-use lib.ListN.{length, getD, take, drop, set, drop-of-length-le, length-drop, length-set}
+use lib.ListN.{length, getD, take, drop, set, drop-of-length-le, length-set}
 use lib.Seq.{drop-cons, drop-drop, take-suc-set, take-all}
-use lib.Dec.{leb, eqb}
+use lib.Dec.{eqb}
 use borrow.Author.Tests.{eq-eqb, ne-eqb}
-use Rattle.base.specs.Choice.{pick}
 use Rattle.sheets.specs.declared.numbers.Read.{Read}
 use Rattle.sheets.specs.declared.rows.Column.{Column}
 use Rattle.sheets.specs.Numbers.{Cell}

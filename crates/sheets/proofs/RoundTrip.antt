@@ -5,21 +5,20 @@ use mathlib.Core.Bool.{Bool, true, false, _&&_}
 use mathlib.Core.Path.{_≡_, refl, sym, ap, _∙_}
 use mathlib.Core.List.{List, [], _∷_, _++_, append-assoc}
 use lib.ListN.{length, getD, take, drop, length-append, length-drop, take-append-drop}
-use lib.Seq.{take-add, drop-cons, drop-at, drop-append-seam, getD-drop, length-take-le}
+use lib.Seq.{take-add, drop-cons, drop-at, drop-append-seam, getD-drop}
 use lib.Dec.{leb, eqb}
 use borrow.Author.Tests.{leb-true, eqb-true, le-leb, eq-eqb}
-use Rattle.base.specs.Choice.{pick}
 use Rattle.codec.specs.Codec.{bytesHold, valAt, be}
 use Rattle.codec.specs.Codec.{Bytes}
 use Rattle.codec.proofs.BigEndian.{be-length, valAt-be, be-valAt, one-byte}
 use Rattle.printing.specs.Decimal.{decimal}
-use Rattle.sheets.specs.Numbers.{Cell, unsignedCell}
-use Rattle.sheets.specs.Rows.{column, signedFigure, columns, isKind, lengthOf, bytes, values, lineOf, kindAt, isLine, lineRow, ending, cellText}
-use Rattle.sheets.specs.Rows.{rowText, startsWith, readCell, Row, readRow, kindIn}
+use Rattle.sheets.specs.Numbers.{Cell}
+use Rattle.sheets.specs.Rows.{column, signedFigure, columns, isKind, lengthOf, bytes, values, lineOf, kindAt, isLine, lineRow, cellText}
+use Rattle.sheets.specs.Rows.{rowText, startsWith, readCell, readRow, kindIn}
 use Rattle.sheets.specs.Sheets.{Item, item, wrong, Made, made, refused, before, each, lineItem, header, noRow, rowsOf, exportOf, rowAs, rowItem}
 use Rattle.sheets.specs.Sheets.{importOf}
 use Rattle.base.proofs.Tests.{of-choice, by-test, no-bool, and-l, and-r}
-use Rattle.sheets.proofs.Cells.{Sound, right, unsigned-cell, starts-text, starts-back}
+use Rattle.sheets.proofs.Cells.{Sound, unsigned-cell, starts-text, starts-back}
 use Rattle.sheets.proofs.Columns.{Sounds, Within, widths, bytes-length, values-length, drop-bytes, values-within, values-bytes, bytes-values}
 use Rattle.sheets.proofs.Columns.{row-reads, row-back}
 use Rattle.sheets.proofs.Runs.{not-made, Back, run-back}

@@ -4,7 +4,7 @@ use native.Mathlib.Omega.{arith}
 use native.Mathlib.Numerals.{add-one}
 use mathlib.Core.Path.{_≡_, refl, sym, ap, _∙_}
 use mathlib.Core.List.{List, [], _∷_, _++_, append-assoc}
-use lib.ListN.{length, getD, take, drop, length-append, drop-of-length-le}
+use lib.ListN.{length, getD, drop, length-append, drop-of-length-le}
 use lib.Seq.{drop-cons}
 use Rattle.codec.specs.Codec.{be}
 use Rattle.codec.proofs.BigEndian.{be-length}
@@ -12,7 +12,7 @@ use Rattle.printing.specs.Decimal.{Put}
 use Rattle.printing.proofs.Puts.{none, and-then, put-length}
 use Rattle.sheets.specs.declared.rows.Column.{Column}
 use Rattle.sheets.specs.Rows.{empty, columns, bytes, ending, cellText, rowText}
-use Rattle.sheets.specs.Sheets.{Item, item, made, eachBy}
+use Rattle.sheets.specs.Sheets.{Item, made, eachBy}
 use Rattle.sheets.proofs.Runs.{not-made, Goes, goes, each-some}
 use Rattle.sheets.proofs.Held.{first-at, past-first}
 use Rattle.sheets.proofs.Reading.{count}

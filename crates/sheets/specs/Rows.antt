@@ -9,7 +9,7 @@ use Rattle.base.specs.Choice.{pick}
 use Rattle.codec.specs.Codec.{valAt, be}
 use Rattle.printing.specs.Decimal.{decimal}
 use Rattle.sheets.specs.declared.rows.Column.{Column}
-use Rattle.sheets.specs.Numbers.{first, signedText, Cell, unsignedCell, signedCell, emptyCell}
+use Rattle.sheets.specs.Numbers.{signedText, Cell, unsignedCell, signedCell, emptyCell}
 
 -- ---- the columns
 

@@ -1,7 +1,7 @@
 -- Document 02, W13: whole sheets. "Refusals: 20, text not of this form, with the row, header 1; 21, a number outside its field; 23, bytes to
 -- export that are no run of whole lines; 16, no room. Reading goes by row, 20 before 21, and 16 is last. Each writes nothing."
 use Prim.Native.Nat.{ℕ, zero, suc, _+_}
-use mathlib.Core.Bool.{Bool, true, false, _&&_}
+use mathlib.Core.Bool.{_&&_}
 use mathlib.Core.List.{List, [], _∷_, _++_}
 use lib.ListN.{length, drop}
 use lib.Dec.{leb}

@@ -1,6 +1,6 @@
 -- An accepted kg is a finite number above zero: no NaN, no infinity and no zero.
 -- Each operation goes one way in each operand, so the result lies between the runs at the two ends of the ranges.
-use mathlib.Core.Path.{_≡_, refl, sym, subst}
+use mathlib.Core.Path.{_≡_}
 use Prim.Native.Nat.{ℕ, zero, suc, _*_, _≤_, _<_}
 use native.Mathlib.Nat.{mul-comm, mul-assoc, mul-left-comm, mul-le-mul-right, mul-pos}
 use native.Mathlib.Omega.{arith}

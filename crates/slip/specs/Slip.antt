@@ -1,7 +1,7 @@
 -- Document 01, "The what-if slip", over the values of IEEE 754 double precision.
 use mathlib.Core.Path.{_≡_}
 use Prim.Native.Nat.{ℕ}
-use mathlib.Core.Bool.{Bool, true, false, not, _&&_}
+use mathlib.Core.Bool.{Bool, false, not, _&&_}
 use lib.IntN.{pos}
 use lib.Dec.{T, leb}
 use lib.Ieee.{Float, fin, binary64, round, mul, div, le, ofInt, isNan}

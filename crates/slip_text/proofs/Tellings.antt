@@ -1,14 +1,12 @@
 -- Laws of what people are told: texts behind one another, and the texts of a line by what it asks.
 -- Assumes nothing.
-use Prim.Native.Nat.{ℕ, _+_, _-_, _≤_}
+use Prim.Native.Nat.{ℕ, _-_, _≤_}
 use native.Mathlib.Omega.{arith}
 use mathlib.Core.Path.{_≡_, refl, sym, _∙_}
-use mathlib.Core.Bool.{Bool, true, false}
 use mathlib.Core.List.{List, []}
-use lib.ListN.{length, take}
+use lib.ListN.{length}
 use lib.Seq.{take-nil}
 use borrow.Author.Tests.{eq-eqb, ne-eqb}
-use Rattle.printing.specs.Decimal.{Put}
 use Rattle.printing.specs.Said.{Said}
 use Rattle.printing.proofs.Puts.{none}
 use Rattle.slip.specs.Slip.{whatIf, double}

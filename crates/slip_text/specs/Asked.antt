@@ -1,7 +1,7 @@
 -- A line that a person types for document 01's what-if slip: GE Ym head days CHANGE X, with CHANGE feed, ym or head.
 use Prim.Native.Nat.{ℕ}
-use mathlib.Core.Bool.{Bool, true, false}
-use mathlib.Core.List.{List, [], _∷_}
+use mathlib.Core.Bool.{Bool, true}
+use mathlib.Core.List.{List}
 use lib.ListN.{length}
 use lib.Dec.{eqb, leb, ltb}
 use Rattle.base.specs.Choice.{pick}
@@ -10,7 +10,6 @@ use lib.Ieee.{Float}
 use Rattle.typed_words.specs.Words.{nthWord, sameText}
 use Rattle.typed_words.specs.Numbers.{wholeOf, noWhole, decimalOf}
 use Rattle.typed_words.specs.declared.Whole.{Whole}
-use Rattle.slip.specs.declared.Change.{Change}
 use Rattle.slip.specs.declared.Change.the-variants.{Feed, Ym, Head}
 use Rattle.slip.specs.declared.Ration.{Ration}
 use Rattle.slip_text.specs.declared.Named.{Named}

@@ -3,7 +3,7 @@ use mathlib.Core.Bool.{Bool, true, false, _&&_}
 use mathlib.Core.List.{List, [], _∷_, _++_}
 use Prim.Native.Nat.{ℕ, _-_}
 use lib.Dec.{eqb, ltb}
-use lib.IntN.{pos, negsuc}
+use lib.IntN.{pos}
 use lib.Ieee.{Float, fin, binary64, round, add, mul, lt, toUnsigned}
 use Rattle.base.specs.Choice.{pick}
 use Rattle.printing.specs.Decimal.{decimal, thousandths}

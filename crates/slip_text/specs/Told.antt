@@ -1,8 +1,8 @@
 -- What people are told of a line of document 01's what-if slip that gives no estimate: what is wrong, the word, and what was expected.
 use Prim.Native.Nat.{ℕ, _-_}
 use mathlib.Core.Bool.{Bool, true, false, _&&_}
-use mathlib.Core.List.{List, [], _∷_, _++_}
-use lib.Dec.{eqb, ltb}
+use mathlib.Core.List.{List, [], _++_}
+use lib.Dec.{eqb}
 use Rattle.base.specs.Choice.{pick, oneMore}
 use Rattle.printing.specs.Ascii.{ascii}
 use Rattle.printing.specs.Decimal.{decimal}

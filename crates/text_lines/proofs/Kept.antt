@@ -1,17 +1,16 @@
 -- What is kept of a line that arrives in pieces is what is kept of the line.
 -- Assumes nothing.
-use Prim.Native.Nat.{ℕ, zero, suc, _+_, _-_, _≤_, min}
+use Prim.Native.Nat.{ℕ, zero, suc, _+_, _-_}
 use native.Mathlib.Omega.{arith}
 use mathlib.Core.Path.{_≡_, refl, sym, ap, _∙_}
-use mathlib.Core.Bool.{Bool, true, false, _||_}
+use mathlib.Core.Bool.{Bool, true, false}
 use mathlib.Core.List.{List, [], _∷_, _++_, append-nil, append-assoc}
-use lib.ListN.{length, take, length-append, length-take}
+use lib.ListN.{length, take, length-append}
 use lib.Seq.{take-nil}
-use Rattle.base.specs.Choice.{pick}
 use Rattle.base.proofs.Tests.{by-test}
 use Rattle.bytes.specs.Bytes.{indexOf}
 use Rattle.text_lines.specs.Lines.{most, uncommented, has, kept, keepMore, commentAfter}
-use Rattle.text_lines.proofs.Bytes.{before-all, before-behind, before-within, has-behind, has-within}
+use Rattle.text_lines.proofs.Bytes.{before-all, before-behind, before-within}
 
 -- what is cut off of two texts together
 pub cut-both : (n : ℕ) (s t : List ℕ) → take n (s ++ t) ≡ take n s ++ take (n - length (take n s)) t
@@ -45,10 +44,6 @@ pub keeps-on : (k : List ℕ) (comment : Bool) (ys zs : List ℕ)
 keeps-on k true ys zs = nothing-kept (keepMore k true ys) zs ∙ nothing-kept k ys ∙ sym (nothing-kept k (ys ++ zs))
 keeps-on k false ys zs = by-test (has 35 ys) (λ t. rw t (among k ys zs t)) (λ f. rw f (behind k ys zs f))
 
-pub comment-on : (comment : Bool) (ys zs : List ℕ) → commentAfter (commentAfter comment ys) zs ≡ commentAfter comment (ys ++ zs)
-comment-on true ys zs = refl
-comment-on false ys zs = by-test (has 35 ys) (λ t. rw (t, has-within 35 ys zs t)) (λ f. rw (f, has-behind 35 ys zs f))
-
 -- a line from its beginning
 pub kept-whole : (ys : List ℕ) → keepMore [] false ys ≡ kept ys
 kept-whole ys = refl
@@ -58,8 +53,3 @@ pub keeps-none : (k : List ℕ) (comment : Bool) → keepMore k comment [] ≡ k
 unfolding indexOf
 keeps-none k true = nothing-kept k []
 keeps-none k false = nothing-kept k []
-
-pub keeps-most : (k : List ℕ) (comment : Bool) (ys : List ℕ) → length k ≤ most → length (keepMore k comment ys) ≤ most
-keeps-most k comment ys h =
-    let new = pick comment [] (uncommented ys) in
-    omega (arith, length-append k (take (most - length k) new), length-take (most - length k) new)

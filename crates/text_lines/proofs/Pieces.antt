@@ -1,12 +1,11 @@
 -- Laws of `linesOf`: a text cut at its first line feed, and one that goes on.
 -- Assumes nothing.
 use Prim.Native.Nat.{ℕ, _≤_}
-use mathlib.Core.Path.{_≡_, refl, sym, ap, _∙_}
-use mathlib.Core.Bool.{Bool, true, false}
+use mathlib.Core.Path.{_≡_, refl, ap, _∙_}
+use mathlib.Core.Bool.{false}
 use mathlib.Core.List.{List, [], _∷_, _++_, append-nil}
 use lib.ListN.{length}
 use lib.Dec.{eqb}
-use Rattle.base.specs.Choice.{pick}
 use Rattle.base.proofs.Tests.{by-test}
 use Rattle.bytes.specs.Bytes.{indexOf}
 use Rattle.text_lines.specs.Lines.{has, onFirst, linesOf}
@@ -41,7 +40,3 @@ module _ (a : List ℕ) (none : has 10 a ≡ false) where
   pub lines-cut : (rest : List ℕ) → linesOf (a ++ (10 ∷ rest)) ≡ a ∷ linesOf rest
   unfolding linesOf
   lines-cut rest = lines-on (10 ∷ rest) ∙ ap (λ (l : List ℕ). l ∷ linesOf rest) (append-nil a)
-
-  pub lines-one : linesOf a ≡ a ∷ []
-  unfolding linesOf
-  lines-one = ap linesOf (sym (append-nil a)) ∙ lines-on [] ∙ ap (λ (l : List ℕ). l ∷ []) (append-nil a)

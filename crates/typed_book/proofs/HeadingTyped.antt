@@ -1,18 +1,17 @@
 -- The heading law for typed lines (specs/Headings.antt).
 -- Assumes nothing.
-use Prim.Native.Nat.{ℕ, suc, _+_, _≤_, _<_}
+use Prim.Native.Nat.{ℕ, _≤_, _<_}
 use native.Mathlib.Omega.{arith}
 use mathlib.Core.Path.{_≡_, refl, sym, ap, _∙_}
 use mathlib.Core.List.{List, [], _∷_}
 use mathlib.Core.Bool.{Bool, true, false, _&&_, _||_, not}
 use mathlib.Core.Logic.{_⊎_, inl, inr, ⊎-elim}
-use borrow.Author.Tests.{eq-eqb, ne-eqb, eqb-true, eqb-false, leb-true, not-true, not-false, ltb-false, le-ltb, lt-ltb}
-use lib.ListN.{length, getD}
+use borrow.Author.Tests.{eq-eqb, ne-eqb, eqb-true, eqb-false, leb-true, not-false, le-ltb}
+use lib.ListN.{length}
 use lib.Dec.{eqb, leb, ltb}
 use Rattle.base.specs.Choice.{pick, oneMore}
 use Rattle.base.proofs.Tests.{and-l, and-r, of-choice, or-l, or-r, or-cases}
 use Rattle.codec.specs.Table.{lastKind}
-use Rattle.codec.specs.Codec.{recordBytes}
 use Rattle.account.specs.declared.Account.{Account}
 use Rattle.account.specs.Judge.{Step, headingServes, inPlace, accepted, weigh}
 use Rattle.account.specs.Sorts.{sortOf}
@@ -36,8 +35,8 @@ use Rattle.typed_line.specs.Line.{lineOf, entry, completedOf, valuesIn, writeEn
 use Rattle.text_lines.specs.Parts.{Numbered, numbered}
 use Rattle.typed_book.specs.declared.Typist.{Typist}
 use Rattle.typed_book.specs.declared.Fate.{Fate}
-use Rattle.typed_book.specs.declared.Fate.the-variants.{Nothing, Unread, Withheld, Without, Refused, Wrote}
-use Rattle.typed_book.specs.Typist.{inGroup, mayHead, beginning, notRead, refusedAt, writtenAs, withheld, headless, Turn, byAnswer, byWrite}
+use Rattle.typed_book.specs.declared.Fate.the-variants.{Nothing, Refused, Wrote}
+use Rattle.typed_book.specs.Typist.{inGroup, mayHead, beginning, refusedAt, writtenAs, withheld, headless, Turn, byAnswer, byWrite}
 use Rattle.typed_book.specs.Typist.{recordTurn, bySaid, turn}
 use Rattle.typed_book.specs.Remarks.{kindWritten}
 use Rattle.typed_book.specs.Text.{lineTurn, typedBy}

@@ -2,19 +2,18 @@
 -- Assumes nothing.
 use Prim.Native.Nat.{ℕ, zero, suc, _≤_}
 use mathlib.Core.Path.{_≡_, refl, sym, ap, _∙_}
-use mathlib.Core.List.{List, [], _∷_, _++_, append-assoc, append-nil, map}
+use mathlib.Core.List.{List, [], _∷_, _++_, append-assoc, append-nil}
 use mathlib.Core.Bool.{Bool, true, false}
 use lib.ListN.{length, drop}
 use Rattle.base.specs.Choice.{pick}
-use Rattle.base.proofs.Tests.{of-choice}
-use Rattle.text_lines.specs.Lines.{most, kept, linesOf, firstCut, cuttingOf, cutIn, unmarked}
-use Rattle.text_lines.specs.Parts.{Numbered, Cutter, Found, inHand, finishing, cutOnce, nextLine, cutPart, cutAll, together, allFound, numbered}
+use Rattle.text_lines.specs.Lines.{most, firstCut, cuttingOf, unmarked}
+use Rattle.text_lines.specs.Parts.{Numbered, Cutter, Found, inHand, finishing, cutOnce, nextLine, cutPart, cutAll, together, allFound}
 use Rattle.text_lines.proofs.SameLines.{same-lines}
 use Rattle.book.specs.declared.State.{State}
 use Rattle.typed_book.specs.declared.Typist.{Typist}
-use Rattle.typed_book.specs.Typist.{beginning, Turn}
-use Rattle.typed_book.specs.Text.{textLines, typedBy, typedText, bytesTyped}
-use Rattle.typed_book.specs.Parts.{lineBy, callOf, Output, behind, output, Calls, oneCall, andThen, callsIn, callsOver, withLast}
+use Rattle.typed_book.specs.Typist.{beginning}
+use Rattle.typed_book.specs.Text.{textLines, typedBy, bytesTyped}
+use Rattle.typed_book.specs.Parts.{lineBy, Output, behind, output, Calls, oneCall, andThen, callsIn, callsOver, withLast}
 use Rattle.typed_book.proofs.Calls.{line-open, line-ended}
 
 -- what the lines of a found text do, and the cutter behind them

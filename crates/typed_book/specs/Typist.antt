@@ -2,20 +2,18 @@
 -- before it failed; without heading, a detail of the group while the heading is lost; refused by the writer's rules; or written. A line that is not
 -- read, without heading or refused has failed. The heading is lost by a line that is not read and whose kind is a heading or none of the book's, by a
 -- heading that is refused and by a line refused by 3, and found again by a heading that is written.
-use Prim.Native.Nat.{ℕ, suc, _%_}
+use Prim.Native.Nat.{ℕ, _%_}
 use mathlib.Core.Bool.{Bool, _&&_, _||_, not}
-use mathlib.Core.List.{List, [], _∷_, _++_}
+use mathlib.Core.List.{List, [], _++_}
 use lib.ListN.{length, getD, drop}
 use lib.Dec.{eqb, leb, ltb}
 use Rattle.base.specs.Choice.{pick, oneMore}
 use Rattle.codec.specs.Table.{lastKind}
-use Rattle.account.specs.declared.Refusal.{Refusal}
 use Rattle.book.specs.declared.State.{State}
 use Rattle.make_record.specs.declared.Answer.{Answer}
 use Rattle.make_record.specs.declared.Answer.the-variants as answers
 use Rattle.make_record.specs.Write.{Write}
 use Rattle.typed_line.specs.declared.Entry.{Entry}
-use Rattle.typed_line.specs.declared.Line.{Line}
 use Rattle.typed_line.specs.declared.Said.{Said}
 use Rattle.typed_line.specs.declared.Said.the-variants as said
 use Rattle.typed_line.specs.Line.{lineOf, writeEntry}

@@ -90,7 +90,8 @@ fn type_line(t: Typist, number: u64, text: &[u8], out: &mut [u8], remarks: &mut 
     ensures typist { λ r. ⌜ r .typist ≡ lineBy t number (now (text .entry)) (length (now (out .entry))) .typist ⌝ }
     ensures bytes { λ r. ⌜ r .written ≡ length (lineBy t number (now (text .entry)) (length (now (out .entry))) .bytes) ⌝ }
     ensures record { λ r. ⌜ now (out .exit) ≡ laidIn (lineBy t number (now (text .entry)) (length (now (out .entry))) .bytes) (now (out .entry)) ⌝ }
-    ensures remark { λ r. ⌜ Said (now (remarks .entry)) (now (remarks .exit)) 0 (lineBy t number (now (text .entry)) (length (now (out .entry))) .remark) (r .told) ⌝ }
+    ensures remark { λ r. ⌜ Said (now (remarks .entry)) (now (remarks .exit)) 0
+        (lineBy t number (now (text .entry)) (length (now (out .entry))) .remark) (r .told) ⌝ }
 {
     let e = enter::enter(t, number, text, out);
     let fate = e.fate;
@@ -116,8 +117,10 @@ pub fn type_part(
     ensures taken { λ r. ⌜ r .taken ≡ callOf typing (now (line .entry)) (now (part .entry)) (length (now (out .entry))) .taken ⌝ }
     ensures written { λ r. ⌜ r .written ≡ length (callOf typing (now (line .entry)) (now (part .entry)) (length (now (out .entry))) .bytes) ⌝ }
     ensures kept { λ r. ⌜ now (line .exit) ≡ cutIn (now (line .entry)) (typing .cut) (now (part .entry)) ⌝ }
-    ensures record { λ r. ⌜ now (out .exit) ≡ laidIn (callOf typing (now (line .entry)) (now (part .entry)) (length (now (out .entry))) .bytes) (now (out .entry)) ⌝ }
-    ensures remark { λ r. ⌜ Said (now (remarks .entry)) (now (remarks .exit)) 0 (callOf typing (now (line .entry)) (now (part .entry)) (length (now (out .entry))) .remark) (r .told) ⌝ }
+    ensures record { λ r. ⌜ now (out .exit) ≡ laidIn (callOf typing (now (line .entry)) (now (part .entry)) (length (now (out .entry))) .bytes)
+        (now (out .entry)) ⌝ }
+    ensures remark { λ r. ⌜ Said (now (remarks .entry)) (now (remarks .exit)) 0
+        (callOf typing (now (line .entry)) (now (part .entry)) (length (now (out .entry))) .remark) (r .told) ⌝ }
     ensures inside { λ r. ⌜ r .taken ≤ length (now (part .entry)) ⌝ }
 {
     let t = typing.typist;
@@ -155,7 +158,8 @@ pub fn type_last(typing: Typing, line: &[u8], out: &mut [u8], remarks: &mut [u8]
     ensures typist { λ r. ⌜ r .typist ≡ lastOf typing (now (line .entry)) (length (now (out .entry))) .typist ⌝ }
     ensures written { λ r. ⌜ r .written ≡ length (lastOf typing (now (line .entry)) (length (now (out .entry))) .bytes) ⌝ }
     ensures record { λ r. ⌜ now (out .exit) ≡ laidIn (lastOf typing (now (line .entry)) (length (now (out .entry))) .bytes) (now (out .entry)) ⌝ }
-    ensures remark { λ r. ⌜ Said (now (remarks .entry)) (now (remarks .exit)) 0 (lastOf typing (now (line .entry)) (length (now (out .entry))) .remark) (r .told) ⌝ }
+    ensures remark { λ r. ⌜ Said (now (remarks .entry)) (now (remarks .exit)) 0
+        (lastOf typing (now (line .entry)) (length (now (out .entry))) .remark) (r .told) ⌝ }
 {
     let t = typing.typist;
     let cut = typing.cut;

@@ -186,7 +186,8 @@ fn say_either(out: &mut [u8], at: usize) -> usize
 
 fn say_values(out: &mut [u8], at: usize, kind: u64, text: &[u8]) -> usize
     requires { ⌜ at ≤ length (now out) ⌝ }
-    ensures { λ r. ⌜ Said (now (out .entry)) (now (out .exit)) at (pick (eqb kind 1) eitherText (fieldNames (rowOfLine kind (now (text .entry))))) r ⌝ }
+    ensures { λ r. ⌜ Said (now (out .entry)) (now (out .exit)) at
+        (pick (eqb kind 1) eitherText (fieldNames (rowOfLine kind (now (text .entry))))) r ⌝ }
 {
     if kind == 1 {
         return say_either(out, at);

@@ -8,7 +8,7 @@ use native.Mathlib.Omega.{arith}
 use native.Mathlib.Numerals.{add-one}
 use mathlib.Core.Logic.{⊎-elim}
 use borrow.Author.Tests.{eq-eqb, ne-eqb, lt-ltb, le-ltb, lt-leb, le-leb}
-use lib.ListN.{length, take, set, replicate, length-append}
+use lib.ListN.{length, set, replicate, length-append}
 use lib.Seq.{take-all, take-append-le, set-at, append-snoc}
 use lib.Dec.{eqb, ltb}
 use Rattle.base.specs.Choice.{pick}

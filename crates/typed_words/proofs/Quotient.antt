@@ -2,9 +2,9 @@
 use Prim.Native.Nat.{ℕ, zero, suc, _*_, _^_, _<_, _≤_}
 use native.Mathlib.Nat.{mul-comm, mul-assoc, mul-left-comm, mul-one, mul-pos, pow-le-pow-right}
 use native.Mathlib.Omega.{arith}
-use mathlib.Core.Path.{_≡_, refl, sym, ap, _∙_, subst}
-use mathlib.Core.Bool.{Bool, true, false, true≢false}
-use lib.IntN.{ℤ, pos}
+use mathlib.Core.Path.{_≡_, sym, ap, _∙_}
+use mathlib.Core.Bool.{true, false, true≢false}
+use lib.IntN.{pos}
 use lib.Dec.{T, le→leb, eqb·suc-zero}
 use lib.Ieee.{Float, nan, inf, fin, binary64, up, down, round, div, ofInt, inFloat}
 use lib.Ieee.Exact.{HasValue}

@@ -1,7 +1,5 @@
 -- Calls one after the other. Assumes nothing.
-use Prim.Native.Nat.{_+_, _-_, _≤_}
-use lib.ListN.{length}
-use mathlib.Core.Path.{_≡_}
+use Prim.Native.Nat.{_-_}
 use native.Mathlib.Omega.{arith}
 use borrow.Author.Needs.{needs}
 use Rattle.benchdesk.proofs.Calls.{Going, going-none, going-ends, taken-inside, written-inside, long-on, going-stops, going-on}

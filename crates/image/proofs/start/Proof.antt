@@ -1,6 +1,6 @@
 -- `image::start` meets its contract: the image of no record yet, or nothing.
 -- Assumes nothing.
-use mathlib.Core.Path.{sym, _∙_}
+use mathlib.Core.Path.{sym}
 use borrow.Author.Needs.{needs}
 use borrow.Author.Tests.{eq-eqb, ne-eqb}
 use Rattle.image.proofs.Calls.{start-long, start-none}

@@ -1,4 +1,3 @@
-use native.Mathlib.Omega.{arith}
 use borrow.Author.Tests.{lt-ltb, le-ltb}
 use Rattle.listing.proofs.line_room.Statement.{statement}
 use Rattle.listing.proofs.line_room.Tie as tie

@@ -1,6 +1,5 @@
 -- The farm record of version 2, or the kind. Assumes nothing.
-use mathlib.Core.Path.{_≡_, refl}
-use mathlib.Core.Bool.{_&&_}
+use mathlib.Core.Path.{refl}
 use Rattle.make_record.proofs.row_for.Statement.{statement}
 use Rattle.make_record.proofs.row_for.Tie as tie
 

@@ -1,4 +1,3 @@
-use mathlib.Core.List.{append-assoc}
 use native.Mathlib.Omega.{arith}
 use Rattle.printing.proofs.Puts.{and-then}
 use borrow.Author.Needs.{needs}

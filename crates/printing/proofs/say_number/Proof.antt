@@ -1,7 +1,6 @@
 -- The digits are those of the number. Assumes nothing.
 use mathlib.Core.Path.{_∙_}
 use borrow.Author.Needs.{needs}
-use Rattle.printing.specs.Said.{Said}
 use Rattle.printing.proofs.Sayings.{text-at-start}
 use Rattle.printing.proofs.say_number.Statement.{statement}
 use Rattle.printing.proofs.say_number.Tie as tie

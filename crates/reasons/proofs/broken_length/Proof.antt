@@ -1,4 +1,3 @@
-use native.Mathlib.Omega.{arith}
 use borrow.Author.Needs.{needs}
 use Rattle.reasons.proofs.ValueLaws.{broken-told}
 use Rattle.reasons.proofs.broken_length.Statement.{statement}

@@ -1,7 +1,5 @@
 use native.Mathlib.Omega.{arith}
-use mathlib.Core.Path.{_≡_, ap}
 use borrow.Author.Tests.{eq-eqb, ne-eqb}
-use borrow.Author.Needs.{needs}
 use Rattle.reasons.proofs.ended.Statement.{statement}
 use Rattle.reasons.proofs.ended.Tie as tie
 

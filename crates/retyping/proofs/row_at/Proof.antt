@@ -1,5 +1,4 @@
 -- Version and kind byte, and the row that they have. Assumes nothing.
-use native.Mathlib.Omega.{arith}
 use borrow.Author.Needs.{needs}
 use Rattle.retyping.proofs.row_at.Statement.{statement}
 use Rattle.retyping.proofs.row_at.Tie as tie

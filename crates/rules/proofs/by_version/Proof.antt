@@ -1,8 +1,6 @@
 -- A farm record of version 2, or no version that there is. Assumes nothing.
-use Prim.Native.Nat.{_+_}
-use mathlib.Core.Path.{_≡_, refl}
+use mathlib.Core.Path.{refl}
 use native.Mathlib.Omega.{arith}
-use lib.ListN.{length}
 use Rattle.codec.specs.Table.{table, size}
 use Rattle.account.specs.Told.{Kind}
 use Rattle.account.proofs.Told.{wrong-version, wrong-length, right-length}

@@ -1,7 +1,7 @@
 -- The version, the kind, the length, then what the kind's own function tells. Assumes nothing.
 use mathlib.Core.Path.{refl, sym, _∙_}
 use native.Mathlib.Omega.{arith}
-use Rattle.account.specs.Judge.{kindByte, kindOf}
+use Rattle.account.specs.Judge.{kindByte}
 use Rattle.account.specs.Told.{Kind}
 use Rattle.account.proofs.Told.{wrong-kind, wrong-length}
 use Rattle.rules.specs.Right.{Right}

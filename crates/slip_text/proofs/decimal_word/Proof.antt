@@ -1,4 +1,3 @@
-use mathlib.Core.Path.{_∙_}
 use borrow.Author.Needs.{needs}
 use Rattle.slip_text.proofs.decimal_word.Statement.{statement}
 use Rattle.slip_text.proofs.decimal_word.Tie as tie

@@ -1,7 +1,6 @@
 -- The number is in reach of 64 bits where it can be shown. Assumes nothing.
 use lib.Ieee.{ofBits, neg, round}
 use Rattle.slip_text.proofs.Showing.{above, below, is-grams, no-grams}
-use borrow.Author.Needs.{needs}
 use Rattle.slip_text.proofs.in_grams.Statement.{statement}
 use Rattle.slip_text.proofs.in_grams.Tie as tie
 

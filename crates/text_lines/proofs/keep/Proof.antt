@@ -1,5 +1,4 @@
 -- What has room is put behind what is kept. Assumes nothing.
-use mathlib.Core.Path.{_∙_}
 use Rattle.text_lines.proofs.Steps.{no-room, room-fits, kept-behind}
 use borrow.Author.Needs.{needs}
 use Rattle.text_lines.proofs.keep.Statement.{statement}

@@ -1,6 +1,4 @@
 use Prim.Native.Nat.{ℕ, _<_}
-use mathlib.Core.Path.{_≡_}
-use Rattle.typed_words.specs.Words.{nthWord}
 use Rattle.typed_words.proofs.Blanks.{no-others, behind-one}
 use borrow.Author.Needs.{needs}
 use borrow.Fn.Kinds.{In}

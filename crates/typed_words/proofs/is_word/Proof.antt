@@ -1,6 +1,5 @@
 use Prim.Native.Nat.{_-_, _≤_}
 use mathlib.Core.Path.{_≡_, sym, _∙_}
-use native.Mathlib.Omega.{arith}
 use lib.ListN.{length, drop}
 use Rattle.typed_words.specs.Words.{sameText}
 use Rattle.typed_words.proofs.Same.{other-length, goes-on, differs, at-end}

@@ -2,7 +2,7 @@ use mathlib.Core.Path.{_≡_, refl, sym, _∙_}
 use mathlib.Core.Bool.{false}
 use native.Mathlib.Omega.{arith}
 use borrow.Author.Needs.{needs}
-use Rattle.book.specs.Front.{whole, bad, front}
+use Rattle.book.specs.Front.{whole, bad}
 use Rattle.book.proofs.FrontLaws.{Means, meaning, is-bad}
 use Rattle.book.proofs.TurnLaws.{has-length, is-record, bad-count, whole-count}
 use Rattle.book.proofs.State.left.Statement.{statement}

@@ -1,6 +1,5 @@
 -- The farm record of version 2, or the kind. Assumes nothing.
-use mathlib.Core.Path.{_≡_, refl}
-use mathlib.Core.Bool.{_&&_}
+use mathlib.Core.Path.{refl}
 use Rattle.codec.proofs.kinds.row_of.Statement.{statement}
 use Rattle.codec.proofs.kinds.row_of.Tie as tie
 

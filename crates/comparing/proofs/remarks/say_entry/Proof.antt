@@ -1,4 +1,3 @@
-use mathlib.Core.Path.{refl, _∙_}
 use borrow.Author.Needs.{needs}
 use Rattle.printing.proofs.Sayings.{_⟫_}
 use Rattle.comparing.specs.Remarks.{entryText}

@@ -1,4 +1,3 @@
-use mathlib.Core.Path.{refl}
 use borrow.Author.Needs.{needs}
 use Rattle.printing.proofs.Sayings.{said-none}
 use Rattle.comparing.proofs.remarks.say_other.Statement.{statement}

@@ -1,4 +1,3 @@
-use mathlib.Core.Path.{refl}
 use borrow.Author.Needs.{needs}
 use Rattle.comparing.proofs.remarks.say_word.Statement.{statement}
 use Rattle.comparing.proofs.remarks.say_word.Tie as tie

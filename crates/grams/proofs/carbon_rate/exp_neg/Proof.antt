@@ -1,7 +1,7 @@
 -- `grams::carbon_rate::exp_neg` meets its contract. The loop's invariant: the steps that are left make the rule's value. Assumes nothing.
 use borrow.Author.Needs.{needs}
 use native.Mathlib.Omega.{arith}
-use mathlib.Core.Path.{_≡_, refl, sym, _∙_}
+use mathlib.Core.Path.{_≡_, sym, _∙_}
 use Prim.Native.Nat.{_≤_}
 use Rattle.grams.specs.CarbonRate.{scale, steps, expOf}
 use Rattle.grams.proofs.Bounds.{_⊗_, fits}

@@ -1,8 +1,7 @@
 -- `grams::carbon_rate::first_steps` meets its contract: the steps that are left make the rule's value. Assumes nothing.
-use borrow.Author.Needs.{needs}
 use native.Mathlib.Omega.{arith}
 use mathlib.Core.Path.{_≡_, refl, sym, _∙_}
-use Prim.Native.Nat.{ℕ, _-_, _*_, _/_, _<_, _≤_}
+use Prim.Native.Nat.{_-_, _≤_}
 use Rattle.grams.specs.CarbonRate.{scale, steps, expOf}
 use Rattle.grams.proofs.Bounds.{_⊗_, fits}
 use Rattle.grams.proofs.Steps.{turn, less-than-all}

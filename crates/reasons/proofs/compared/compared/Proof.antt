@@ -1,7 +1,4 @@
-use Prim.Native.Nat.{_≤_}
-use mathlib.Core.Path.{_≡_, refl}
 use native.Mathlib.Omega.{arith}
-use borrow.Author.Needs.{needs}
 use Rattle.codec.proofs.EachKind.{row-least, row-most}
 use Rattle.reasons.proofs.FaultLaws.{row-in}
 use Rattle.reasons.proofs.ValueLaws.{by-two, by-three, by-four, by-values, past-four}

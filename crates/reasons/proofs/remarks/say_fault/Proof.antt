@@ -1,5 +1,5 @@
 use borrow.Author.Needs.{needs}
-use Rattle.printing.proofs.Sayings.{_⟫_, said-none}
+use Rattle.printing.proofs.Sayings.{_⟫_}
 use Rattle.reasons.specs.Remarks.{comparedText}
 use Rattle.reasons.proofs.remarks.say_fault.Statement.{statement}
 use Rattle.reasons.proofs.remarks.say_fault.Tie as tie

@@ -1,6 +1,6 @@
 use borrow.Author.Needs.{needs}
 use borrow.Author.Tests.{eq-eqb, ne-eqb, lt-ltb, le-ltb}
-use Rattle.printing.proofs.Sayings.{_⟫_, said-none}
+use Rattle.printing.proofs.Sayings.{said-none}
 use Rattle.reasons.proofs.remarks.say_relation.Statement.{statement}
 use Rattle.reasons.proofs.remarks.say_relation.Tie as tie
 

@@ -1,4 +1,3 @@
-use borrow.Author.Needs.{needs}
 use Rattle.reasons.proofs.remarks.subject.Statement.{statement}
 use Rattle.reasons.proofs.remarks.subject.Tie as tie
 

@@ -1,7 +1,6 @@
 use mathlib.Core.Path.{_≡_, refl}
 use Prim.Native.Nat.{_≤_}
 use native.Mathlib.Omega.{arith}
-use borrow.Author.Needs.{needs}
 use Rattle.codec.specs.Table.{table, size, lastRow}
 use Rattle.codec.proofs.EachKind.{last-row}
 use Rattle.reasons.proofs.ValueLaws.{long-by, value-by}

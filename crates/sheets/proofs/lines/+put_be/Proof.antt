@@ -1,12 +1,11 @@
 use Prim.Native.Nat.{ℕ, zero, suc, _+_, _-_, _/_, _%_, _<_, _≤_}
-use mathlib.Core.Path.{_≡_, refl, sym}
+use mathlib.Core.Path.{_≡_, refl}
 use mathlib.Core.List.{List, _∷_, []}
 use native.Mathlib.Omega.{arith}
 use lib.ListN.{length}
 use Rattle.codec.specs.Codec.{be}
-use Rattle.codec.proofs.BigEndian.{be-length}
 use Rattle.printing.specs.Decimal.{Put}
-use Rattle.printing.proofs.Puts.{none, and-then, put-length}
+use Rattle.printing.proofs.Puts.{none, and-then}
 use borrow.Author.Needs.{needs}
 use borrow.Fn.Kinds.{In}
 use borrow.Fn.PlainCycle.{Measures, is, falls, and}

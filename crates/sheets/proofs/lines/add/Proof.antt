@@ -1,6 +1,6 @@
 use Prim.Native.Nat.{_+_}
 use native.Mathlib.Omega.{arith}
-use Rattle.sheets.proofs.Plans.{over-all, in-room, total-over, total-in, total-sum}
+use Rattle.sheets.proofs.Plans.{over-all, in-room, total-over, total-sum}
 use borrow.Author.Needs.{needs}
 use Rattle.sheets.proofs.lines.add.Statement.{statement}
 use Rattle.sheets.proofs.lines.add.Tie as tie

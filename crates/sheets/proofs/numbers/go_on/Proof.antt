@@ -1,7 +1,6 @@
 use Prim.Native.Nat.{ℕ, _+_, _-_, _*_, _≤_}
 use mathlib.Core.Path.{_≡_, refl, _∙_}
 use mathlib.Core.List.{List}
-use native.Mathlib.Omega.{arith}
 use lib.ListN.{length, getD, drop}
 use Rattle.sheets.specs.declared.numbers.Amount.{Amount}
 use Rattle.sheets.specs.Numbers.{digits}

@@ -1,6 +1,6 @@
 use Prim.Native.Nat.{_+_, _-_, _*_}
 use native.Mathlib.Omega.{arith}
-use Rattle.sheets.proofs.Held.{too-big, in-bits, held-big, held-small, held-value}
+use Rattle.sheets.proofs.Held.{too-big, in-bits, held-big, held-value}
 use borrow.Author.Needs.{needs}
 use Rattle.sheets.proofs.numbers.more.Statement.{statement}
 use Rattle.sheets.proofs.numbers.more.Tie as tie

@@ -1,6 +1,5 @@
 use native.Mathlib.Omega.{arith}
 use borrow.Author.Tests.{eq-eqb, ne-eqb}
-use borrow.Author.Needs.{needs}
 use Rattle.sheets.proofs.remarks.one_if_feed.Statement.{statement}
 use Rattle.sheets.proofs.remarks.one_if_feed.Tie as tie
 

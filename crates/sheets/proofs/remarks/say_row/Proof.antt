@@ -1,4 +1,3 @@
-use native.Mathlib.Omega.{arith}
 use borrow.Author.Tests.{eq-eqb, ne-eqb}
 use Rattle.printing.proofs.Sayings.{_⟫_, said-none}
 use borrow.Author.Needs.{needs}

@@ -1,8 +1,6 @@
-use mathlib.Core.Path.{_≡_, sym}
+use mathlib.Core.Path.{sym}
 use native.Mathlib.Omega.{arith}
-use Rattle.sheets.specs.declared.rows.Column.{Column}
-use Rattle.sheets.specs.Rows.{column, figure, signedFigure, empty, columns}
-use Rattle.sheets.specs.Code.{Fair}
+use Rattle.sheets.specs.Rows.{columns}
 use Rattle.base.proofs.Tests.{no-bool}
 use Rattle.sheets.proofs.Reading.{figure-at, total-at, empty-at}
 use Rattle.sheets.proofs.rows.column_of.Statement.{statement}

@@ -1,6 +1,5 @@
 use Prim.Native.Nat.{_-_}
 use mathlib.Core.Path.{_≡_, refl}
-use native.Mathlib.Omega.{arith}
 use lib.ListN.{drop}
 use Rattle.sheets.specs.Rows.{columns, readRow, kindIn}
 use Rattle.sheets.proofs.Reading.{SoFar, started, one-more, all-read}

@@ -1,6 +1,5 @@
 use Prim.Native.Nat.{_-_}
 use mathlib.Core.Path.{refl}
-use native.Mathlib.Omega.{arith}
 use Rattle.sheets.proofs.Fields.{Gathered, gathers, column-inside, gathers-on, gathered}
 use borrow.Author.Needs.{needs}
 use Rattle.sheets.proofs.texts.line_values.Statement.{statement}

@@ -1,4 +1,4 @@
-use mathlib.Core.Path.{_≡_, _∙_}
+use mathlib.Core.Path.{_∙_}
 use native.Mathlib.Omega.{arith}
 use Rattle.printing.proofs.Puts.{put-length}
 use Rattle.printing.proofs.Sayings.{text-at-start}

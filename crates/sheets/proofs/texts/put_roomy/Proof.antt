@@ -1,5 +1,3 @@
-use mathlib.Core.Path.{_≡_}
-use native.Mathlib.Omega.{arith}
 use Rattle.sheets.proofs.RoundTrip.{is-line}
 use Rattle.sheets.proofs.Exporting.{row-of}
 use borrow.Author.Needs.{needs}

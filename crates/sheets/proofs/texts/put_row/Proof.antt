@@ -2,7 +2,7 @@ use Prim.Native.Nat.{ℕ, _+_, _*_, _-_, _≤_}
 use mathlib.Core.Path.{_≡_, _∙_}
 use mathlib.Core.List.{List}
 use native.Mathlib.Omega.{arith}
-use lib.ListN.{length, getD, drop}
+use lib.ListN.{length, drop}
 use Rattle.printing.specs.Decimal.{Put}
 use Rattle.printing.proofs.Puts.{none, and-then, put-length}
 use Rattle.sheets.specs.Rows.{columns, rowText}

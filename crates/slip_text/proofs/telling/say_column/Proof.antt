@@ -1,6 +1,5 @@
 -- A word of the table. Assumes nothing.
 use Rattle.slip_text.specs.Told.{columns}
-use Rattle.printing.specs.Said.{Said}
 use borrow.Author.Needs.{needs}
 use Rattle.slip_text.proofs.telling.say_column.Statement.{statement}
 use Rattle.slip_text.proofs.telling.say_column.Tie as tie

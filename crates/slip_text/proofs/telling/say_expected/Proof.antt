@@ -1,6 +1,5 @@
 -- A piece of the table. Assumes nothing.
 use Rattle.slip_text.specs.Told.{ranges}
-use Rattle.printing.specs.Said.{Said}
 use Rattle.printing.proofs.Sayings.{_⟫_}
 use borrow.Author.Needs.{needs}
 use Rattle.slip_text.proofs.telling.say_expected.Statement.{statement}

@@ -2,7 +2,6 @@
 use borrow.Author.Tests.{eq-eqb, ne-eqb}
 use Rattle.printing.proofs.Sayings.{_⟫_}
 use Rattle.slip_text.specs.Told.{faultText}
-use Rattle.printing.specs.Said.{Said}
 use borrow.Author.Needs.{needs}
 use Rattle.slip_text.proofs.telling.say_fault.Statement.{statement}
 use Rattle.slip_text.proofs.telling.say_fault.Tie as tie

@@ -2,7 +2,6 @@
 use lib.Ieee.{ofBits, round}
 use mathlib.Core.Path.{_∙_}
 use Rattle.printing.proofs.Sayings.{text-at-start}
-use Rattle.printing.specs.Said.{Said}
 use Rattle.slip_text.proofs.Tellings.{slip-said}
 use borrow.Author.Needs.{needs}
 use Rattle.slip_text.proofs.telling.say_slip.Statement.{statement}

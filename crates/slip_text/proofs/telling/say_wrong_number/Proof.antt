@@ -1,7 +1,6 @@
 -- The parts, one behind the other. Assumes nothing.
 use Rattle.printing.proofs.Sayings.{_⟫_}
 use Rattle.slip_text.specs.Told.{wrongNumber}
-use Rattle.printing.specs.Said.{Said}
 use borrow.Author.Needs.{needs}
 use Rattle.slip_text.proofs.telling.say_wrong_number.Statement.{statement}
 use Rattle.slip_text.proofs.telling.say_wrong_number.Tie as tie

@@ -1,5 +1,4 @@
 -- By the counts. Assumes nothing.
-use borrow.Author.Needs.{needs}
 use Rattle.slip_text.proofs.telling.status.Statement.{statement}
 use Rattle.slip_text.proofs.telling.status.Tie as tie
 

@@ -1,7 +1,7 @@
 use lib.Dec.{T}
 use lib.Ieee.{nanBits}
 use mathlib.Core.Bool.{Bool, not}
-use mathlib.Core.Path.{_≡_, sym, subst}
+use mathlib.Core.Path.{sym, subst}
 use borrow.Author.Needs.{needs}
 use Rattle.trials.proofs.slips.double.Statement.{statement}
 use Rattle.trials.proofs.slips.double.Tie as tie

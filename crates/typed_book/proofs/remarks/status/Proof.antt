@@ -1,5 +1,4 @@
 -- By the tests. Assumes nothing.
-use borrow.Author.Needs.{needs}
 use Rattle.typed_book.proofs.remarks.status.Statement.{statement}
 use Rattle.typed_book.proofs.remarks.status.Tie as tie
 
