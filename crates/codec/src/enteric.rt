@@ -8,6 +8,7 @@ ghost use mathlib.Core.Path.{_≡_};
 ghost use Prim.Native.Nat.{_+_, _≤_};
 ghost use lib.ListN.{length};
 ghost use lib.Seq.{sets};
+ghost use lib.Dec.{eqb};
 ghost use Rattle.codec.specs.Table.{fields};
 ghost use Rattle.codec.specs.Codec.{firstBad, recordBytes, valuesAt};
 
@@ -22,10 +23,20 @@ pub fn read(s: &[u8], at: usize) -> [u64; 3]
     [days, ge, ym]
 }
 
+// Every value is in its range: most records are so, and with this tested first the compiler makes up no position for them.
+fn in_ranges(v: [u64; 3]) -> bool
+    ensures { λ r. ⌜ r ≡ eqb (firstBad (fields 3) v 0) 0 ⌝ }
+{
+    (1 <= v[0]) & (v[0] <= 366) & (v[1] <= 100000) & (v[2] <= 2000)
+}
+
 // The position, from 1, of the first value out of its range, or 0.
 pub fn first_bad(v: [u64; 3]) -> u8
     ensures { λ r. ⌜ r ≡ firstBad (fields 3) v 0 ⌝ }
 {
+    if in_ranges(v) {
+        return 0;
+    }
     if v[0] < 1 {
         return 1;
     }

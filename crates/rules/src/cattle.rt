@@ -37,9 +37,15 @@ pub fn weigh(a: Account, v: [u64; 9], room: usize) -> Judged
 {
     let h = a.heading;
     let bad = codec::cattle::first_bad(v);
-    let code = barred(a.records, cattle_placed(a.records, h.class), bad);
-    if code != 0 {
+    let placed = cattle_placed(h.class);
+    // by itself: else the compiler carries the position through the test of every record
+    if bad != 0 {
+        let code = barred(a.records, placed, bad);
         return stopped(a, code, bad);
+    }
+    let code = barred(a.records, placed, 0);
+    if code != 0 {
+        return stopped(a, code, 0);
     }
     let mut days = a.days;
     let sum = days.nitrogen as u64 + v[0];

@@ -18,7 +18,7 @@ pub fn weigh(a: Account, v: [u64; 4], room: usize) -> Judged
 {
     let h = a.heading;
     let bad = codec::grazing::first_bad(v);
-    let code = barred(a.records, cattle_placed(a.records, h.class), bad);
+    let code = barred(a.records, cattle_placed(h.class), bad);
     if code != 0 {
         return stopped(a, code, bad);
     }

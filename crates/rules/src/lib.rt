@@ -48,7 +48,8 @@ fn size_of(kind: u8) -> usize
     }
 }
 
-// What the values of a record do that is as long as its kind: a function of its own, else the compiler keeps copies of the account.
+// What the values of a record do that is as long as its kind: a function of its own, else the compiler keeps copies of the account. No kind is left
+// for the last arm; with it the compiler sees that the number needs no further test.
 fn by_kind(a: Account, kind: u8, r: &[u8], room: usize) -> Judged
     requires { ⌜ AccountInRange a × (a .stage < 2) × Right (now r) × (kind ≡ kindOf (now r)) ⌝ }
     ensures { λ j. ⌜ TellsIn room a (judge a (now (r .entry))) j ⌝ }
@@ -63,7 +64,8 @@ fn by_kind(a: Account, kind: u8, r: &[u8], room: usize) -> Judged
         7 => soil::weigh(a, codec::soil::read(r, 4), room),
         8 => close::weigh(a, codec::close::read(r, 4), room),
         9 => tillage::weigh(a, codec::tillage::read(r, 4), room),
-        _ => grazing::weigh(a, codec::grazing::read(r, 4), room),
+        10 => grazing::weigh(a, codec::grazing::read(r, 4), room),
+        _ => wrong(a, 3, 0),
     }
 }
 

@@ -8,19 +8,19 @@ use account::Account;
 use account::Judged;
 use grams::pig::PigRation;
 ghost use mathlib.Core.Path.{_≡_};
-ghost use mathlib.Core.Bool.{_&&_, not};
 ghost use Prim.Native.Nat.{_<_};
-ghost use lib.Dec.{eqb};
+ghost use lib.Dec.{ltb};
 ghost use Rattle.account.specs.Figures.{pigRation};
 ghost use Rattle.account.specs.Range.{AccountInRange};
 ghost use Rattle.account.specs.Judge.{weigh};
 ghost use Rattle.account.specs.Told.{TellsIn};
 
-// After the first record, under a pig heading.
-fn pig_placed(records: u16, class: u8) -> bool
-    ensures { λ r. ⌜ r ≡ (eqb class 4 && not (eqb records 0)) ⌝ }
+// Under a pig heading, so that there are records before it. Class 4 is the last: asked for as a number that is not equal, the compiler would store
+// it into the account again at each record.
+fn pig_placed(class: u8) -> bool
+    ensures { λ r. ⌜ r ≡ ltb 3 class ⌝ }
 {
-    (class == 4) & !(records == 0)
+    3 < class
 }
 
 fn pig_ration(v: [u64; 12]) -> PigRation
@@ -48,7 +48,7 @@ pub fn weigh(a: Account, v: [u64; 12], room: usize) -> Judged
 {
     let h = a.heading;
     let bad = codec::pig::first_bad(v);
-    let code = barred(a.records, pig_placed(a.records, h.class), bad);
+    let code = barred(a.records, pig_placed(h.class), bad);
     if code != 0 {
         return stopped(a, code, bad);
     }

@@ -56,9 +56,9 @@ pub(crate) fn begun(records: u16) -> bool
     !(records == 0)
 }
 
-// After the first record, under a cattle heading.
-pub(crate) fn cattle_placed(records: u16, class: u8) -> bool
-    ensures { λ r. ⌜ r ≡ (leb 1 class && leb class 3 && not (eqb records 0)) ⌝ }
+// Under a cattle heading, so that there are records before it.
+pub(crate) fn cattle_placed(class: u8) -> bool
+    ensures { λ r. ⌜ r ≡ (leb 1 class && leb class 3) ⌝ }
 {
-    (1 <= class) & (class <= 3) & !(records == 0)
+    (1 <= class) & (class <= 3)
 }

@@ -1,19 +1,21 @@
 -- What the kind's own function tells. Assumes nothing.
 use mathlib.Core.Path.{_≡_, refl, sym, _∙_}
-use Rattle.codec.proofs.EachKind.{kind-least, kind-most, last-kind}
+use Rattle.base.proofs.Tests.{no-bool}
+use Rattle.codec.proofs.EachKind.{no-kind}
 use Rattle.codec.specs.Table.{table, size}
 use Rattle.rules.proofs.ByKind.{there, by-kind}
 use Rattle.rules.proofs.by_kind.Statement.{statement}
 use Rattle.rules.proofs.by_kind.Tie as tie
 
-ten : (c : tie.At-match-rest) → c .before .before .args .kind ≡ 10
-ten c =
+-- there is no kind behind the last
+none : (c : tie.At-match-rest) → ⊥
+none c =
     let r = c .match .rest in
     let p = c .before .before .pre in
-    let k = p .2 .kinds in
-    let s = r .0 .0 .0 .0 in
-    last-kind _ (rw (p .3) (kind-least _ k)) (rw (p .3) (kind-most _ k)) (s .0 .0 .0 .0 .1) (s .0 .0 .0 .1) (s .0 .0 .1) (s .0 .1) (s .1)
-    (r .0 .0 .0 .1) (r .0 .0 .1) (r .0 .1) (r .1)
+    let s = r .0 .0 .0 .0 .0 in
+    no-bool
+    (sym (no-kind _ (s .0 .0 .0 .0 .1) (s .0 .0 .0 .1) (s .0 .0 .1) (s .0 .1) (s .1) (r .0 .0 .0 .0 .1) (r .0 .0 .0 .1) (r .0 .0 .1) (r .0 .1) (r .1))
+    ∙ rw (p .3) (p .2 .kinds))
 
 pub by-kind-spec : {M : Type 1} → statement M
 unfolding table size
@@ -38,8 +40,9 @@ by-kind-spec =
     (λ c κs. let p = c .before .before .before .pre in (p .0, p .1))
     (λ c κs. let p = c .before .before .pre in there (p .2) 9 (sym (p .3) ∙ c .match .keys9) 13 refl)
     (λ c κs. let p = c .before .before .before .pre in (p .0, p .1))
-    (λ c κs. let p = c .before .before .pre in there (p .2) 10 (sym (p .3) ∙ ten c) 10 refl)
+    (λ c κs. let p = c .before .before .pre in there (p .2) 10 (sym (p .3) ∙ c .match .keys10) 10 refl)
     (λ c κs. let p = c .before .before .before .pre in (p .0, p .1))
+    (λ c κs. tt)
     (λ c.
     let p = c .before .before .before .before .pre in
     by-kind (p .2) 1 (sym (p .3) ∙ c .before .before .match .keys1) _ _ _ _ (c .before .read .ensures) (c .weigh .ensures))
@@ -69,4 +72,5 @@ by-kind-spec =
     by-kind (p .2) 9 (sym (p .3) ∙ c .before .before .match .keys9) _ _ _ _ (c .before .read9 .ensures) (c .weigh9 .ensures))
     (λ c.
     let p = c .before .before .before .before .pre in
-    by-kind (p .2) 10 (sym (p .3) ∙ ten (c .before .before)) _ _ _ _ (c .before .read10 .ensures) (c .weigh10 .ensures)))
+    by-kind (p .2) 10 (sym (p .3) ∙ c .before .before .match .keys10) _ _ _ _ (c .before .read10 .ensures) (c .weigh10 .ensures))
+    (λ c. absurd (none (c .before))))

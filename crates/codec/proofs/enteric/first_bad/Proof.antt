@@ -1,5 +1,7 @@
 -- `codec::enteric::first_bad` meets its contract: what each test has found out.
 -- Assumes nothing.
+use mathlib.Core.Path.{sym, _∙_}
+use borrow.Author.Tests.{eqb-true}
 use lib.Dec.{lit<, lit≤}
 use Rattle.codec.specs.Table.{table, fields}
 use Rattle.codec.proofs.Within.{too-low, too-high, none-bad}
@@ -12,6 +14,8 @@ unfolding table
 first-bad-spec =
     tie.close
     (tie.spec
+    (λ c κs. tt)
+    (λ c. sym (eqb-true _ 0 (sym (c .before .in-ranges .ensures) ∙ c .if1 .taken)))
     (λ c. omega arith)
     (λ c. too-low 0 (fields 3) _ 0 (omega arith) (lit< tt) (omega arith))
     (λ c. omega arith)

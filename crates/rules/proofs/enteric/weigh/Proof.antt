@@ -9,19 +9,22 @@ use Rattle.account.specs.Judge.{inPlace, first, accepted}
 use Rattle.account.proofs.Ranges.{enteric-in}
 use Rattle.account.proofs.Told.{head-most, days-most, sums-most, subtotal-most, small-ch4, tells-detail, told-in, Passes, passes, stops, refuses}
 use Rattle.account.proofs.Told.{accepts}
+use Rattle.rules.proofs.Places.{cattle-place}
 use Rattle.rules.proofs.enteric.weigh.Statement.{statement}
 use Rattle.rules.proofs.enteric.weigh.Tie as tie
 
 returns : tie.Need-returns
 unfolding inPlace
 returns c =
-    stops _ 3 _ _ _ _ (c .before .before .before .cattle-placed .ensures) (c .before .before .before .before .first-bad .ensures)
+    stops _ 3 _ _ _ _ (cattle-place _ (c .before .before .before .before .before .before .pre .0) _ (c .before .before .before .cattle-placed .ensures))
+    (c .before .before .before .before .first-bad .ensures)
     (c .before .before .barred .ensures) _ _ (c .before .if1 .taken) (c .stopped .ensures)
 
 passed : (c : tie.Else1) → Passes (c .before .before .before .before .before .args .a) 3 (c .before .before .before .before .before .args .t2)
 unfolding inPlace
 passed c =
-    passes _ 3 _ _ _ _ (c .before .before .cattle-placed .ensures) (c .before .before .before .first-bad .ensures) (c .before .barred .ensures)
+    passes _ 3 _ _ _ _ (cattle-place _ (c .before .before .before .before .before .pre .0) _ (c .before .before .cattle-placed .ensures))
+    (c .before .before .before .first-bad .ensures) (c .before .barred .ensures)
     (c .if1 .left)
 
 add-sum : tie.Need-add-sum

@@ -8,19 +8,22 @@ use Rattle.account.specs.Sorts.{sortOf}
 use Rattle.account.specs.Judge.{inPlace, first, accepted}
 use Rattle.account.proofs.Ranges.{grazing-in, grazing-fraction}
 use Rattle.account.proofs.Told.{head-most, sums-most, subtotal-most, small-grazing, tells-detail, told-in, Passes, passes, stops, refuses, accepts}
+use Rattle.rules.proofs.Places.{cattle-place}
 use Rattle.rules.proofs.grazing.weigh.Statement.{statement}
 use Rattle.rules.proofs.grazing.weigh.Tie as tie
 
 returns : tie.Need-returns
 unfolding inPlace
 returns c =
-    stops _ 10 _ _ _ _ (c .before .before .before .cattle-placed .ensures) (c .before .before .before .before .first-bad .ensures)
+    stops _ 10 _ _ _ _ (cattle-place _ (c .before .before .before .before .before .before .pre .0) _ (c .before .before .before .cattle-placed .ensures))
+    (c .before .before .before .before .first-bad .ensures)
     (c .before .before .barred .ensures) _ _ (c .before .if1 .taken) (c .stopped .ensures)
 
 passed : (c : tie.Else1) → Passes (c .before .before .before .before .before .args .a) 10 (c .before .before .before .before .before .args .t2)
 unfolding inPlace
 passed c =
-    passes _ 10 _ _ _ _ (c .before .before .cattle-placed .ensures) (c .before .before .before .first-bad .ensures) (c .before .barred .ensures)
+    passes _ 10 _ _ _ _ (cattle-place _ (c .before .before .before .before .before .pre .0) _ (c .before .before .cattle-placed .ensures))
+    (c .before .before .before .first-bad .ensures) (c .before .barred .ensures)
     (c .if1 .left)
 
 add-sum : tie.Need-add-sum

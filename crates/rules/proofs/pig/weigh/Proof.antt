@@ -9,19 +9,22 @@ use Rattle.account.specs.Judge.{inPlace, first, accepted}
 use Rattle.account.proofs.Ranges.{pig-days, pig-in, pig-parts}
 use Rattle.account.proofs.Told.{head-most, days-most, sums-most, subtotal-most, small-pig, tells-detail, told-in, Passes, passes, stops, refuses}
 use Rattle.account.proofs.Told.{accepts}
+use Rattle.rules.proofs.Places.{pig-place}
 use Rattle.rules.proofs.pig.weigh.Statement.{statement}
 use Rattle.rules.proofs.pig.weigh.Tie as tie
 
 returns : tie.Need-returns
 unfolding inPlace
 returns c =
-    stops _ 5 _ _ _ _ (c .before .before .before .pig-placed .ensures) (c .before .before .before .before .first-bad .ensures)
+    stops _ 5 _ _ _ _ (pig-place _ (c .before .before .before .before .before .before .pre .0) _ (c .before .before .before .pig-placed .ensures))
+    (c .before .before .before .before .first-bad .ensures)
     (c .before .before .barred .ensures) _ _ (c .before .if1 .taken) (c .stopped .ensures)
 
 passed : (c : tie.Else1) → Passes (c .before .before .before .before .before .args .a) 5 (c .before .before .before .before .before .args .t2)
 unfolding inPlace
 passed c =
-    passes _ 5 _ _ _ _ (c .before .before .pig-placed .ensures) (c .before .before .before .first-bad .ensures) (c .before .barred .ensures)
+    passes _ 5 _ _ _ _ (pig-place _ (c .before .before .before .before .before .pre .0) _ (c .before .before .pig-placed .ensures))
+    (c .before .before .before .first-bad .ensures) (c .before .barred .ensures)
     (c .if1 .left)
 
 add-sum : tie.Need-add-sum
