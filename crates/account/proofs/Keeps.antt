@@ -13,9 +13,10 @@ use Rattle.base.specs.Choice.{pick}
 use Rattle.base.proofs.Tests.{and-l, and-r, or-l, not-false, not-true, of-choice}
 use Rattle.codec.proofs.EachKind.{each-row, row-of-kind}
 use Rattle.codec.specs.declared.Field.{Field}
-use Rattle.codec.specs.Table.{table, fields, isRow, lineSize, totalSize, linesMost}
+use Rattle.codec.specs.Table.{table, fields, isRow}
 use Rattle.codec.specs.Codec.{firstBad}
 use Rattle.codec.proofs.Within.{bad-position}
+use Rattle.line_bytes.specs.Lines.{lineSize, totalSize, linesMost}
 use Rattle.grams.specs.Farm.{energyOf, soilOf}
 use Rattle.grams.specs.declared.farm.Factors.{Factors}
 use Rattle.grams.specs.Tillage.{tillageOf}

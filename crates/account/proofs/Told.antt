@@ -11,9 +11,10 @@ use lib.ListN.{length, length-append}
 use lib.Dec.{leb, eqb}
 use Rattle.base.specs.Choice.{pick}
 use Rattle.base.proofs.Tests.{not-false}
-use Rattle.codec.specs.Table.{fields, lengthOf, lineSize, totalSize, linesMost}
+use Rattle.codec.specs.Table.{fields, lengthOf}
 use Rattle.codec.specs.Codec.{valAt, valuesAt, firstBad}
-use Rattle.codec.proofs.Round.{line-length, total-length}
+use Rattle.line_bytes.specs.Lines.{lineSize, totalSize, linesMost}
+use Rattle.line_bytes.proofs.LineLaws.{line-length, total-length}
 use Rattle.grams.specs.Cattle.{belowZero, manureOf, CattleSmall, Nitrogen}
 use Rattle.grams.specs.Pig.{Manure}
 use Rattle.grams.specs.Units.{noCo2, Co2Within}

@@ -7,8 +7,8 @@ use native.Mathlib.Omega.{arith}
 use borrow.Author.Tests.{ne-eqb}
 use lib.ListN.{length, take}
 use lib.Seq.{sets, sets-eq, paste, paste-zero, take-all}
-use Rattle.codec.specs.Table.{lineSize, totalSize, linesMost}
 use Rattle.codec.proofs.Stores.{sets-append}
+use Rattle.line_bytes.specs.Lines.{lineSize, totalSize, linesMost}
 use Rattle.account.specs.declared.Judged.{Judged}
 use Rattle.account.specs.Line.{lineWith, totalWith, bytesOf}
 use Rattle.account.proofs.Told.{line-long, total-long, both-long}

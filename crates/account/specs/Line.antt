@@ -4,8 +4,7 @@ use Prim.Native.Nat.{ℕ}
 use mathlib.Core.List.{List, [], _∷_, _++_}
 use lib.Dec.{eqb}
 use Rattle.base.specs.Choice.{pick}
-use Rattle.codec.specs.Table.{lineSize, totalSize}
-use Rattle.codec.specs.Codec.{lineBytes, totalBytes}
+use Rattle.line_bytes.specs.Lines.{lineSize, totalSize, lineBytes, totalBytes}
 use Rattle.grams.specs.Units.{co2Word}
 use Rattle.grams.specs.Farm.{co2eOf}
 use Rattle.grams.specs.declared.units.Co2.{Co2}

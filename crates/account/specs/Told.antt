@@ -7,7 +7,7 @@ use mathlib.Core.Bool.{false}
 use lib.ListN.{length}
 use lib.Dec.{leb, eqb}
 use Rattle.base.specs.Choice.{pick}
-use Rattle.codec.specs.Table.{lineSize, totalSize, linesMost}
+use Rattle.line_bytes.specs.Lines.{lineSize, totalSize, linesMost}
 use Rattle.grams.specs.Units.{noCo2, Co2Within}
 use Rattle.account.specs.declared.Account.{Account}
 use Rattle.account.specs.declared.Days.{Days}

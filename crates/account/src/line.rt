@@ -9,7 +9,7 @@ ghost use mathlib.Core.Path.{_≡_};
 ghost use Prim.Native.Nat.{_+_, _≤_};
 ghost use lib.ListN.{length};
 ghost use lib.Seq.{sets, paste};
-ghost use Rattle.codec.specs.Table.{lineSize, totalSize};
+ghost use Rattle.line_bytes.specs.Lines.{lineSize, totalSize};
 ghost use Rattle.account.specs.Line.{lineWith, totalWith, bytesOf};
 ghost use Rattle.account.specs.Told.{noLine};
 
@@ -50,7 +50,7 @@ fn put_line(out: &mut [u8], w: usize, kind: u8, group: u16, f: Figures)
     let n2o = f.n2o.grams();
     let co2 = f.co2.word();
     let grazing = f.grazing.grams();
-    codec::lines::put_line(
+    line_bytes::put_line(
         out,
         w,
         kind,
@@ -72,7 +72,7 @@ fn put_total(out: &mut [u8], w: usize, f: Figures, co2e: Co2)
     let n2o = f.n2o.grams();
     let co2 = f.co2.word();
     let grazing = f.grazing.grams();
-    codec::lines::put_total(
+    line_bytes::put_total(
         out,
         w,
         f.ch4,
@@ -95,17 +95,17 @@ pub fn write(out: &mut [u8], w: usize, j: Judged)
         return;
     }
     let f = line.figures;
-    if line.given == codec::LINE_SIZE {
+    if line.given == line_bytes::LINE_SIZE {
         put_line(out, w, line.kind, line.group, f);
         return;
     }
     let account = j.account;
     let s = account.sums;
     let co2e = line.co2e;
-    if line.given == codec::TOTAL_SIZE {
+    if line.given == line_bytes::TOTAL_SIZE {
         put_total(out, w, s, co2e);
         return;
     }
     put_line(out, w, line.kind, line.group, f);
-    put_total(out, w + codec::LINE_SIZE, s, co2e);
+    put_total(out, w + line_bytes::LINE_SIZE, s, co2e);
 }

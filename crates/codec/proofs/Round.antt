@@ -9,13 +9,13 @@ use lib.Seq.{sets, take-all, length-take-le, take-add, drop-drop, drop-cons}
 use lib.Dec.{eqb}
 use Rattle.base.proofs.Tests.{of-choice}
 use Rattle.codec.specs.declared.Field.{Field}
-use Rattle.codec.specs.Table.{fields, rowVersion, rowKind, size, lengthOf, lineFields, totalFields, lineSize, totalSize}
-use Rattle.codec.specs.Codec.{bytesHold, valAt, be, valuesAt, bytesOf, firstBad, recordBytes, lineValues, lineBytes, totalValues, totalBytes}
+use Rattle.codec.specs.Table.{fields, rowVersion, rowKind, size, lengthOf}
+use Rattle.codec.specs.Codec.{bytesHold, valAt, be, valuesAt, bytesOf, firstBad, recordBytes}
 use Rattle.codec.specs.Codec.{Bytes, Fit}
 use Rattle.codec.proofs.BigEndian.{bytes-append, be-bytes, be-length, valAt-be, be-valAt}
 use Rattle.codec.proofs.Stores.{sets-at}
 use Rattle.codec.proofs.Values.{bytes-length, bytes-bytes}
-use Rattle.codec.proofs.Rows.{fit-kind, fit-line, fit-total, length-most, sizes, counts}
+use Rattle.codec.proofs.Rows.{fit-kind, length-most}
 
 -- ---- values, bytes, values
 
@@ -40,7 +40,7 @@ pub values-back : (fs : List Field) (vs p q : List ℕ) → Fit fs vs 0 → leng
 values-back fs vs p q f n = values-bytes fs vs 0 p q f (omega arith) ∙ take-all (length fs) vs (omega arith)
 
 -- with nothing before or behind them
-back : (fs : List Field) (vs : List ℕ) → Fit fs vs 0 → length vs ≡ length fs → valuesAt fs (bytesOf fs vs 0) 0 ≡ vs
+pub back : (fs : List Field) (vs : List ℕ) → Fit fs vs 0 → length vs ≡ length fs → valuesAt fs (bytesOf fs vs 0) 0 ≡ vs
 back fs vs f n = rw (append-nil (bytesOf fs vs 0)) at (values-back fs vs [] [] f n)
 
 -- in the slice that they were written to
@@ -67,7 +67,7 @@ encode-decode (f ∷ fs) s bs at h =
     rw (take-add w (size fs) (drop at s), drop-drop w at s, ← be-valAt s bs at w (omega arith), ← encode-decode fs s bs (at + w) (omega arith))
     (ap (λ k. be w (valAt s at w) ++ k) (shift fs (valAt s at w) (valuesAt fs s (at + w)) 0))
 
--- ---- whole records and lines
+-- ---- whole records
 
 -- length, version and kind: what stands before the fields
 start : ℕ → List ℕ
@@ -133,29 +133,3 @@ record-whole kind vs h =
       version-is = valAt-be 1 v (be 2 (lengthOf kind)) (be 1 k ++ fs) (omega (arith, version-small kind));
       kind-is = valAt-be 1 k (be 2 (lengthOf kind) ++ be 1 v) fs (omega (arith, kind-small kind h));
     }
-
--- a line: how many bytes it has; its values, in the ranges of its row, written and read again
-module _ (kind group ch4 n2o co2 excreted land grazing : ℕ) where
-  pub line-length : length (lineBytes kind group ch4 n2o co2 excreted land grazing) ≡ lineSize
-  unfolding lineBytes
-  line-length = bytes-length lineFields (lineValues kind group ch4 n2o co2 excreted land grazing) 0 ∙ sizes .0
-
-  pub line-back : firstBad lineFields (lineValues kind group ch4 n2o co2 excreted land grazing) 0 ≡ 0
-      → valuesAt lineFields (lineBytes kind group ch4 n2o co2 excreted land grazing) 0 ≡ lineValues kind group ch4 n2o co2 excreted land grazing
-  unfolding lineBytes
-  line-back p =
-      back lineFields (lineValues kind group ch4 n2o co2 excreted land grazing) (fit-line (lineValues kind group ch4 n2o co2 excreted land grazing) p)
-      (counts .0)
-
--- and the close's
-module _ (ch4 n2o co2 excreted land grazing co2e : ℕ) where
-  pub total-length : length (totalBytes ch4 n2o co2 excreted land grazing co2e) ≡ totalSize
-  unfolding totalBytes
-  total-length = bytes-length totalFields (totalValues ch4 n2o co2 excreted land grazing co2e) 0 ∙ sizes .1
-
-  pub total-back : firstBad totalFields (totalValues ch4 n2o co2 excreted land grazing co2e) 0 ≡ 0
-      → valuesAt totalFields (totalBytes ch4 n2o co2 excreted land grazing co2e) 0 ≡ totalValues ch4 n2o co2 excreted land grazing co2e
-  unfolding totalBytes
-  total-back p =
-      back totalFields (totalValues ch4 n2o co2 excreted land grazing co2e) (fit-total (totalValues ch4 n2o co2 excreted land grazing co2e) p)
-      (counts .1)

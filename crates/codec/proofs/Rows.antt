@@ -1,4 +1,4 @@
--- What holds of the table itself: one test over all its rows and the two rows of lines, which antt computes.
+-- What holds of the table itself: one test over all its rows, which antt computes. A row that stands beside the table is tested alike.
 -- Assumes nothing.
 use mathlib.Core.Path.{_≡_, refl}
 use mathlib.Core.Bool.{Bool, true, false}
@@ -9,17 +9,17 @@ use lib.Dec.{T, leb, ltb, leb→le, ltb→lt}
 use lib.ListN.{length, getD}
 use Rattle.base.specs.Choice.{pick}
 use Rattle.codec.specs.declared.Field.{Field}
-use Rattle.codec.specs.Table.{table, fields, size, lengthOf, lengthMost, lineFields, totalFields, lineSize, totalSize}
+use Rattle.codec.specs.Table.{table, fields, size, lengthOf, lengthMost}
 use Rattle.codec.specs.Codec.{Fit, bytesHold, firstBad}
 use Rattle.codec.proofs.Within.{first-within}
 
 -- ---- the test
 
 -- the range is not empty, and its highest value fits the field's bytes
-right-field : Field → Bool
+unfoldable pub right-field : Field → Bool
 right-field f = pick (leb (f .1) (f .2)) (ltb (f .2) (bytesHold (f .0))) false
 
-right-row : List Field → Bool
+unfoldable pub right-row : List Field → Bool
 right-row [] = true
 right-row (f ∷ fs) = pick (right-field f) (right-row fs) false
 
@@ -32,19 +32,9 @@ every p [] = true
 every p (r ∷ t) = pick (p r) (every p t) false
 
 -- THE TEST: antt computes it
-checked : T (every right-row (lineFields ∷ totalFields ∷ table)) × T (every short-row table)
-unfolding right-field right-row short-row every table lineFields totalFields bytesHold size
+checked : T (every right-row table) × T (every short-row table)
+unfolding right-field right-row short-row every table bytesHold size
 checked = (tt, tt)
-
--- the rows of lines take as many bytes as a line has
-pub sizes : (size lineFields ≡ lineSize) × (size totalFields ≡ totalSize)
-unfolding lineFields totalFields size
-sizes = (refl, refl)
-
--- and have as many values
-pub counts : (10 ≡ length lineFields) × (11 ≡ length totalFields)
-unfolding lineFields totalFields
-counts = (refl, refl)
 
 -- the lengths of document 01, kinds 1 to 8, of change requests W7 and W10, kinds 9 and 10, and of W11
 pub lengths : map lengthOf (1 ∷ 2 ∷ 3 ∷ 4 ∷ 5 ∷ 6 ∷ 7 ∷ 8 ∷ 9 ∷ 10 ∷ 11 ∷ []) ≡ 9 ∷ 7 ∷ 10 ∷ 20 ∷ 26 ∷ 11 ∷ 6 ∷ 4 ∷ 11 ∷ 8 ∷ 12 ∷ []
@@ -67,16 +57,17 @@ row-at p e [] h k = e
 row-at p e (r ∷ t) h zero = both-left (p r) (every p t) h
 row-at p e (r ∷ t) h (suc k) = row-at p e t (both-right (p r) (every p t) h) k
 
-right-at : (k : ℕ) → T (right-row (getD (lineFields ∷ totalFields ∷ table) k []))
+right-at : (k : ℕ) → T (right-row (fields k))
 unfolding right-row
-right-at = row-at right-row tt (lineFields ∷ totalFields ∷ table) (checked .0)
+right-at = row-at right-row tt table (checked .0)
 
 -- no record has a higher length
 pub length-most : (kind : ℕ) → lengthOf kind ≤ lengthMost
 unfolding short-row size
 length-most kind = leb→le (lengthOf kind) lengthMost (row-at short-row tt table (checked .1) kind)
 
-fit-row : (fs : List Field) → T (right-row fs) → (vs : List ℕ) (i : ℕ) → firstBad fs vs i ≡ 0 → Fit fs vs i
+-- values in the ranges of a right row fit their bytes
+pub fit-row : (fs : List Field) → T (right-row fs) → (vs : List ℕ) (i : ℕ) → firstBad fs vs i ≡ 0 → Fit fs vs i
 unfolding right-row right-field
 fit-row [] t vs i p = tt
 fit-row (f ∷ fs) t vs i p =
@@ -87,13 +78,6 @@ fit-row (f ∷ fs) t vs i p =
       fit-row fs (both-right (right-field f) (right-row fs) t) vs (suc i) (o .1),
     )
 
-module _ (vs : List ℕ) where
-  -- values in the ranges of a kind, or of a line, fit their bytes
-  pub fit-kind : (kind : ℕ) → firstBad (fields kind) vs 0 ≡ 0 → Fit (fields kind) vs 0
-  fit-kind kind = fit-row (fields kind) (right-at (suc (suc kind))) vs 0
-
-  pub fit-line : firstBad lineFields vs 0 ≡ 0 → Fit lineFields vs 0
-  fit-line = fit-row lineFields (right-at 0) vs 0
-
-  pub fit-total : firstBad totalFields vs 0 ≡ 0 → Fit totalFields vs 0
-  fit-total = fit-row totalFields (right-at 1) vs 0
+-- and so do those of a kind
+pub fit-kind : (vs : List ℕ) (kind : ℕ) → firstBad (fields kind) vs 0 ≡ 0 → Fit (fields kind) vs 0
+fit-kind vs kind = fit-row (fields kind) (right-at kind) vs 0

@@ -1,11 +1,10 @@
--- The first enteric record of document 01's sample book, and its line, computed.
+-- The first enteric record of document 01's sample book, computed.
 -- Assumes nothing.
 use mathlib.Core.Path.{_≡_, refl}
-use mathlib.Core.List.{List, [], _∷_, _++_}
+use mathlib.Core.List.{List, [], _∷_}
 use Prim.Native.Nat.{ℕ}
-use lib.ListN.{replicate}
-use Rattle.codec.specs.Table.{table, fields, size, lineFields, subtotalKind}
-use Rattle.codec.specs.Codec.{valAt, be, valuesAt, bytesOf, firstBad, recordBytes, lineValues, lineBytes}
+use Rattle.codec.specs.Table.{table, fields, size}
+use Rattle.codec.specs.Codec.{valAt, be, valuesAt, bytesOf, firstBad, recordBytes}
 
 -- 000A0103001F00007530028A
 abbrev pub enteric : List ℕ
@@ -26,13 +25,3 @@ pub tested :
     ≡ 0 ∷ 1 ∷ 1 ∷ 3 ∷ []
 unfolding firstBad table
 tested = refl
-
--- 3 12 434501 0 0 0 0 0
-pub line : lineBytes 3 12 434501 0 0 0 0 0 ≡ (0 ∷ 52 ∷ 1 ∷ 3 ∷ 0 ∷ 12 ∷ 0 ∷ 0 ∷ 0 ∷ 0 ∷ 0 ∷ 6 ∷ 161 ∷ 69 ∷ []) ++ replicate 40 0
-unfolding lineBytes bytesOf lineFields be
-line = refl
-
--- a subtotal's values are in the ranges of its row
-pub subtotal : firstBad lineFields (lineValues subtotalKind 12 434501 0 0 0 0 0) 0 ≡ 0
-unfolding firstBad lineFields
-subtotal = refl

@@ -1,5 +1,5 @@
 -- Document 01, "The book": big-endian numbers, a record's values from its bytes, its bytes from its values, the first value out of
--- its range; and "Lines, calls and state": a line's bytes. All of it goes by the fields of specs/Table.antt.
+-- its range. All of it goes by the fields of specs/Table.antt.
 -- Assumes nothing.
 use Prim.Native.Nat.{ℕ, zero, suc, _+_, _*_, _/_, _%_, _<_}
 use mathlib.Core.List.{List, [], _∷_, _++_}
@@ -7,7 +7,7 @@ use lib.ListN.{getD}
 use lib.Dec.{leb}
 use Rattle.base.specs.Choice.{pick}
 use Rattle.codec.specs.declared.Field.{Field}
-use Rattle.codec.specs.Table.{fields, rowVersion, rowKind, lengthOf, lineFields, totalFields, lineSize, totalSize, isTotal}
+use Rattle.codec.specs.Table.{fields, rowVersion, rowKind, lengthOf}
 
 -- how many values w bytes can hold
 unfoldable pub bytesHold : ℕ → ℕ
@@ -52,25 +52,3 @@ Fit (f ∷ fs) vs i = (getD vs i 0 < bytesHold (f .0)) × Fit fs vs (suc i)
 -- a record of a row: its length, its version, its kind, its fields
 unfoldable pub recordBytes : ℕ → List ℕ → List ℕ
 recordBytes row vs = be 2 (lengthOf row) ++ (be 1 (rowVersion row) ++ (be 1 (rowKind row) ++ bytesOf (fields row) vs 0))
-
--- a line of a detail or a subtotal: length 52, version 1, kind, group, then the six figures
-abbrev pub lineValues : ℕ → ℕ → ℕ → ℕ → ℕ → ℕ → ℕ → ℕ → List ℕ
-lineValues kind group ch4 n2o co2 excreted land grazing = 52 ∷ 1 ∷ kind ∷ group ∷ ch4 ∷ n2o ∷ co2 ∷ excreted ∷ land ∷ grazing ∷ []
-
-unfoldable pub lineBytes : ℕ → ℕ → ℕ → ℕ → ℕ → ℕ → ℕ → ℕ → List ℕ
-lineBytes kind group ch4 n2o co2 excreted land grazing = bytesOf lineFields (lineValues kind group ch4 n2o co2 excreted land grazing) 0
-
--- the close's line: length 60, version 1, kind 8, group 0, the six sums, CO2e
-abbrev pub totalValues : ℕ → ℕ → ℕ → ℕ → ℕ → ℕ → ℕ → List ℕ
-totalValues ch4 n2o co2 excreted land grazing co2e = 60 ∷ 1 ∷ 8 ∷ 0 ∷ ch4 ∷ n2o ∷ co2 ∷ excreted ∷ land ∷ grazing ∷ co2e ∷ []
-
-unfoldable pub totalBytes : ℕ → ℕ → ℕ → ℕ → ℕ → ℕ → ℕ → List ℕ
-totalBytes ch4 n2o co2 excreted land grazing co2e = bytesOf totalFields (totalValues ch4 n2o co2 excreted land grazing co2e) 0
-
--- the bytes of the line at the front of xs
-abbrev pub frontSize : List ℕ → ℕ
-frontSize xs = pick (isTotal xs) totalSize lineSize
-
--- the fields of the line at the front of xs
-abbrev pub frontFields : List ℕ → List Field
-frontFields xs = pick (isTotal xs) totalFields lineFields

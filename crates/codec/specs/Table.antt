@@ -1,4 +1,4 @@
--- Document 01, "The book" (the table of the kinds) and "Lines, calls and state" (the two sorts of line), as data.
+-- Document 01, "The book": the table of the kinds, as data.
 -- Assumes nothing.
 use Prim.Native.Nat.{ℕ, _+_, _≤_}
 use mathlib.Core.Path.{_≡_}
@@ -96,57 +96,3 @@ lengthMost = 26
 
 abbrev pub recordMost : ℕ
 recordMost = 2 + lengthMost
-
--- a figure of a line: grams, or the word of signed grams
-abbrev pub figure : Field
-figure = field 8 0 18446744073709551615
-
--- the kind of a group's subtotal, a line that no record has the kind of
-abbrev pub subtotalKind : ℕ
-subtotalKind = 16
-
--- a line but the close's: length, version, kind, group, then CH4, N2O, CO2, excreted N, land N, CO2e of grazing
-unfoldable pub lineFields : List Field
-lineFields =
-    field 2 52 52
-    ∷ field 1 1 1
-    -- a detail's kind, 3 to 7, 9 or 10, or the subtotal's
-    ∷ field 1 3 subtotalKind
-    ∷ field 2 0 65535
-    ∷ figure
-    ∷ figure
-    ∷ figure
-    ∷ figure
-    ∷ figure
-    ∷ figure
-    ∷ []
-
--- the close's line: length, version, kind 8, group 0, the six sums, CO2e
-unfoldable pub totalFields : List Field
-totalFields =
-    field 2 60 60
-    ∷ field 1 1 1
-    ∷ field 1 8 8
-    ∷ field 2 0 0
-    ∷ figure
-    ∷ figure
-    ∷ figure
-    ∷ figure
-    ∷ figure
-    ∷ figure
-    ∷ figure
-    ∷ []
-
--- the bytes of a line, those of the close's line, and the most that one record gives: a subtotal and the close's line
-abbrev pub lineSize : ℕ
-lineSize = 54
-
-abbrev pub totalSize : ℕ
-totalSize = 62
-
-abbrev pub linesMost : ℕ
-linesMost = lineSize + totalSize
-
--- the line at the front of some bytes is the close's: its kind is 8
-abbrev pub isTotal : List ℕ → Bool
-isTotal xs = eqb (getD xs 3 0) 8

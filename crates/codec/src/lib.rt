@@ -1,6 +1,6 @@
-// Values and bytes of records and lines: the fields are those of specs/Table.antt. What a record means is not known here.
+// Values and bytes of records: the fields are those of specs/Table.antt. What a record means is not known here.
 pub mod numbers; // numbers.rt: big-endian numbers
-mod start; // start.rt: what every record and every line begins with
+pub mod start; // start.rt: what every record and every line begins with
 
 // A file for each kind: its values from its bytes, the first value out of its range, its bytes from its values.
 pub mod cattle;
@@ -15,7 +15,6 @@ pub mod pig;
 pub mod soil;
 pub mod tillage;
 pub mod kinds; // kinds.rt: how many values and bytes each kind has
-pub mod lines; // lines.rt: a line from its figures, and its numbers from its bytes
 
 // The highest kind, and the last row of the table, which is the farm record of version 2.
 pub const LAST_KIND: u64 = 10;
@@ -26,13 +25,6 @@ pub const LAST_ROW: u64 = 11;
 pub const LENGTH_MOST: u64 = 26;
 
 pub const RECORD_MOST: usize = 28;
-
-// The bytes of a line, of the close's line, and the most that one record gives: a subtotal and the close's line.
-pub const LINE_SIZE: usize = 54;
-
-pub const TOTAL_SIZE: usize = 62;
-
-pub const LINES_MOST: usize = 116;
 
 // A field: how many bytes it has, its lowest and its highest value.
 pub struct Field(pub usize, pub u64, pub u64);

@@ -18,7 +18,7 @@ pub(crate) fn put_versioned(out: &mut [u8], at: usize, len: u64, version: u64, k
 }
 
 // The same with version 1.
-pub(crate) fn put_start(out: &mut [u8], at: usize, len: u64, kind: u64)
+pub fn put_start(out: &mut [u8], at: usize, len: u64, kind: u64)
     requires { ⌜ at + 4 ≤ length (now out) ⌝ }
     ensures { λ _. ⌜ now (out .exit) ≡ sets (sets (sets (now (out .entry)) at (be 2 len)) (at + 2) (be 1 1)) (at + 3) (be 1 kind) ⌝ }
 {

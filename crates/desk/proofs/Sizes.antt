@@ -9,7 +9,7 @@ use Rattle.base.proofs.Tests.{lt-or-ge}
 use Rattle.account.specs.declared.Account.{Account}
 use Rattle.account.specs.Judge.{judge, noRecord}
 use Rattle.account.specs.Line.{joined}
-use Rattle.codec.specs.Table.{linesMost}
+use Rattle.line_bytes.specs.Lines.{linesMost}
 use Rattle.account.proofs.Counts.{judge-counts}
 use Rattle.account.proofs.Keeps.{in-range-none}
 use Rattle.book.specs.declared.State.{State}

@@ -8,8 +8,9 @@ use mathlib.Core.Bool.{Bool, _&&_}
 use lib.ListN.{length, getD, take}
 use lib.Dec.{eqb}
 use Rattle.codec.specs.declared.Field.{Field}
-use Rattle.codec.specs.Table.{field, figure}
+use Rattle.codec.specs.Table.{field}
 use Rattle.codec.specs.Codec.{valuesAt, bytesOf}
+use Rattle.line_bytes.specs.Lines.{figure}
 use Rattle.grams.specs.Units.{co2Word, co2OfWord, gramsN2o, gramsGrazed}
 use Rattle.grams.specs.declared.farm.Factors.{Factors}
 use Rattle.account.specs.declared.Heading.{Heading}

@@ -10,8 +10,8 @@ use lib.Seq.{drop-drop, take-append-seam}
 use lib.Dec.{ltb}
 use Rattle.base.specs.Signed.{signedOf}
 use Rattle.base.proofs.Tests.{of-choice}
-use Rattle.codec.specs.Table.{lineFields, totalFields, lineSize, totalSize, isTotal}
-use Rattle.codec.specs.Codec.{valuesAt, frontSize}
+use Rattle.codec.specs.Codec.{valuesAt}
+use Rattle.line_bytes.specs.Lines.{lineFields, totalFields, lineSize, totalSize, isTotal, frontSize}
 use Rattle.account.specs.declared.Account.{Account}
 use Rattle.book.specs.declared.State.{State}
 use Rattle.book.specs.declared.Fed.{Fed}

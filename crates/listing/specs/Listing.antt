@@ -10,7 +10,8 @@ use lib.ListN.{length, take, drop}
 use lib.Dec.{ltb, leb, eqb}
 use Rattle.base.specs.Choice.{pick}
 use Rattle.base.specs.Signed.{signedOf}
-use Rattle.codec.specs.Codec.{valuesAt, frontSize, frontFields}
+use Rattle.codec.specs.Codec.{valuesAt}
+use Rattle.line_bytes.specs.Lines.{frontSize, frontFields}
 use Rattle.printing.specs.Ascii.{ascii}
 use Rattle.printing.specs.Decimal.{decimal, signed, numbersLine, Put}
 use Rattle.account.specs.declared.Account.{Account}

@@ -12,9 +12,10 @@ use lib.Dec.{ltb, leb, eqb}
 use lib.ListN.{length, replicate, length-replicate}
 use Rattle.base.specs.Choice.{pick}
 use Rattle.base.proofs.Tests.{and-false, or-cases}
-use Rattle.codec.specs.Table.{fields, lengthOf, Of, lastKind, isKind, linesMost}
+use Rattle.codec.specs.Table.{fields, lengthOf, Of, lastKind, isKind}
 use Rattle.codec.specs.Codec.{valAt, recordBytes, Fit}
 use Rattle.codec.proofs.Rows.{fit-kind}
+use Rattle.line_bytes.specs.Lines.{linesMost}
 use Rattle.account.specs.declared.Refusal.{Refusal}
 use Rattle.account.specs.Judge.{kindByte, kindOf, wrongVersion, wrongKind, wrongLength, first, judge, weigh}
 use Rattle.book.specs.declared.State.{State}

@@ -12,11 +12,12 @@ use lib.Dec.{leb}
 use lib.ListN.{length, getD, take}
 use lib.Seq.{take-all, take-length}
 use Rattle.base.proofs.Tests.{and-l, and-r, lt-or-ge}
-use Rattle.codec.specs.Table.{table, fields, size, lengthOf, rowVersion, rowKind, Of, lastRow, linesMost}
+use Rattle.codec.specs.Table.{table, fields, size, lengthOf, rowVersion, rowKind, Of, lastRow}
 use Rattle.codec.specs.Codec.{be, valuesAt, bytesOf, recordBytes, Fit}
 use Rattle.codec.proofs.BigEndian.{one-byte}
 use Rattle.codec.proofs.Rows.{length-most}
 use Rattle.codec.proofs.Round.{values-back, record-length, record-whole}
+use Rattle.line_bytes.specs.Lines.{linesMost}
 use Rattle.account.specs.declared.Account.{Account}
 use Rattle.account.specs.Judge.{WholeRecord, versionOf, kindByte, judge, weigh}
 use Rattle.account.specs.Line.{joined}

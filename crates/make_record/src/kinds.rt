@@ -72,17 +72,17 @@ pub(crate) fn weighed(a: Account, row: u64, v: &[u64]) -> Judged
     ensures { λ j. ⌜ Tells (weigh a row (now (v .entry))) j ⌝ }
 {
     match row {
-        1 => rules::farm::weigh(a, three_values(v), codec::LINES_MOST),
-        2 => rules::heading::weigh(a, three_values(v), codec::LINES_MOST),
-        3 => rules::enteric::weigh(a, three_values(v), codec::LINES_MOST),
-        4 => rules::cattle::weigh(a, nine_values(v), codec::LINES_MOST),
-        5 => rules::pig::weigh(a, twelve_values(v), codec::LINES_MOST),
-        6 => rules::energy::weigh(a, three_values(v), codec::LINES_MOST),
-        7 => rules::soil::weigh(a, one_value(v), codec::LINES_MOST),
-        8 => rules::close::weigh(a, one_value(v), codec::LINES_MOST),
-        9 => rules::tillage::weigh(a, five_values(v), codec::LINES_MOST),
-        10 => rules::grazing::weigh(a, four_values(v), codec::LINES_MOST),
-        _ => rules::farm_factors::weigh(a, four_values(v), codec::LINES_MOST),
+        1 => rules::farm::weigh(a, three_values(v), line_bytes::LINES_MOST),
+        2 => rules::heading::weigh(a, three_values(v), line_bytes::LINES_MOST),
+        3 => rules::enteric::weigh(a, three_values(v), line_bytes::LINES_MOST),
+        4 => rules::cattle::weigh(a, nine_values(v), line_bytes::LINES_MOST),
+        5 => rules::pig::weigh(a, twelve_values(v), line_bytes::LINES_MOST),
+        6 => rules::energy::weigh(a, three_values(v), line_bytes::LINES_MOST),
+        7 => rules::soil::weigh(a, one_value(v), line_bytes::LINES_MOST),
+        8 => rules::close::weigh(a, one_value(v), line_bytes::LINES_MOST),
+        9 => rules::tillage::weigh(a, five_values(v), line_bytes::LINES_MOST),
+        10 => rules::grazing::weigh(a, four_values(v), line_bytes::LINES_MOST),
+        _ => rules::farm_factors::weigh(a, four_values(v), line_bytes::LINES_MOST),
     }
 }
 

@@ -5,8 +5,9 @@ use Prim.Native.Nat.{ℕ}
 use mathlib.Core.Path.{_≡_, refl, ap}
 use mathlib.Core.List.{List, [], _∷_, _++_}
 use lib.ListN.{getD}
-use Rattle.codec.specs.Table.{table, size, lineFields, totalFields}
-use Rattle.codec.specs.Codec.{valAt, be, valuesAt, bytesOf, firstBad, recordBytes, lineBytes, totalBytes}
+use Rattle.codec.specs.Table.{table, size}
+use Rattle.codec.specs.Codec.{valAt, be, valuesAt, bytesOf, firstBad, recordBytes}
+use Rattle.line_bytes.specs.Lines.{lineFields, totalFields, lineBytes, totalBytes}
 use Rattle.grams.specs.Round.{roundDiv}
 use Rattle.grams.specs.Cattle as cattle
 use Rattle.grams.specs.Pig as pig

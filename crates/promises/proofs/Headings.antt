@@ -13,8 +13,9 @@ use lib.Dec.{eqb}
 use Rattle.base.specs.Choice.{pick}
 use Rattle.base.proofs.Tests.{lt-or-ge, not-false, of-choice}
 use Rattle.codec.proofs.EachKind.{row-most, row-of-kind}
-use Rattle.codec.specs.Table.{table, lineFields, totalFields, isRow}
-use Rattle.codec.specs.Codec.{valAt, be, valuesAt, bytesOf, lineBytes, totalBytes}
+use Rattle.codec.specs.Table.{table, isRow}
+use Rattle.codec.specs.Codec.{valAt, be, valuesAt, bytesOf}
+use Rattle.line_bytes.specs.Lines.{lineFields, totalFields, lineBytes, totalBytes}
 use Rattle.account.specs.declared.Account.{Account}
 use Rattle.account.specs.Sorts.{heads, ofGroup, sortOf}
 use Rattle.account.specs.Line.{lineWith, subtotals, totalOf}

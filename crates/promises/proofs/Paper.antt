@@ -8,8 +8,9 @@ use mathlib.Core.Bool.{false}
 use mathlib.Core.Logic.{inl}
 use lib.Dec.{T}
 use lib.ListN.{getD, take, drop}
-use Rattle.codec.specs.Table.{table, size, lineFields, totalFields}
-use Rattle.codec.specs.Codec.{valAt, be, valuesAt, bytesOf, firstBad, recordBytes, lineBytes, totalBytes}
+use Rattle.codec.specs.Table.{table, size}
+use Rattle.codec.specs.Codec.{valAt, be, valuesAt, bytesOf, firstBad, recordBytes}
+use Rattle.line_bytes.specs.Lines.{lineFields, totalFields, lineBytes, totalBytes}
 use Rattle.grams.specs.Round.{roundDiv}
 use Rattle.grams.specs.Cattle as cattle
 use Rattle.grams.specs.Pig as pig

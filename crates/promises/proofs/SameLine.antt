@@ -9,8 +9,9 @@ use lib.ListN.{length, drop}
 use lib.Seq.{take-append-seam, drop-append-seam}
 use Rattle.base.specs.Choice.{pick}
 use Rattle.base.proofs.Tests.{no-bool}
-use Rattle.codec.specs.Table.{table, size, lineFields, totalFields}
-use Rattle.codec.specs.Codec.{valAt, be, valuesAt, bytesOf, firstBad, lineBytes, totalBytes}
+use Rattle.codec.specs.Table.{table, size}
+use Rattle.codec.specs.Codec.{valAt, be, valuesAt, bytesOf, firstBad}
+use Rattle.line_bytes.specs.Lines.{lineFields, totalFields, lineBytes, totalBytes}
 use Rattle.grams.specs.Round.{roundDiv}
 use Rattle.grams.specs.Cattle as cattle
 use Rattle.grams.specs.Pig as pig

@@ -9,9 +9,9 @@ use native.Mathlib.Omega.{arith}
 use lib.ListN.{length, take, drop, length-drop}
 use lib.Dec.{eqb}
 use Rattle.base.proofs.Tests.{lt-or-ge, of-choice}
-use Rattle.codec.specs.Table.{lineFields, totalFields}
-use Rattle.codec.specs.Codec.{bytesHold, valAt, be, bytesOf, lineBytes, totalBytes}
+use Rattle.codec.specs.Codec.{bytesHold, valAt, be, bytesOf}
 use Rattle.codec.proofs.BigEndian.{valAt-be}
+use Rattle.line_bytes.specs.Lines.{lineFields, totalFields, lineBytes, totalBytes}
 use Rattle.grams.specs.declared.units.Co2.{Co2}
 use Rattle.account.specs.declared.Account.{Account}
 use Rattle.account.specs.declared.Figures.{Figures}

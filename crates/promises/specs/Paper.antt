@@ -3,7 +3,8 @@
 -- Assumes nothing.
 use Prim.Native.Nat.{ℕ, _-_}
 use mathlib.Core.List.{List, [], _∷_, _++_}
-use Rattle.codec.specs.Codec.{recordBytes, lineBytes, totalBytes}
+use Rattle.codec.specs.Codec.{recordBytes}
+use Rattle.line_bytes.specs.Lines.{lineBytes, totalBytes}
 use Rattle.grams.specs.Cattle as cattle
 use Rattle.grams.specs.Pig as pig
 use Rattle.grams.specs.declared.cattle.CattleRation.{CattleRation}

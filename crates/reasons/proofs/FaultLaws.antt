@@ -11,8 +11,9 @@ use lib.Dec.{ltb, leb, eqb}
 use lib.ListN.{length, getD}
 use Rattle.base.specs.Choice.{pick}
 use Rattle.base.proofs.Tests.{and-l, and-r, of-choice, no-bool, not-false, not-true}
-use Rattle.codec.specs.Table.{table, fields, linesMost, isRow}
+use Rattle.codec.specs.Table.{table, fields, isRow}
 use Rattle.codec.proofs.Within.{Within, ranges, bad-position}
+use Rattle.line_bytes.specs.Lines.{linesMost}
 use Rattle.account.specs.declared.Account.{Account}
 use Rattle.account.specs.declared.Judged.{Judged}
 use Rattle.account.specs.Sorts.{sortOf}

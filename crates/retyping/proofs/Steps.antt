@@ -16,9 +16,10 @@ use Rattle.printing.specs.Said.{Said}
 use Rattle.printing.proofs.Puts.{none, put-length, and-then}
 use Rattle.printing.specs.Ascii.{ascii}
 use Rattle.names.specs.Names.{kindName, sentence}
-use Rattle.codec.specs.Table.{table, fields, lengthOf, linesMost, isRow}
+use Rattle.codec.specs.Table.{table, fields, lengthOf, isRow}
 use Rattle.codec.specs.Codec.{valAt, valuesAt}
 use Rattle.codec.proofs.Values.{values-length}
+use Rattle.line_bytes.specs.Lines.{linesMost}
 use Rattle.account.specs.declared.Account.{Account}
 use Rattle.account.specs.Judge.{versionOf, kindByte, WholeRecord, kindOf, valuesOf, judge}
 use Rattle.codec.proofs.EachKind.{row-least, row-most, row-of-kind}

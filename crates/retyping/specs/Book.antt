@@ -9,7 +9,8 @@ use Rattle.base.specs.Choice.{pick}
 use Rattle.printing.specs.Ascii.{ascii}
 use Rattle.printing.specs.Decimal.{joined, Put}
 use Rattle.names.specs.Names.{sentence}
-use Rattle.codec.specs.Table.{lengthOf, lastRow, linesMost}
+use Rattle.codec.specs.Table.{lengthOf, lastRow}
+use Rattle.line_bytes.specs.Lines.{linesMost}
 use Rattle.account.specs.declared.Account.{Account}
 use Rattle.account.specs.declared.Refusal.{Refusal}
 use Rattle.account.specs.Judge.{kindOf, valuesOf, noRecord, judge}

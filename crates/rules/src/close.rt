@@ -13,7 +13,7 @@ ghost use mathlib.Core.Path.{_≡_};
 ghost use Prim.Native.Nat.{_<_};
 ghost use lib.Dec.{eqb};
 ghost use Rattle.base.specs.Choice.{pick};
-ghost use Rattle.codec.specs.Table.{totalSize, linesMost};
+ghost use Rattle.line_bytes.specs.Lines.{totalSize, linesMost};
 ghost use Rattle.grams.specs.Farm.{FactorsMost};
 ghost use Rattle.account.specs.Range.{AccountInRange, Bounded};
 ghost use Rattle.account.specs.Judge.{weigh};
@@ -24,9 +24,9 @@ fn closing_length(group: u16) -> usize
     ensures { λ r. ⌜ r ≡ pick (eqb group 0) totalSize linesMost ⌝ }
 {
     if group == 0 {
-        codec::TOTAL_SIZE
+        line_bytes::TOTAL_SIZE
     } else {
-        codec::LINES_MOST
+        line_bytes::LINES_MOST
     }
 }
 

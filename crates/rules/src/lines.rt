@@ -14,7 +14,7 @@ ghost use mathlib.Core.Path.{_≡_};
 ghost use Prim.Native.Nat.{_<_};
 ghost use lib.Dec.{eqb};
 ghost use Rattle.base.specs.Choice.{pick};
-ghost use Rattle.codec.specs.Table.{lineSize};
+ghost use Rattle.line_bytes.specs.Lines.{lineSize};
 ghost use Rattle.grams.specs.Units.{noCo2};
 ghost use Rattle.account.specs.Figures.{grouped, groupFigures};
 ghost use Rattle.account.specs.Range.{Bounded, Grouped};
@@ -57,13 +57,13 @@ pub(crate) fn detailed(
     ensures { λ r. ⌜ r ≡ inRoom room a (detailing a kind group days grazed subtotal f) ⌝ }
 {
     let line = Line {
-        given: codec::LINE_SIZE,
+        given: line_bytes::LINE_SIZE,
         kind: kind,
         group: group,
         figures: f,
         co2e: NO_CO2,
     };
-    if room < codec::LINE_SIZE {
+    if room < line_bytes::LINE_SIZE {
         return full(a, line);
     }
     let sums = a.sums;
@@ -107,7 +107,7 @@ pub(crate) fn group_line(group: u16, s: Subtotal) -> Line
     }
     let f = group_figures(s);
     Line {
-        given: codec::LINE_SIZE,
+        given: line_bytes::LINE_SIZE,
         kind: 16,
         group: group,
         figures: f,

@@ -11,7 +11,7 @@ use lib.ListN.{take, drop}
 use lib.Dec.{leb, eqb}
 use Rattle.base.specs.Choice.{pick}
 use Rattle.base.proofs.Tests.{or-left, or-right, lt-or-ge}
-use Rattle.codec.specs.Table.{linesMost}
+use Rattle.line_bytes.specs.Lines.{linesMost}
 use Rattle.account.specs.declared.Account.{Account}
 use Rattle.account.specs.declared.Judged.{Judged}
 use Rattle.account.specs.Judge.{Step, kindByte, first, judge}

@@ -2,7 +2,7 @@
 use crate::Reading;
 use base::first_of;
 use book::front::ready;
-use codec::LINES_MOST;
+use line_bytes::LINES_MOST;
 use rules::judge;
 ghost use mathlib.Core.Path.{_≡_};
 ghost use mathlib.Core.Bool.{not};

@@ -6,8 +6,8 @@ use lib.Dec.{eqb}
 use borrow.Author.Tests.{ne-eqb}
 use Rattle.base.specs.Choice.{pick}
 use Rattle.base.proofs.Tests.{by-test}
-use Rattle.codec.specs.Table.{lineFields, totalFields, lineSize, totalSize}
-use Rattle.codec.specs.Codec.{be, bytesOf, lineBytes, totalBytes}
+use Rattle.codec.specs.Codec.{be, bytesOf}
+use Rattle.line_bytes.specs.Lines.{lineFields, totalFields, lineSize, totalSize, lineBytes, totalBytes}
 use Rattle.sheets.specs.Rows.{columns, lengthOf, bytes, lineOf}
 
 -- a detail's line or a subtotal: its last column is empty

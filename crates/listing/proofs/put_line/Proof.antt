@@ -2,8 +2,7 @@ use mathlib.Core.Path.{_≡_}
 use native.Mathlib.Omega.{arith}
 use borrow.Author.Needs.{needs}
 use lib.ListN.{length}
-use Rattle.codec.specs.Table.{lineSize, totalSize}
-use Rattle.codec.specs.Codec.{frontSize}
+use Rattle.line_bytes.specs.Lines.{lineSize, totalSize, frontSize}
 use Rattle.listing.proofs.Lines.{size-total, numbers-total, size-detail, numbers-detail}
 use Rattle.listing.proofs.put_line.Statement.{statement}
 use Rattle.listing.proofs.put_line.Tie as tie

@@ -4,7 +4,7 @@ use mathlib.Core.Path.{ap}
 use native.Mathlib.Omega.{arith}
 use borrow.Author.Needs.{needs}
 use lib.ListN.{length, replicate, length-replicate, length-take}
-use Rattle.codec.specs.Table.{linesMost}
+use Rattle.line_bytes.specs.Lines.{linesMost}
 use Rattle.retyping.proofs.Steps.{all-read, first-read}
 use Rattle.retyping.proofs.read_piece.Statement.{statement}
 use Rattle.retyping.proofs.read_piece.Tie as tie

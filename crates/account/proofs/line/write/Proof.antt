@@ -6,7 +6,7 @@ use native.Mathlib.Omega.{arith}
 use borrow.Author.Needs.{needs}
 use lib.ListN.{length}
 use lib.Seq.{sets, length-sets}
-use Rattle.codec.specs.Table.{lineSize, linesMost}
+use Rattle.line_bytes.specs.Lines.{lineSize, linesMost}
 use Rattle.account.proofs.Written.{total, none-written, line-written, total-written, both-are, both-written}
 use Rattle.account.proofs.line.write.Statement.{statement}
 use Rattle.account.proofs.line.write.Tie as tie

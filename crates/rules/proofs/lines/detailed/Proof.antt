@@ -4,7 +4,7 @@ use mathlib.Core.Path.{refl, sym, _∙_}
 use borrow.Author.Needs.{needs}
 use borrow.Author.Tests.{le-leb}
 use Rattle.account.proofs.Told.{in-full}
-use Rattle.codec.specs.Table.{lineSize}
+use Rattle.line_bytes.specs.Lines.{lineSize}
 use Rattle.rules.proofs.lines.detailed.Statement.{statement}
 use Rattle.rules.proofs.lines.detailed.Tie as tie
 

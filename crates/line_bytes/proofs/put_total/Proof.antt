@@ -1,12 +1,11 @@
--- `codec::lines::put_total` meets its contract.
+-- `line_bytes::put_total` meets its contract.
 -- Assumes nothing.
 use mathlib.Core.Path.{refl}
-use Rattle.codec.specs.Table.{totalFields}
-use Rattle.codec.specs.Codec.{totalBytes}
+use Rattle.line_bytes.specs.Lines.{totalFields, totalBytes}
 use Rattle.codec.proofs.Stores.{bytes-stored}
 use native.Mathlib.Omega.{arith}
-use Rattle.codec.proofs.lines.put_total.Statement.{statement}
-use Rattle.codec.proofs.lines.put_total.Tie as tie
+use Rattle.line_bytes.proofs.put_total.Statement.{statement}
+use Rattle.line_bytes.proofs.put_total.Tie as tie
 
 pub put-total-spec : {M : Type 1} → statement M
 unfolding totalBytes totalFields

@@ -1,9 +1,9 @@
--- `codec::lines::put_figures` meets its contract: six numbers.
+-- `line_bytes::put_figures` meets its contract: six numbers.
 -- Assumes nothing.
 use mathlib.Core.Path.{refl}
 use native.Mathlib.Omega.{arith}
-use Rattle.codec.proofs.lines.put_figures.Statement.{statement}
-use Rattle.codec.proofs.lines.put_figures.Tie as tie
+use Rattle.line_bytes.proofs.put_figures.Statement.{statement}
+use Rattle.line_bytes.proofs.put_figures.Tie as tie
 
 pub put-figures-spec : {M : Type 1} → statement M
 put-figures-spec =

@@ -1,12 +1,11 @@
--- `codec::lines::put_line` meets its contract.
+-- `line_bytes::put_line` meets its contract.
 -- Assumes nothing.
 use mathlib.Core.Path.{refl}
-use Rattle.codec.specs.Table.{lineFields}
-use Rattle.codec.specs.Codec.{lineBytes}
+use Rattle.line_bytes.specs.Lines.{lineFields, lineBytes}
 use Rattle.codec.proofs.Stores.{bytes-stored}
 use native.Mathlib.Omega.{arith}
-use Rattle.codec.proofs.lines.put_line.Statement.{statement}
-use Rattle.codec.proofs.lines.put_line.Tie as tie
+use Rattle.line_bytes.proofs.put_line.Statement.{statement}
+use Rattle.line_bytes.proofs.put_line.Tie as tie
 
 pub put-line-spec : {M : Type 1} → statement M
 unfolding lineBytes lineFields

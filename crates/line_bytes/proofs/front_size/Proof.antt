@@ -1,9 +1,9 @@
--- `codec::lines::front_size` meets its contract.
+-- `line_bytes::front_size` meets its contract.
 -- Assumes nothing.
 use borrow.Author.Needs.{needs}
 use borrow.Author.Tests.{eq-eqb, ne-eqb}
-use Rattle.codec.proofs.lines.front_size.Statement.{statement}
-use Rattle.codec.proofs.lines.front_size.Tie as tie
+use Rattle.line_bytes.proofs.front_size.Statement.{statement}
+use Rattle.line_bytes.proofs.front_size.Tie as tie
 
 pub front-size-spec : {M : Type 1} → statement M
 front-size-spec =

@@ -1,18 +1,23 @@
-// A line from its figures, and its numbers from its bytes, held to its row of the table.
-use crate::LINE_SIZE;
-use crate::TOTAL_SIZE;
-use crate::numbers::be8;
-use crate::numbers::be16;
-use crate::numbers::be64;
-use crate::numbers::put2;
-use crate::numbers::put8;
-use crate::start::put_start;
+// A line's bytes from its figures, and its numbers from its bytes: the fields are those of specs/Lines.antt.
+use codec::numbers::be8;
+use codec::numbers::be16;
+use codec::numbers::be64;
+use codec::numbers::put2;
+use codec::numbers::put8;
+use codec::start::put_start;
 ghost use mathlib.Core.Path.{_≡_};
 ghost use Prim.Native.Nat.{_+_, _≤_};
 ghost use lib.ListN.{drop, length};
 ghost use lib.Seq.{sets};
-ghost use Rattle.codec.specs.Table.{lineFields, lineSize, totalFields, totalSize};
-ghost use Rattle.codec.specs.Codec.{be, frontSize, lineBytes, totalBytes, valuesAt};
+ghost use Rattle.codec.specs.Codec.{be, valuesAt};
+ghost use Rattle.line_bytes.specs.Lines.{lineFields, lineSize, totalFields, totalSize, frontSize, lineBytes, totalBytes};
+
+// The bytes of a line, of the close's line, and the most that one record gives: a subtotal and the close's line.
+pub const LINE_SIZE: usize = 54;
+
+pub const TOTAL_SIZE: usize = 62;
+
+pub const LINES_MOST: usize = 116;
 
 // The six figures of the line that begins at `at`.
 fn put_figures(

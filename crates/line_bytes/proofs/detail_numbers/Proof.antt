@@ -1,11 +1,11 @@
--- `codec::lines::detail_numbers` meets its contract: each value is what its call gave.
+-- `line_bytes::detail_numbers` meets its contract: each value is what its call gave.
 -- Assumes nothing.
 use native.Mathlib.Omega.{arith}
 use mathlib.Core.List.{[], _∷_}
-use Rattle.codec.specs.Table.{lineFields}
+use Rattle.line_bytes.specs.Lines.{lineFields}
 use Rattle.codec.specs.Codec.{valuesAt}
-use Rattle.codec.proofs.lines.detail_numbers.Statement.{statement}
-use Rattle.codec.proofs.lines.detail_numbers.Tie as tie
+use Rattle.line_bytes.proofs.detail_numbers.Statement.{statement}
+use Rattle.line_bytes.proofs.detail_numbers.Tie as tie
 
 pub detail-numbers-spec : {M : Type 1} → statement M
 unfolding lineFields valuesAt

@@ -1,11 +1,11 @@
--- `codec::lines::total_numbers` meets its contract: each value is what its call gave.
+-- `line_bytes::total_numbers` meets its contract: each value is what its call gave.
 -- Assumes nothing.
 use native.Mathlib.Omega.{arith}
 use mathlib.Core.List.{[], _∷_}
-use Rattle.codec.specs.Table.{totalFields}
+use Rattle.line_bytes.specs.Lines.{totalFields}
 use Rattle.codec.specs.Codec.{valuesAt}
-use Rattle.codec.proofs.lines.total_numbers.Statement.{statement}
-use Rattle.codec.proofs.lines.total_numbers.Tie as tie
+use Rattle.line_bytes.proofs.total_numbers.Statement.{statement}
+use Rattle.line_bytes.proofs.total_numbers.Tie as tie
 
 pub total-numbers-spec : {M : Type 1} → statement M
 unfolding totalFields valuesAt
