@@ -22,7 +22,8 @@ use Rattle.book.specs.Front.{front}
 use Rattle.book.specs.WholeRecords.{recordsBy, recordsOf}
 use Rattle.book.specs.State.{noRecordYet}
 use Rattle.book.specs.Run.{bookBy, book, run}
-use Rattle.promises.specs.Paper.{verdict, everyKind}
+use Rattle.promises.specs.Paper.{verdict}
+use Rattle.promises.specs.EveryKind.{everyKind}
 use Rattle.promises.proofs.Paper.{every-kind-closed}
 use Rattle.orders.specs.InOrder.{toFront, inOrder}
 use Rattle.orders.specs.AnyOrder.{Accepted, Details, bookOf, InAnyOrder}

@@ -30,7 +30,8 @@ use Rattle.book.specs.Run.{bookBy, book, run}
 use Rattle.book.specs.Call.{longest, answerOf, call}
 use Rattle.book.specs.Way.{way, Ended}
 use Rattle.promises.specs.Headings.{lastGroup, acceptedRecords}
-use Rattle.promises.specs.Paper.{verdictOf, paper, sample, sampleLines, fiveParts, everyKind, everyKindLines, credit, creditLines}
+use Rattle.promises.specs.Paper.{verdictOf, paper, sample, sampleLines, fiveParts, credit, creditLines}
+use Rattle.promises.specs.EveryKind.{everyKind, everyKindLines, everyKindVerdict}
 use Rattle.book.proofs.RunLeaves.{run-leaves}
 use Rattle.promises.proofs.StaysInRange.{new-in-range}
 
@@ -57,7 +58,7 @@ pub every-kind-lines : run noRecordYet everyKind .lines ≡ everyKindLines
 unfolding table size valAt be valuesAt firstBad bytesOf lineBytes totalBytes lineFields totalFields roundDiv cattle.entericOf cattle.belowZero cattle.manureOf pig.manureOf energyOf soilOf lessTillage lessOf pairOf steps expOf rateOf mgOf co2Of tillageOf pastureTable pastureFactor grazingOf co2eOf figuresOf first inPlace accepted sortOf judge front bookBy book run
 every-kind-lines = refl
 
-pub every-kind-closed : verdictOf (run noRecordYet everyKind .state .account) ≡ 2 ∷ 11 ∷ 0 ∷ 0 ∷ 0 ∷ []
+pub every-kind-closed : verdictOf (run noRecordYet everyKind .state .account) ≡ everyKindVerdict
 unfolding table size valAt valuesAt firstBad roundDiv cattle.belowZero first inPlace accepted sortOf judge front bookBy book run
 every-kind-closed = refl
 
