@@ -1,7 +1,65 @@
--- A book with every kind: its bytes, its lines and what it comes to.
+-- Every kind: both sides of its limits, exact halves of its figures, and a book with all of them, its bytes, its lines and what it comes to. A new
+-- kind is a case more here; what is its own stands in a file below.
 -- Assumes nothing.
 use Prim.Native.Nat.{ℕ}
 use mathlib.Core.List.{List, [], _∷_, _++_}
+use Rattle.grams.specs.Cases.{Row}
+use Rattle.promises.specs.Rows.{refused, farm, after}
+use Rattle.promises.specs.EveryKind.Farm.{farmLimits}
+use Rattle.promises.specs.EveryKind.FarmFactors.{farmFactorsLimits}
+use Rattle.promises.specs.EveryKind.Heading.{headingLimits}
+use Rattle.promises.specs.EveryKind.Enteric.{entericLimits, entericHalves}
+use Rattle.promises.specs.EveryKind.Cattle.{cattleLimits, cattleHalves}
+use Rattle.promises.specs.EveryKind.Pig.{pigLimits, pigHalves}
+use Rattle.promises.specs.EveryKind.Energy.{energyLimits, energyHalves}
+use Rattle.promises.specs.EveryKind.Soil.{soilLimits}
+use Rattle.promises.specs.EveryKind.Close.{closeLimits}
+use Rattle.promises.specs.EveryKind.Tillage.{tillageLimits, tillageHalves}
+use Rattle.promises.specs.EveryKind.Grazing.{grazingLimits, grazingHalves}
+pub mod Farm
+pub mod FarmFactors
+pub mod Heading
+pub mod Enteric
+pub mod Cattle
+pub mod Pig
+pub mod Energy
+pub mod Soil
+pub mod Close
+pub mod Tillage
+pub mod Grazing
+
+-- both sides of the limits of each kind
+abbrev pub everyKindLimits : List Row
+everyKindLimits =
+    farmLimits
+    ++ farmFactorsLimits
+    ++ headingLimits
+    ++ entericLimits
+    ++ cattleLimits
+    ++ pigLimits
+    ++ energyLimits
+    ++ soilLimits
+    ++ closeLimits
+    ++ tillageLimits
+    ++ grazingLimits
+
+-- the number behind the last kind is none (3); where the version is wrong too, that is told
+abbrev pub noKind : List Row
+noKind =
+    after farm (0 ∷ 6 ∷ 1 ∷ 11 ∷ 0 ∷ 0 ∷ 0 ∷ 10 ∷ []) (refused 1 3 0)
+    ∷ after [] (0 ∷ 4 ∷ 2 ∷ 11 ∷ 0 ∷ 0 ∷ []) (refused 0 2 0)
+    ∷ after [] (0 ∷ 4 ∷ 1 ∷ 11 ∷ 0 ∷ 0 ∷ []) (refused 0 3 0)
+    ∷ []
+
+-- exact halves of each kind's figures
+abbrev pub everyKindHalves : List Row
+everyKindHalves =
+    entericHalves
+    ++ cattleHalves
+    ++ pigHalves
+    ++ energyHalves
+    ++ tillageHalves
+    ++ grazingHalves
 
 -- a book with every kind, in set 2, with two groups: no figure is zero where the rules give one. Its bytes, record by record
 abbrev pub everyKind : List ℕ

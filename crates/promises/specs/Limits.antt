@@ -1,34 +1,14 @@
 -- Document 01, "The book" and "Refusal numbers", with document 02's kinds: both sides of every limit of refusals 1 to 12; of each field of each kind
--- the first and the last good value and the ones beyond, in a file for each kind; here what is no one kind's. A row has some records, what stands
--- behind them, and what the book comes to: by hand from the document, and the second program says the same.
+-- the first and the last good value and the ones beyond, in a file for each kind, below EveryKind; here what is no one kind's. A row has some
+-- records, what stands behind them, and what the book comes to: by hand from the document, and the second program says the same.
 -- Assumes nothing.
 use mathlib.Core.List.{List, [], _∷_, _++_}
 use Rattle.codec.specs.Codec.{recordBytes}
 use Rattle.grams.specs.Cases.{Row}
-use Rattle.promises.specs.Limits.Rows.{nothing, going, closed, refused, farm, cow, sow, after, from}
-use Rattle.promises.specs.Limits.Farm.{farmLimits}
-use Rattle.promises.specs.Limits.FarmFactors.{farmFactorsLimits}
-use Rattle.promises.specs.Limits.Heading.{headingLimits}
-use Rattle.promises.specs.Limits.Enteric.{enteric, entericLimits}
-use Rattle.promises.specs.Limits.Cattle.{nitrogen, cattleLimits}
-use Rattle.promises.specs.Limits.Pig.{pigLimits}
-use Rattle.promises.specs.Limits.Energy.{energyLimits}
-use Rattle.promises.specs.Limits.Soil.{soilLimits}
-use Rattle.promises.specs.Limits.Close.{closeLimits}
-use Rattle.promises.specs.Limits.Tillage.{tillageLimits}
-use Rattle.promises.specs.Limits.Grazing.{grazingLimits}
-pub mod Rows
-pub mod Farm
-pub mod FarmFactors
-pub mod Heading
-pub mod Enteric
-pub mod Cattle
-pub mod Pig
-pub mod Energy
-pub mod Soil
-pub mod Close
-pub mod Tillage
-pub mod Grazing
+use Rattle.promises.specs.Rows.{nothing, going, closed, refused, farm, cow, sow, after, from}
+use Rattle.promises.specs.EveryKind.{everyKindLimits, noKind}
+use Rattle.promises.specs.EveryKind.Enteric.{enteric}
+use Rattle.promises.specs.EveryKind.Cattle.{nitrogen}
 
 -- length, version and kind (1 to 3)
 abbrev pub lengthsAndKinds : List Row
@@ -58,9 +38,8 @@ lengthsAndKinds =
     ∷ after farm (0 ∷ 6 ∷ 1 ∷ 7 ∷ 0 ∷ 0 ∷ 0 ∷ 10 ∷ []) (going 2)
     ∷ after farm (0 ∷ 6 ∷ 2 ∷ 7 ∷ 0 ∷ 0 ∷ 0 ∷ 10 ∷ []) (refused 1 2 0)
     ∷ after farm (0 ∷ 6 ∷ 255 ∷ 7 ∷ 0 ∷ 0 ∷ 0 ∷ 10 ∷ []) (refused 1 2 0)
-    -- 3: kind not 1..10
+    -- 3: no kind, whatever kinds there are
     ∷ after farm (0 ∷ 6 ∷ 1 ∷ 0 ∷ 0 ∷ 0 ∷ 0 ∷ 10 ∷ []) (refused 1 3 0)
-    ∷ after farm (0 ∷ 6 ∷ 1 ∷ 11 ∷ 0 ∷ 0 ∷ 0 ∷ 10 ∷ []) (refused 1 3 0)
     ∷ after farm (0 ∷ 6 ∷ 1 ∷ 255 ∷ 0 ∷ 0 ∷ 0 ∷ 10 ∷ []) (refused 1 3 0)
     ∷ []
 
@@ -86,8 +65,6 @@ abbrev pub firstTold : List Row
 firstTold =
     -- each before the next, where a record breaks two
     after [] (0 ∷ 27 ∷ 2 ∷ []) (refused 0 1 0)
-    ∷ after [] (0 ∷ 4 ∷ 2 ∷ 11 ∷ 0 ∷ 0 ∷ []) (refused 0 2 0)
-    ∷ after [] (0 ∷ 4 ∷ 1 ∷ 11 ∷ 0 ∷ 0 ∷ []) (refused 0 3 0)
     ∷ after [] (0 ∷ 5 ∷ 1 ∷ 3 ∷ 0 ∷ 0 ∷ 0 ∷ []) (refused 0 4 0)
     ∷ after farm (enteric 0) (refused 1 6 0)
     ∷ after farm (recordBytes 1 (7 ∷ 1899 ∷ 3 ∷ [])) (refused 1 6 0)
@@ -104,17 +81,8 @@ firstTold =
 -- all of them
 abbrev pub limits : List Row
 limits =
-    farmLimits
-    ++ farmFactorsLimits
-    ++ headingLimits
-    ++ entericLimits
-    ++ cattleLimits
-    ++ pigLimits
-    ++ energyLimits
-    ++ soilLimits
-    ++ closeLimits
-    ++ tillageLimits
-    ++ grazingLimits
+    everyKindLimits
+    ++ noKind
     ++ lengthsAndKinds
     ++ placesAndDays
     ++ firstTold

@@ -1,9 +1,13 @@
--- What a row of the limits has: some records, what stands behind them, and what the book comes to.
+-- What the rows of the tables have: of limits some records, what stands behind them, and what the book comes to; of exact halves the figures of a
+-- record.
 -- Assumes nothing.
 use Prim.Native.Nat.{ℕ, _-_}
 use mathlib.Core.List.{List, [], _∷_, _++_}
 use lib.ListN.{replicate}
 use Rattle.grams.specs.Cases.{Row, row}
+use Rattle.grams.specs.Units.{co2Word}
+use Rattle.account.specs.declared.Figures.{Figures}
+use Rattle.account.specs.Figures.{figuresOf}
 use Rattle.account.specs.Judge.{noRecord}
 use Rattle.book.specs.State.{holding}
 use Rattle.book.specs.Run.{run}
@@ -68,3 +72,13 @@ from records bytes told =
     bytes
     .state .account))
     told
+
+-- ---- the figures of a record
+
+-- CH4, N2O, CO2 as a word, excreted and land nitrogen, CO2e of grazing
+abbrev pub shown : Figures → List ℕ
+shown f = f .ch4 ∷ f .n2o .0 ∷ co2Word (f .co2) ∷ f .excreted ∷ f .land ∷ f .grazing .0 ∷ []
+
+-- of a record of kind k with the values v under a heading of so many head
+abbrev pub given : ℕ → ℕ → List ℕ → List ℕ
+given head k v = shown (figuresOf (record { group = 1; class = 1; head = head }) k v)

@@ -1,9 +1,9 @@
--- An energy record: both sides of its limits.
+-- An energy record: both sides of its limits, and exact halves of its figures.
 -- Assumes nothing.
 use mathlib.Core.List.{List, [], _∷_}
 use Rattle.codec.specs.Codec.{recordBytes}
-use Rattle.grams.specs.Cases.{Row}
-use Rattle.promises.specs.Limits.Rows.{going, refused, farm, after, blank}
+use Rattle.grams.specs.Cases.{Row, row}
+use Rattle.promises.specs.Rows.{going, refused, farm, after, blank, given}
 
 abbrev pub energyLimits : List Row
 energyLimits =
@@ -25,4 +25,12 @@ energyLimits =
     ∷ after farm (blank 12 6) (refused 1 4 0)
     -- 6: not the first record
     ∷ after [] (recordBytes 6 (1 ∷ 20 ∷ 30 ∷ [])) (refused 0 6 0)
+    ∷ []
+
+-- exact halves
+abbrev pub energyHalves : List Row
+energyHalves =
+    -- energy: 0.5 and 1.5
+    row (given 1 6 (1 ∷ 5 ∷ 1 ∷ [])) (0 ∷ 0 ∷ 0 ∷ 0 ∷ 0 ∷ 0 ∷ [])
+    ∷ row (given 1 6 (1 ∷ 15 ∷ 1 ∷ [])) (0 ∷ 0 ∷ 2 ∷ 0 ∷ 0 ∷ 0 ∷ [])
     ∷ []

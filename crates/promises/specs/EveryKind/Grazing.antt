@@ -1,11 +1,11 @@
--- A grazing record: both sides of its limits.
+-- A grazing record: both sides of its limits, and exact halves of its figures.
 -- Assumes nothing.
 use Prim.Native.Nat.{ℕ}
 use mathlib.Core.List.{List, [], _∷_, _++_}
 use Rattle.codec.specs.Codec.{recordBytes}
-use Rattle.grams.specs.Cases.{Row}
-use Rattle.promises.specs.Limits.Rows.{going, closed, refused, farm, cow, sow, after, blank}
-use Rattle.promises.specs.Limits.Enteric.{enteric}
+use Rattle.grams.specs.Cases.{Row, row}
+use Rattle.promises.specs.Rows.{going, closed, refused, farm, cow, sow, after, blank, given}
+use Rattle.promises.specs.EveryKind.Enteric.{enteric}
 
 -- with this fraction
 abbrev pub grazing : ℕ → List ℕ
@@ -46,4 +46,12 @@ grazingLimits =
     ∷ after cow (grazing 10000 ++ grazing 10001) (refused 3 7 4)
     ∷ after cow (grazing 10000 ++ enteric 366 ++ recordBytes 2 (2 ∷ 3 ∷ 1 ∷ []) ++ grazing 10000) (going 6)
     ∷ after cow (grazing 10000 ++ recordBytes 8 (3 ∷ [])) (closed 4)
+    ∷ []
+
+-- exact halves
+abbrev pub grazingHalves : List Row
+grazingHalves =
+    -- grazing: 64.5 and 63.5
+    row (given 1 10 (5 ∷ 2 ∷ 1 ∷ 500 ∷ [])) (0 ∷ 0 ∷ 0 ∷ 0 ∷ 0 ∷ 64 ∷ [])
+    ∷ row (given 1 10 (6 ∷ 2 ∷ 1 ∷ 500 ∷ [])) (0 ∷ 0 ∷ 0 ∷ 0 ∷ 0 ∷ 64 ∷ [])
     ∷ []

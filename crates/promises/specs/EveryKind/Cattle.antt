@@ -1,10 +1,10 @@
--- A cattle nitrogen record: both sides of its limits.
+-- A cattle nitrogen record: both sides of its limits, and exact halves of its figures.
 -- Assumes nothing.
 use Prim.Native.Nat.{ℕ}
 use mathlib.Core.List.{List, [], _∷_, _++_}
 use Rattle.codec.specs.Codec.{recordBytes}
-use Rattle.grams.specs.Cases.{Row}
-use Rattle.promises.specs.Limits.Rows.{going, refused, farm, cow, after, blank}
+use Rattle.grams.specs.Cases.{Row, row}
+use Rattle.promises.specs.Rows.{going, refused, farm, cow, after, blank, given}
 
 -- of so many days
 abbrev pub nitrogen : ℕ → List ℕ
@@ -78,4 +78,21 @@ cattleLimits =
     ∷ after cow (recordBytes 4 (10 ∷ 675 ∷ 1 ∷ 0 ∷ 0 ∷ 4 ∷ 0 ∷ 0 ∷ 10000 ∷ [])) (going 3)
     ∷ after cow (recordBytes 4 (10 ∷ 52 ∷ 1 ∷ 53 ∷ 1 ∷ 0 ∷ 0 ∷ 0 ∷ 10000 ∷ [])) (refused 2 11 0)
     ∷ after cow (recordBytes 4 (10 ∷ 0 ∷ 4000 ∷ 0 ∷ 800 ∷ 1 ∷ 0 ∷ 0 ∷ 10000 ∷ [])) (refused 2 11 0)
+    ∷ []
+
+-- exact halves
+abbrev pub cattleHalves : List Row
+cattleHalves =
+    -- cattle excreted: 0.5 and 1.5
+    row (given 1 4 (1 ∷ 25 ∷ 125 ∷ 0 ∷ 0 ∷ 0 ∷ 0 ∷ 0 ∷ 10000 ∷ [])) (0 ∷ 0 ∷ 0 ∷ 0 ∷ 0 ∷ 0 ∷ [])
+    ∷ row (given 1 4 (1 ∷ 75 ∷ 125 ∷ 0 ∷ 0 ∷ 0 ∷ 0 ∷ 0 ∷ 10000 ∷ [])) (0 ∷ 0 ∷ 0 ∷ 2 ∷ 0 ∷ 0 ∷ [])
+    -- direct N2O: 434.5 and 1303.5
+    ∷ row (given 70 4 (1 ∷ 1250 ∷ 2500 ∷ 0 ∷ 0 ∷ 0 ∷ 8000 ∷ 2000 ∷ 0 ∷ [])) (0 ∷ 710 ∷ 0 ∷ 35000 ∷ 0 ∷ 0 ∷ [])
+    ∷ row (given 70 4 (3 ∷ 1250 ∷ 2500 ∷ 0 ∷ 0 ∷ 0 ∷ 8000 ∷ 2000 ∷ 0 ∷ [])) (0 ∷ 2132 ∷ 0 ∷ 105000 ∷ 0 ∷ 0 ∷ [])
+    -- indirect N2O: 60.5 and 181.5
+    ∷ row (given 14 4 (1 ∷ 1250 ∷ 2500 ∷ 0 ∷ 0 ∷ 0 ∷ 5000 ∷ 5000 ∷ 0 ∷ [])) (0 ∷ 147 ∷ 0 ∷ 7000 ∷ 0 ∷ 0 ∷ [])
+    ∷ row (given 14 4 (3 ∷ 1250 ∷ 2500 ∷ 0 ∷ 0 ∷ 0 ∷ 5000 ∷ 5000 ∷ 0 ∷ [])) (0 ∷ 443 ∷ 0 ∷ 21000 ∷ 0 ∷ 0 ∷ [])
+    -- both: 434.5 and 258.5, then 1303.5 and 775.5
+    ∷ row (given 70 4 (1 ∷ 1250 ∷ 2500 ∷ 0 ∷ 0 ∷ 0 ∷ 10000 ∷ 0 ∷ 0 ∷ [])) (0 ∷ 692 ∷ 0 ∷ 35000 ∷ 0 ∷ 0 ∷ [])
+    ∷ row (given 70 4 (3 ∷ 1250 ∷ 2500 ∷ 0 ∷ 0 ∷ 0 ∷ 10000 ∷ 0 ∷ 0 ∷ [])) (0 ∷ 2080 ∷ 0 ∷ 105000 ∷ 0 ∷ 0 ∷ [])
     ∷ []

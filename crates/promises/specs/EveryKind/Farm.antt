@@ -3,7 +3,7 @@
 use mathlib.Core.List.{List, [], _∷_}
 use Rattle.codec.specs.Codec.{recordBytes}
 use Rattle.grams.specs.Cases.{Row}
-use Rattle.promises.specs.Limits.Rows.{going, refused, farm, cow, after, blank}
+use Rattle.promises.specs.Rows.{going, refused, farm, cow, after, blank}
 
 abbrev pub farmLimits : List Row
 farmLimits =

@@ -4,7 +4,7 @@ use mathlib.Core.List.{List, [], _∷_}
 use lib.ListN.{replicate}
 use Rattle.codec.specs.Codec.{recordBytes}
 use Rattle.grams.specs.Cases.{Row}
-use Rattle.promises.specs.Limits.Rows.{going, refused, farm, after}
+use Rattle.promises.specs.Rows.{going, refused, farm, after}
 
 abbrev pub farmFactorsLimits : List Row
 farmFactorsLimits =

@@ -1,10 +1,10 @@
--- A pig record: both sides of its limits.
+-- A pig record: both sides of its limits, and exact halves of its figures.
 -- Assumes nothing.
 use Prim.Native.Nat.{ℕ}
 use mathlib.Core.List.{List, [], _∷_, _++_}
 use Rattle.codec.specs.Codec.{recordBytes}
-use Rattle.grams.specs.Cases.{Row}
-use Rattle.promises.specs.Limits.Rows.{going, refused, farm, sow, after, blank}
+use Rattle.grams.specs.Cases.{Row, row}
+use Rattle.promises.specs.Rows.{going, refused, farm, sow, after, blank, given}
 
 -- of so many days
 abbrev pub pig : ℕ → List ℕ
@@ -83,4 +83,27 @@ pigLimits =
     ∷ after sow (recordBytes 5 (10 ∷ 20 ∷ 30 ∷ 40 ∷ 50 ∷ 60 ∷ 70 ∷ 80 ∷ 1000 ∷ 100 ∷ 1 ∷ 120 ∷ [])) (refused 2 10 0)
     ∷ after sow (recordBytes 5 (10 ∷ 20 ∷ 30 ∷ 40 ∷ 50 ∷ 60 ∷ 70 ∷ 80 ∷ 0 ∷ 100 ∷ 1000 ∷ 120 ∷ [])) (going 3)
     ∷ after sow (recordBytes 5 (10 ∷ 20 ∷ 30 ∷ 40 ∷ 50 ∷ 60 ∷ 70 ∷ 80 ∷ 1 ∷ 100 ∷ 1000 ∷ 120 ∷ [])) (refused 2 10 0)
+    ∷ []
+
+-- exact halves
+abbrev pub pigHalves : List Row
+pigHalves =
+    -- pig V: 0.5 and 1.5
+    row (given 20000 5 (366 ∷ 1 ∷ 500 ∷ 1 ∷ 1000 ∷ 0 ∷ 0 ∷ 0 ∷ 0 ∷ 0 ∷ 0 ∷ 0 ∷ [])) (0 ∷ 0 ∷ 0 ∷ 0 ∷ 0 ∷ 0 ∷ [])
+    ∷ row (given 20000 5 (366 ∷ 3 ∷ 500 ∷ 1 ∷ 1000 ∷ 0 ∷ 0 ∷ 0 ∷ 0 ∷ 0 ∷ 0 ∷ 0 ∷ [])) (4708 ∷ 0 ∷ 0 ∷ 0 ∷ 0 ∷ 0 ∷ [])
+    -- pig CH4: 100.5 and 301.5
+    ∷ row (given 3125 5 (100 ∷ 1000 ∷ 1 ∷ 1 ∷ 1000 ∷ 0 ∷ 0 ∷ 0 ∷ 0 ∷ 0 ∷ 0 ∷ 0 ∷ [])) (100 ∷ 0 ∷ 0 ∷ 0 ∷ 0 ∷ 0 ∷ [])
+    ∷ row (given 3125 5 (300 ∷ 1000 ∷ 1 ∷ 1 ∷ 1000 ∷ 0 ∷ 0 ∷ 0 ∷ 0 ∷ 0 ∷ 0 ∷ 0 ∷ [])) (302 ∷ 0 ∷ 0 ∷ 0 ∷ 0 ∷ 0 ∷ [])
+    -- pig excreted: 10.5 and 3.5
+    ∷ row (given 1 5 (3 ∷ 1000 ∷ 0 ∷ 0 ∷ 0 ∷ 3125 ∷ 10 ∷ 0 ∷ 0 ∷ 0 ∷ 0 ∷ 0 ∷ [])) (0 ∷ 0 ∷ 0 ∷ 10 ∷ 10 ∷ 0 ∷ [])
+    ∷ row (given 1 5 (1 ∷ 1000 ∷ 0 ∷ 0 ∷ 0 ∷ 3125 ∷ 10 ∷ 0 ∷ 0 ∷ 0 ∷ 0 ∷ 0 ∷ [])) (0 ∷ 0 ∷ 0 ∷ 4 ∷ 4 ∷ 0 ∷ [])
+    -- pig direct N2O: 16.5 and 5.5
+    ∷ row (given 1 5 (1 ∷ 1000 ∷ 0 ∷ 0 ∷ 0 ∷ 3125 ∷ 1000 ∷ 3000 ∷ 0 ∷ 0 ∷ 0 ∷ 0 ∷ [])) (0 ∷ 16 ∷ 0 ∷ 350 ∷ 350 ∷ 0 ∷ [])
+    ∷ row (given 1 5 (1 ∷ 1000 ∷ 0 ∷ 0 ∷ 0 ∷ 3125 ∷ 1000 ∷ 1000 ∷ 0 ∷ 0 ∷ 0 ∷ 0 ∷ [])) (0 ∷ 6 ∷ 0 ∷ 350 ∷ 350 ∷ 0 ∷ [])
+    -- pig indirect N2O: 16.5 and 5.5
+    ∷ row (given 1 5 (1 ∷ 1000 ∷ 0 ∷ 0 ∷ 0 ∷ 3125 ∷ 1000 ∷ 0 ∷ 200 ∷ 10000 ∷ 100 ∷ 10000 ∷ [])) (0 ∷ 16 ∷ 0 ∷ 350 ∷ 245 ∷ 0 ∷ [])
+    ∷ row (given 1 5 (1 ∷ 1000 ∷ 0 ∷ 0 ∷ 0 ∷ 3125 ∷ 1000 ∷ 0 ∷ 100 ∷ 10000 ∷ 0 ∷ 0 ∷ [])) (0 ∷ 6 ∷ 0 ∷ 350 ∷ 315 ∷ 0 ∷ [])
+    -- pig land: 0.5 and 1.5
+    ∷ row (given 1 5 (1 ∷ 100 ∷ 0 ∷ 0 ∷ 0 ∷ 100 ∷ 1000 ∷ 0 ∷ 250 ∷ 0 ∷ 250 ∷ 0 ∷ [])) (0 ∷ 0 ∷ 0 ∷ 1 ∷ 0 ∷ 0 ∷ [])
+    ∷ row (given 3 5 (1 ∷ 100 ∷ 0 ∷ 0 ∷ 0 ∷ 100 ∷ 1000 ∷ 0 ∷ 250 ∷ 0 ∷ 250 ∷ 0 ∷ [])) (0 ∷ 0 ∷ 0 ∷ 3 ∷ 2 ∷ 0 ∷ [])
     ∷ []

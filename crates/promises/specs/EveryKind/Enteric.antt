@@ -1,10 +1,10 @@
--- An enteric record: both sides of its limits.
+-- An enteric record: both sides of its limits, and exact halves of its figures.
 -- Assumes nothing.
 use Prim.Native.Nat.{ℕ}
 use mathlib.Core.List.{List, [], _∷_, _++_}
 use Rattle.codec.specs.Codec.{recordBytes}
-use Rattle.grams.specs.Cases.{Row}
-use Rattle.promises.specs.Limits.Rows.{going, refused, farm, cow, after, blank}
+use Rattle.grams.specs.Cases.{Row, row}
+use Rattle.promises.specs.Rows.{going, refused, farm, cow, after, blank, given}
 
 -- of so many days
 abbrev pub enteric : ℕ → List ℕ
@@ -39,4 +39,12 @@ entericLimits =
     ∷ after cow (enteric 200 ++ enteric 166) (going 4)
     ∷ after cow (enteric 200 ++ enteric 167) (refused 3 9 0)
     ∷ after cow (enteric 366 ++ enteric 1) (refused 3 9 0)
+    ∷ []
+
+-- exact halves
+abbrev pub entericHalves : List Row
+entericHalves =
+    -- enteric CH4: 0.5 and 1.5
+    row (given 1 3 (1 ∷ 27825 ∷ 1 ∷ [])) (0 ∷ 0 ∷ 0 ∷ 0 ∷ 0 ∷ 0 ∷ [])
+    ∷ row (given 1 3 (1 ∷ 83475 ∷ 1 ∷ [])) (2 ∷ 0 ∷ 0 ∷ 0 ∷ 0 ∷ 0 ∷ [])
     ∷ []

@@ -1,9 +1,9 @@
--- A change of tillage: both sides of its limits.
+-- A change of tillage: both sides of its limits, and exact halves of its figures.
 -- Assumes nothing.
 use mathlib.Core.List.{List, [], _∷_}
 use Rattle.codec.specs.Codec.{recordBytes}
-use Rattle.grams.specs.Cases.{Row}
-use Rattle.promises.specs.Limits.Rows.{going, refused, farm, after, blank}
+use Rattle.grams.specs.Cases.{Row, row, above, below}
+use Rattle.promises.specs.Rows.{going, refused, farm, after, blank, given}
 
 abbrev pub tillageLimits : List Row
 tillageLimits =
@@ -36,4 +36,14 @@ tillageLimits =
     ∷ after farm (blank 12 9) (refused 1 4 0)
     -- 6: not the first record
     ∷ after [] (recordBytes 9 (1 ∷ 2 ∷ 3 ∷ 4 ∷ 5 ∷ [])) (refused 0 6 0)
+    ∷ []
+
+-- exact halves
+abbrev pub tillageHalves : List Row
+tillageHalves =
+    -- tillage: 82.5 and 247.5, below zero and above
+    row (given 1 9 (7 ∷ 3 ∷ 1 ∷ 1 ∷ 1 ∷ [])) (0 ∷ 0 ∷ below 82 ∷ 0 ∷ 0 ∷ 0 ∷ [])
+    ∷ row (given 1 9 (7 ∷ 3 ∷ 1 ∷ 1 ∷ 3 ∷ [])) (0 ∷ 0 ∷ below 248 ∷ 0 ∷ 0 ∷ 0 ∷ [])
+    ∷ row (given 1 9 (7 ∷ 3 ∷ 4 ∷ 1 ∷ 1 ∷ [])) (0 ∷ 0 ∷ above 82 ∷ 0 ∷ 0 ∷ 0 ∷ [])
+    ∷ row (given 1 9 (7 ∷ 3 ∷ 4 ∷ 1 ∷ 3 ∷ [])) (0 ∷ 0 ∷ above 248 ∷ 0 ∷ 0 ∷ 0 ∷ [])
     ∷ []
