@@ -147,13 +147,13 @@ pub within-range : (a : Account) → AccountInRange a → Within a
 within-range a f = record { days = days-most a f; fraction = f .grazed .most }
 
 -- with the values v of kind k none is over
-record Fits (d : Days) (g k : ℕ) (v : List ℕ) : Type 0 where
-  days : daysOver d k v ≡ false
-  grazed : grazedOver g k v ≡ false
+pub record Fits (d : Days) (g k : ℕ) (v : List ℕ) : Type 0 where
+  pub days : daysOver d k v ≡ false
+  pub grazed : grazedOver g k v ≡ false
 
 -- so it is exactly where the sums with them are within
 module _ (d : Days) (g k : ℕ) (v : List ℕ) where
-  fits-within : RunningMost d g → Fits d g k v → RunningMost (daysAfter d k v) (grazedAfter g k v)
+  pub fits-within : RunningMost d g → Fits d g k v → RunningMost (daysAfter d k v) (grazedAfter g k v)
   fits-within w f =
       record {
         days = record {

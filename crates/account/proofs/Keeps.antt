@@ -3,43 +3,40 @@
 use Prim.Native.Nat.{ℕ, zero, suc, _+_, _≤_, _<_}
 use mathlib.Core.Path.{_≡_, refl}
 use mathlib.Core.List.{List, [], _∷_, _++_, append-nil}
-use mathlib.Core.Bool.{Bool, true, false, _&&_, not}
+use mathlib.Core.Bool.{Bool, true, false, _&&_, _||_, not}
 use mathlib.Core.Logic.{_⊎_, inl, inr, ⊎-elim}
 use native.Mathlib.Omega.{arith}
-use borrow.Author.Tests.{leb-true, ltb-false, eqb-true, eqb-false, eq-eqb, ne-eqb}
+use borrow.Author.Tests.{leb-true, eqb-true, eqb-false, eq-eqb, ne-eqb}
 use lib.ListN.{length, getD}
-use lib.Dec.{eqb}
+use lib.Dec.{eqb, leb}
 use Rattle.base.specs.Choice.{pick}
-use Rattle.base.proofs.Tests.{and-l, and-r, or-l, not-false, not-true, of-choice}
-use Rattle.codec.proofs.EachKind.{each-row, row-of-kind}
+use Rattle.base.proofs.Tests.{no-bool, and-l, and-r, or-l, or-r, not-false, not-true, of-choice}
+use Rattle.codec.proofs.EachKind.{row-of-kind}
 use Rattle.codec.specs.declared.Field.{Field}
 use Rattle.codec.specs.Table.{table, fields, isRow}
 use Rattle.codec.specs.Codec.{firstBad}
 use Rattle.codec.proofs.Within.{bad-position}
 use Rattle.line_bytes.specs.Lines.{lineSize, totalSize, linesMost}
-use Rattle.grams.specs.Farm.{energyOf, soilOf}
 use Rattle.grams.specs.declared.farm.Factors.{Factors}
-use Rattle.grams.specs.Tillage.{tillageOf}
-use Rattle.grams.proofs.Small.{enteric-small, cattle-excreted-small, cattle-n2o-small, pig-ch4-small, pig-n2o-small, pig-excreted-small}
-use Rattle.grams.proofs.Small.{pig-land-small, energy-small, soil-small, tillage-small, grazing-small}
 use Rattle.account.specs.declared.Account.{Account}
 use Rattle.account.specs.declared.Days.{Days}
 use Rattle.account.specs.declared.Figures.{Figures}
 use Rattle.account.specs.declared.Subtotal.{Subtotal}
-use Rattle.account.specs.Sorts.{isFarm, sortOf}
+use Rattle.account.specs.Sorts.{isFarm, heads, ofGroup, ofFarm, sortOf}
 use Rattle.account.specs.Figures.{figuresOf, grouped, groupFigures}
 use Rattle.account.specs.Line.{joined, lineWith, lineOf, subtotals, totalOf}
 use Rattle.account.specs.Range.{FactorIn, Headed, Unheaded, Grouped, Ungrouped, Unrefused, GrazedIn, AccountInRange}
 use Rattle.account.specs.Judge.{versionOf, kindByte, kindOf, valuesOf, noRecord, refused, opened, underHeading, withDetail, closed}
-use Rattle.account.specs.Judge.{headingServes, inPlace, refusals}
+use Rattle.account.specs.Judge.{farmFactors, headingServes, inPlace, daysAfter, grazedAfter, partsWrong, refusals, withLine}
 use Rattle.account.specs.Judge.{first, ValuesPass, Step, accepted, judge}
 use Rattle.account.specs.Told.{Small}
-use Rattle.account.proofs.Sorts.{by-sort}
-use Rattle.account.proofs.Sums as sums
-use Rattle.account.proofs.Sums.{ch4-small, co2-small, cattle-small, pig-small, bounded-none, bounded-next, bounded-added, grouped-none}
+use Rattle.account.proofs.Sorts.{by-sort, sort-farm, heads-two, of-group, not-of-group}
+use Rattle.account.proofs.Sums.{bounded-none, bounded-next, bounded-added, grouped-none}
 use Rattle.account.proofs.Sums.{ungrouped-none, grouped-next, grouped-added}
 use Rattle.account.proofs.Refusals.{passed, not-refused, refused-by, number-most}
-use Rattle.account.proofs.Ranges.{factors-in, heading-in, enteric-in, cattle-in, pig-in, energy-in, soil-in, tillage-in, grazing-in}
+use Rattle.account.proofs.Ranges.{factors-in, heading-in}
+use Rattle.account.proofs.Details.{DetailKind, RunningMost, within-range, fits-within}
+use Rattle.account.proofs.EachFigure.{figures-small}
 use Rattle.account.proofs.Told.{head-most, line-long, total-long, both-long}
 
 -- ---- an account in range
@@ -99,32 +96,19 @@ in-range-length a f = in-range-refused a 1 0 f (omega arith) (omega arith) (omeg
 -- ---- the refusals of a whole record
 
 -- no kind has more than 12 fields
-Short : List (List Field) → Type 0
-Short [] = Unit {0}
-Short (r ∷ t) = (length r ≤ 12) × Short t
+unfoldable allShort : List (List Field) → Bool
+allShort [] = true
+allShort (r ∷ t) = leb (length r) 12 && allShort t
 
-short-at : (t : List (List Field)) (k : ℕ) → Short t → length (getD t k []) ≤ 12
-unfolding Short
+short-at : (t : List (List Field)) (k : ℕ) → allShort t ≡ true → length (getD t k []) ≤ 12
+unfolding allShort
 short-at [] k s = omega arith
-short-at (r ∷ t) zero s = s .0
-short-at (r ∷ t) (suc k) s = short-at t k (s .1)
+short-at (r ∷ t) zero s = leb-true _ _ (and-l _ _ s)
+short-at (r ∷ t) (suc k) s = short-at t k (and-r (leb (length r) 12) _ s)
 
-row-short : (k : ℕ) → length (fields k) ≤ 12
-unfolding table Short
-row-short k =
-    short-at table k (
-      omega arith,
-      (
-        omega arith,
-        (
-          omega arith,
-          (
-            omega arith,
-            (omega arith, (omega arith, (omega arith, (omega arith, (omega arith, (omega arith, (omega arith, (omega arith, tt)))))))),
-          ),
-        ),
-      ),
-    )
+pub row-short : (k : ℕ) → length (fields k) ≤ 12
+unfolding table allShort
+row-short k = short-at table k refl
 
 -- 7 is the number only where a field is out of range
 seven-field : (a : Account) (r : List ℕ) → first (refusals a r) ≡ 7 → firstBad (fields (kindOf r)) (valuesOf r) 0 ≡ 0 → ⊥
@@ -134,6 +118,18 @@ seven-field a r e = eqb-false _ _ (not-true _ (refused-by a r 7 (omega arith) e 
 
 abbrev Kept : Step → Type 0
 Kept s = AccountInRange (s .account)
+
+-- a heading that serves a detail of the group has a class
+class-least : (k class : ℕ) → sortOf k ≡ ofGroup → headingServes class k ≡ true → 1 ≤ class
+class-least k class e = go (eqb k 3) (eqb k 4) (eqb k 5) (eqb k 10) (of-group k e)
+  where
+    go : (b c d e : Bool) → b || (c || (d || e)) ≡ true
+        → pick (b || (c || e)) (leb 1 class && leb class 3) (pick d (eqb class 4) true) ≡ true → 1 ≤ class
+    go true c d e g s = leb-true _ _ (and-l _ _ s)
+    go false true d e g s = leb-true _ _ (and-l _ _ s)
+    go false false d true g s = leb-true _ _ (and-l _ _ s)
+    go false false true false g s = let four = eqb-true class 4 s in omega arith
+    go false false false false g s = no-bool g
 
 module _ (a : Account) (f : AccountInRange a) (early : a .stage < 2) where
   not-three : a .stage ≡ 3 → ⊥
@@ -169,6 +165,16 @@ module _ (a : Account) (f : AccountInRange a) (early : a .stage < 2) where
         unrefused = λ e. zeros;
         grazed = f .grazed;
       }
+
+  -- a record that is not the first: its heading serves, and there is a record before it
+  placed : (k : ℕ) (v : List ℕ) → ValuesPass a k v → isFarm k ≡ false → headingServes (a .heading .class) k && not (eqb (a .records) 0) ≡ true
+  unfolding inPlace
+  placed k v c e = rw e at (passed a k v c .place)
+
+  after-first : (k : ℕ) (v : List ℕ) → ValuesPass a k v → isFarm k ≡ false → 1 ≤ a .records
+  after-first k v c e =
+      let n : a .records ≡ 0 → ⊥ = eqb-false _ _ (not-true _ (and-r (headingServes (a .heading .class) k) _ (placed k v c e))) in
+      omega arith
 
   -- from the second record on
   module _ (begun : 1 ≤ a .records) (room : a .records < 4096) where
@@ -292,102 +298,55 @@ module _ (a : Account) (f : AccountInRange a) (early : a .stage < 2) where
     in-range-farm g small =
         in-range-detail (a .days) (a .grazed) (a .subtotal) g small heading-on (grouped-next (f .grouped)) (f .ungrouped) (f .grazed)
 
-    -- ---- the details, kind by kind
+    -- ---- a detail, by its sort
 
-    module _ (v : List ℕ) where
-      detail-enteric : ValuesPass a 3 v → Kept (accepted a 3 v)
-      unfolding inPlace figuresOf accepted sortOf
-      detail-enteric c =
-          let i = enteric-in v (a .heading .head) (head-most a f) (passed a 3 v c .ranges) in
-          let h = headed-by (leb-true _ _ (and-l _ _ (and-l _ _ (passed a 3 v c .place)))) in
-          in-range-grouped _ _ _ (ch4-small _ (enteric-small i)) (f .grazed .most)
-          (headed-on h _ (ltb-false _ _ (c .days)) (h .nitrogen-most) (h .pig-most))
+    module _ (k : ℕ) (v : List ℕ) (c : ValuesPass a k v) (row : isRow k ≡ true) where
+      detail-small : DetailKind k → Small (figuresOf (a .heading) k v)
+      detail-small d = figures-small (a .heading) v (head-most a f) k row d (passed a k v c .ranges) (or-l _ _ (c .together))
 
-      detail-cattle : ValuesPass a 4 v → Kept (accepted a 4 v)
-      unfolding inPlace figuresOf accepted sortOf
-      detail-cattle c =
-          let i = cattle-in v (a .heading .head) (head-most a f) (passed a 4 v c .ranges) in
-          let h = headed-by (leb-true _ _ (and-l _ _ (and-l _ _ (passed a 4 v c .place)))) in
-          in-range-grouped _ _ _ (cattle-small _ (cattle-n2o-small i) (cattle-excreted-small i)) (f .grazed .most)
-          (headed-on h _ (h .enteric-most) (ltb-false _ _ (c .days)) (h .pig-most))
+      -- the days and the grazed fraction with it
+      running : RunningMost (daysAfter (a .days) k v) (grazedAfter (a .grazed) k v)
+      running =
+          fits-within (a .days) (a .grazed) k v (within-range a f) (record { days = c .days; grazed = or-r (partsWrong k v) _ (c .together) })
 
-      detail-pig : ValuesPass a 5 v → Kept (accepted a 5 v)
-      unfolding inPlace figuresOf accepted sortOf
-      detail-pig c =
-          let i = pig-in v (a .heading .head) (head-most a f) (passed a 5 v c .ranges) (ltb-false _ _ (or-l _ _ (c .together))) in
-          let four : a .heading .class ≡ 4 = eqb-true _ _ (and-l _ _ (passed a 5 v c .place)) in
-          let h = headed-by (omega arith) in
-          in-range-grouped _ _ _ (pig-small _ (pig-ch4-small i) (pig-n2o-small i) (pig-excreted-small i) (pig-land-small i)) (f .grazed .most)
-          (headed-on h _ (h .enteric-most) (h .nitrogen-most) (ltb-false _ _ (c .days)))
+      detail-of-group : sortOf k ≡ ofGroup → Kept (withLine a k v (grouped (a .subtotal) (figuresOf (a .heading) k v)))
+      detail-of-group e =
+          let h = headed-by (class-least k _ e (and-l (headingServes (a .heading .class) k) _ (placed k v c (rw e at (sort-farm k))))) in
+          in-range-grouped _ _ _ (detail-small (rw e refl)) (running .fraction)
+          (headed-on h _ (running .days .enteric) (running .days .nitrogen) (running .days .pig))
 
-      detail-grazing : ValuesPass a 10 v → Kept (accepted a 10 v)
-      unfolding inPlace figuresOf accepted sortOf
-      detail-grazing c =
-          let i = grazing-in v (a .heading .head) (head-most a f) (passed a 10 v c .ranges) in
-          let h = headed-by (leb-true _ _ (and-l _ _ (and-l _ _ (passed a 10 v c .place)))) in
-          in-range-grouped _ _ _ (sums.grazing-small _ (grazing-small i)) (ltb-false _ _ (c .together))
-          (headed-on h _ (h .enteric-most) (h .nitrogen-most) (h .pig-most))
+      detail-of-farm : sortOf k ≡ ofFarm → Kept (withLine a k v (a .subtotal))
+      detail-of-farm e =
+          let q = not-of-group k e in
+          rw (q .0, q .1 .0, q .1 .1 .0, q .1 .1 .1) (in-range-farm (figuresOf (a .heading) k v) (detail-small (rw e refl)))
 
-      detail-energy : ValuesPass a 6 v → Kept (accepted a 6 v)
-      unfolding figuresOf accepted sortOf
-      detail-energy c =
-          in-range-farm _ (co2-small (energyOf (getD v 1 0) (getD v 2 0)) (energy-small (energy-in v (passed a 6 v c .ranges))))
+  -- ---- by its sort
 
-      detail-soil : ValuesPass a 7 v → Kept (accepted a 7 v)
-      unfolding figuresOf accepted sortOf
-      detail-soil c =
-          in-range-farm _ (co2-small (soilOf (getD v 0 0)) (soil-small (soil-in v (passed a 7 v c .ranges))))
-
-      detail-tillage : ValuesPass a 9 v → Kept (accepted a 9 v)
-      unfolding figuresOf accepted sortOf
-      detail-tillage c =
-          in-range-farm _ (co2-small (tillageOf (getD v 0 0) (getD v 1 0) (getD v 2 0) (getD v 3 0) (getD v 4 0))
-          (tillage-small (tillage-in v (passed a 9 v c .ranges))))
-
-      kept-heading : ValuesPass a 2 v → Kept (accepted a 2 v)
-      unfolding accepted sortOf
-      kept-heading c =
-          let i = heading-in v (passed a 2 v c .ranges) in
-          in-range-heading _ _ _ (i .group-least) (i .group-most) (i .class-least) (i .class-most) (i .head-most)
-
-      kept-close : ValuesPass a 8 v → Kept (accepted a 8 v)
-      unfolding accepted sortOf
-      kept-close c = in-range-closed
-
-  -- ---- by its kind
-
-  kept-farm : (v : List ℕ) → ValuesPass a 1 v → Kept (accepted a 1 v)
-  unfolding inPlace accepted sortOf
-  kept-farm v c =
-      let empty = eqb-true _ _ (passed a 1 v c .place) in
-      of-choice (λ (w : Factors). AccountInRange (opened a w)) (eqb (getD v 2 0) 1)
-      (λ e. in-range-opened _ (omega arith) (omega arith) (omega arith) (omega arith) empty)
-      (λ e. in-range-opened _ (omega arith) (omega arith) (omega arith) (omega arith) empty)
-
-  kept-factors : (v : List ℕ) → ValuesPass a 11 v → Kept (accepted a 11 v)
-  unfolding inPlace accepted sortOf
-  kept-factors v c =
-      let i = factors-in v (passed a 11 v c .ranges) in
-      in-range-opened _ (i .ch4-least) (i .ch4-most) (i .n2o-least) (i .n2o-most) (eqb-true _ _ (passed a 11 v c .place))
-
-  after-first : (k : ℕ) (v : List ℕ) → ValuesPass a k v → isFarm k ≡ false → 1 ≤ a .records
+  kept-opens : (k : ℕ) (v : List ℕ) → ValuesPass a k v → isFarm k ≡ true → AccountInRange (opened a (farmFactors k v))
   unfolding inPlace
-  after-first k v c e =
-      let p : headingServes (a .heading .class) k && not (eqb (a .records) 0) ≡ true = rw e at (passed a k v c .place) in
-      let n : a .records ≡ 0 → ⊥ = eqb-false _ _ (not-true _ (and-r (headingServes (a .heading .class) k) _ p)) in
-      omega arith
+  kept-opens k v c e =
+      let empty = eqb-true _ _ (rw e at (passed a k v c .place)) in
+      of-choice (λ (w : Factors). AccountInRange (opened a w)) (eqb k 11)
+      (λ q. let i = factors-in v (rw (eqb-true k 11 q) at (passed a k v c .ranges)) in
+      in-range-opened _ (i .ch4-least) (i .ch4-most) (i .n2o-least) (i .n2o-most) empty)
+      (λ q. of-choice (λ (w : Factors). AccountInRange (opened a w)) (eqb (getD v 2 0) 1)
+      (λ e. in-range-opened _ (omega arith) (omega arith) (omega arith) (omega arith) empty)
+      (λ e. in-range-opened _ (omega arith) (omega arith) (omega arith) (omega arith) empty))
 
-  -- from the second record on
-  later : (k : ℕ) (v : List ℕ) → isFarm k ≡ false
-      → ((begun : 1 ≤ a .records) (room : a .records < 4096) (v : List ℕ) → ValuesPass a k v → Kept (accepted a k v))
-      → ValuesPass a k v → Kept (accepted a k v)
-  later k v e kept c = kept (after-first k v c e) (passed a k v c .room) v c
+  kept-heading : (k : ℕ) (v : List ℕ) → ValuesPass a k v → sortOf k ≡ heads → AccountInRange (underHeading a (getD v 0 0) (getD v 1 0) (getD v 2 0))
+  kept-heading k v c e =
+      let i = heading-in v (rw (heads-two k e) at (passed a k v c .ranges)) in
+      in-range-heading (after-first k v c (rw e at (sort-farm k))) (passed a k v c .room) _ _ _ (i .group-least) (i .group-most) (i .class-least)
+      (i .class-most) (i .head-most)
 
   pub in-range-accepted : (k : ℕ) (v : List ℕ) → ValuesPass a k v → isRow k ≡ true → Kept (accepted a k v)
-  in-range-accepted k v c both =
-      each-row (λ (n : ℕ). ValuesPass a n v → Kept (accepted a n v)) (kept-farm v) (later 2 v refl kept-heading) (later 3 v refl detail-enteric)
-      (later 4 v refl detail-cattle) (later 5 v refl detail-pig) (later 6 v refl detail-energy) (later 7 v refl detail-soil)
-      (later 8 v refl kept-close) (later 9 v refl detail-tillage) (later 10 v refl detail-grazing) (kept-factors v) k both c
+  unfolding accepted
+  in-range-accepted k v c row =
+      let begun : isFarm k ≡ false → 1 ≤ a .records = after-first k v c in
+      let room = passed a k v c .room in
+      by-sort Kept (sortOf k) (λ e. kept-opens k v c (rw e at (sort-farm k))) (λ e. kept-heading k v c e)
+      (λ e. detail-of-group (begun (rw e at (sort-farm k))) room k v c row e) (λ e. detail-of-farm (begun (rw e at (sort-farm k))) room k v c row e)
+      (λ e. in-range-closed (begun (rw e at (sort-farm k))) room)
 
 -- ---- a whole record
 

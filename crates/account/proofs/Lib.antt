@@ -8,6 +8,7 @@ pub mod Compares
 pub mod Written
 pub mod Clauses
 mod Shortcuts
-pub mod Keeps
 pub mod Details
+pub mod EachFigure
+pub mod Keeps
 pub mod Counts

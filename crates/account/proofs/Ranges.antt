@@ -1,6 +1,6 @@
--- Values in the ranges of their kind's fields are in the ranges that the arithmetic asks for.
+-- Values in the ranges of their kind's fields, one by one; what a farm record of version 2 and a heading store. Those of a detail: EachFigure.
 -- Assumes nothing.
-use Prim.Native.Nat.{ℕ, suc, _+_, _≤_}
+use Prim.Native.Nat.{ℕ, suc, _≤_}
 use mathlib.Core.Path.{_≡_}
 use mathlib.Core.List.{List, [], _∷_}
 use native.Mathlib.Omega.{arith}
@@ -9,12 +9,6 @@ use Rattle.codec.specs.declared.Field.{Field}
 use Rattle.codec.specs.Table.{table, fields}
 use Rattle.codec.specs.Codec.{firstBad}
 use Rattle.codec.proofs.Within.{Good, first-within}
-use Rattle.grams.specs.Cattle.{EntericIn, CattleIn}
-use Rattle.grams.specs.Pig.{PigIn}
-use Rattle.grams.specs.Farm.{EnergyIn, SoilIn}
-use Rattle.grams.specs.Tillage.{TillageIn}
-use Rattle.grams.specs.Grazing.{GrazingIn}
-use Rattle.account.specs.Figures.{cattleRation, pigRation}
 
 each-good : (fs : List Field) (vs : List ℕ) (i : ℕ) → firstBad fs vs i ≡ 0 → Good (length fs) fs vs i
 each-good [] vs i e = tt
@@ -47,94 +41,3 @@ unfolding table
 heading-in v e =
     let g = good 2 v e in
     record { group-least = omega arith; group-most = omega arith; class-least = omega arith; class-most = omega arith; head-most = omega arith }
-
--- what a detail's record asks of the arithmetic
-module _ (v : List ℕ) (head : ℕ) (h : head ≤ 20000) where
-  pub enteric-in : firstBad (fields 3) v 0 ≡ 0 → EntericIn (getD v 1 0) (getD v 2 0) head (getD v 0 0)
-  unfolding table
-  enteric-in e = let g = good 3 v e in record { ge-in = omega arith; ym-in = omega arith; head-in = h; days-in = omega arith }
-
-  pub cattle-in : firstBad (fields 4) v 0 ≡ 0 → CattleIn (cattleRation v) head
-  unfolding table
-  cattle-in e =
-      let g = good 4 v e in
-      record {
-        days-in = omega arith;
-        feed-in = omega arith;
-        protein-in = omega arith;
-        milk-in = omega arith;
-        milkprotein-in = omega arith;
-        gain-in = omega arith;
-        solid-in = omega arith;
-        liquid-in = omega arith;
-        head-in = h;
-      }
-
-  pub pig-in : firstBad (fields 5) v 0 ≡ 0 → getD v 8 0 + getD v 10 0 ≤ 1000 → PigIn (pigRation v) head
-  unfolding table
-  pig-in e p =
-      let g = good 5 v e in
-      record {
-        days-in = omega arith;
-        feed-in = omega arith;
-        vs-in = omega arith;
-        vsfactor-in = omega arith;
-        mcf-in = omega arith;
-        protein-in = omega arith;
-        nfactor-in = omega arith;
-        direct-in = omega arith;
-        volatilisedef-in = omega arith;
-        leachedef-in = omega arith;
-        parts-in = p;
-        head-in = h;
-      }
-
-pub pig-days : (v : List ℕ) → firstBad (fields 5) v 0 ≡ 0 → getD v 0 0 ≤ 366
-unfolding table
-pig-days v e = let g = good 5 v e in omega arith
-
-pub pig-parts : (v : List ℕ) → firstBad (fields 5) v 0 ≡ 0 → getD v 8 0 + getD v 10 0 ≤ 2000
-unfolding table
-pig-parts v e = let g = good 5 v e in omega arith
-
--- each share is 10000 at most
-pub cattle-shares : (v : List ℕ) → firstBad (fields 4) v 0 ≡ 0 → getD v 6 0 + getD v 7 0 + getD v 8 0 ≤ 30000
-unfolding table
-cattle-shares v e = let g = good 4 v e in omega arith
-
-pub energy-in : (v : List ℕ) → firstBad (fields 6) v 0 ≡ 0 → EnergyIn (getD v 1 0) (getD v 2 0)
-unfolding table
-energy-in v e = let g = good 6 v e in record { amount-in = omega arith; factor-in = omega arith }
-
-pub soil-in : (v : List ℕ) → firstBad (fields 7) v 0 ≡ 0 → SoilIn (getD v 0 0)
-unfolding table
-soil-in v e = let g = good 7 v e in record { area-in = omega arith }
-
-pub tillage-in : (v : List ℕ) → firstBad (fields 9) v 0 ≡ 0 → TillageIn (getD v 0 0) (getD v 1 0) (getD v 2 0) (getD v 3 0) (getD v 4 0)
-unfolding table
-tillage-in v e =
-    let g = good 9 v e in
-    record {
-      zone-in = (omega arith, omega arith);
-      texture-in = (omega arith, omega arith);
-      change-in = (omega arith, omega arith);
-      years-in = (omega arith, omega arith);
-      area-in = omega arith;
-    }
-
-pub grazing-in : (v : List ℕ) (head : ℕ) → head ≤ 20000 → firstBad (fields 10) v 0 ≡ 0
-    → GrazingIn (getD v 0 0) (getD v 1 0) (getD v 2 0) (getD v 3 0) head
-unfolding table
-grazing-in v head h e =
-    let g = good 10 v e in
-    record {
-      region-in = (omega arith, omega arith);
-      column-in = (omega arith, omega arith);
-      weight-in = omega arith;
-      fraction-in = omega arith;
-      head-in = h;
-    }
-
-pub grazing-fraction : (v : List ℕ) → firstBad (fields 10) v 0 ≡ 0 → getD v 3 0 ≤ 10000
-unfolding table
-grazing-fraction v e = let g = good 10 v e in omega arith

@@ -21,6 +21,18 @@ by-sort P ofGroup p q r t u = r refl
 by-sort P ofFarm p q r t u = t refl
 by-sort P closes p q r t u = u refl
 
+-- the farm records open, and no other
+pub sort-farm : (k : ℕ) → isFarm k ≡ bySort (sortOf k) true false false false false
+unfolding sortOf
+sort-farm k = go (isFarm k) (eqb k 2) (eqb k 3 || (eqb k 4 || (eqb k 5 || eqb k 10))) (eqb k 8)
+  where
+    go : (a b c d : Bool) → a ≡ bySort (pick a opens (pick b heads (pick c ofGroup (pick d closes ofFarm)))) true false false false false
+    go true b c d = refl
+    go false true c d = refl
+    go false false true d = refl
+    go false false false true = refl
+    go false false false false = refl
+
 -- only kind 2 heads
 pub heads-two : (k : ℕ) → sortOf k ≡ heads → k ≡ 2
 unfolding sortOf
@@ -37,6 +49,18 @@ heads-two k e = go (isFarm k) (eqb k 2) (eqb k 3 || (eqb k 4 || (eqb k 5 || eqb 
 pub other-kind : (k n : ℕ) → bySort (sortOf k) false false true true false ≡ true → bySort (sortOf n) false false true true false ≡ false
     → eqb k n ≡ false
 other-kind k n d e = by-test (eqb k n) (λ q. no-bool (sym e ∙ (rw (eqb-true k n q) at d))) (λ q. q)
+
+-- a detail of the group is of one of the group's kinds
+pub of-group : (k : ℕ) → sortOf k ≡ ofGroup → eqb k 3 || (eqb k 4 || (eqb k 5 || eqb k 10)) ≡ true
+unfolding sortOf
+of-group k e = go (isFarm k) (eqb k 2) (eqb k 3 || (eqb k 4 || (eqb k 5 || eqb k 10))) (eqb k 8) e
+  where
+    go : (a b c d : Bool) → pick a opens (pick b heads (pick c ofGroup (pick d closes ofFarm))) ≡ ofGroup → c ≡ true
+    go true b c d e = let z : _≡_ {A = ℕ} 0 1 = cc in absurd (omega arith)
+    go false true c d e = let z : _≡_ {A = ℕ} 0 1 = cc in absurd (omega arith)
+    go false false true d e = refl
+    go false false false true e = let z : _≡_ {A = ℕ} 0 1 = cc in absurd (omega arith)
+    go false false false false e = let z : _≡_ {A = ℕ} 0 1 = cc in absurd (omega arith)
 
 -- a detail of the farm is of none of the group's kinds
 pub not-of-group : (k : ℕ) → sortOf k ≡ ofFarm → (eqb k 3 ≡ false) × ((eqb k 4 ≡ false) × ((eqb k 5 ≡ false) × (eqb k 10 ≡ false)))

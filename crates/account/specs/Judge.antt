@@ -172,7 +172,7 @@ grazedAfter grazed k v = pick (eqb k 10) (grazed + getD v 3 0) grazed
 abbrev pub wrongVersion : List ℕ → Bool
 wrongVersion r = not (eqb (versionOf r) 1 || (eqb (versionOf r) 2 && eqb (kindByte r) 1))
 
--- 3: kind not 1..10
+-- 3: none of the kinds
 abbrev pub wrongKind : List ℕ → Bool
 wrongKind r = not (isKind (kindByte r))
 

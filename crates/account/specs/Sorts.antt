@@ -17,8 +17,8 @@ pub data Sort : Type 0 where
   ofFarm : Sort
   closes : Sort
 
--- the farm record, of either version, opens, a heading heads; enteric, cattle, pig and grazing records are the group's, energy, organic soil and
--- tillage the farm's; the close closes
+-- the farm record, of either version, opens, a heading heads; enteric, cattle, pig and grazing records are the group's; the close closes; all
+-- others are the farm's
 unfoldable pub sortOf : ℕ → Sort
 sortOf k =
     pick (isFarm k) opens

@@ -5,7 +5,7 @@ use native.Mathlib.Nat.{le-trans, mul-le-mul, add-zero, sub-le, add-sub-of-le, p
 use native.Mathlib.Omega.{arith}
 use lib.Dec.{lit≤}
 use Rattle.grams.specs.TillageTable.{PlaceIn, pairOf}
-use Rattle.grams.proofs.TillagePairs.{k-most}
+use Rattle.grams.proofs.tillage_table.Pairs.{k-most}
 use Rattle.enclosure.specs.PartialSums.{over, added, taken, rise, Enclosed}
 
 pub over-rise : (m j : ℕ) → over (m + j) ≡ over m * rise m j

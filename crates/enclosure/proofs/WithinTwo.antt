@@ -12,7 +12,7 @@ use Rattle.grams.specs.Round.{roundDiv}
 use Rattle.grams.specs.TillageTable.{PlaceIn, lessTillage, lessOf, pairOf}
 use Rattle.grams.specs.CarbonRate.{steps, expOf, rateOf, withSign, mgOf}
 use Rattle.grams.proofs.Places.{both, left, right, every, every-place, at-place}
-use Rattle.grams.proofs.Signs.{mg-amount}
+use Rattle.grams.proofs.tillage.Signs.{mg-amount}
 use Rattle.enclosure.specs.PartialSums.{over, unless, added, taken}
 use Rattle.enclosure.specs.WithinTwo.{Sum, upper, lower, Near, WithinTwo}
 

@@ -1,6 +1,6 @@
--- One answer: two answers that meet the contract of a public function are equal. The figures ask their ranges of their caller, who is the book
--- reader; what asks nothing says so first. The contracts are those of the source itself: Learnt is what a caller learns from a function's
--- `ensures`, Asked what its `requires` ask.
+-- One answer: two answers that meet the contract of a public function are equal. Here of the rounding and of grams, which all figures share; of a
+-- figure below its own module. The figures ask their ranges of their caller, who is the book reader; what asks nothing says so first. The contracts
+-- are those of the source itself: Learnt is what a caller learns from a function's `ensures`, Asked what its `requires` ask.
 -- Assumes nothing.
 use Prim.Native.Nat.{ℕ}
 use mathlib.Core.Bool.{Bool}
@@ -8,30 +8,12 @@ use mathlib.Core.Path.{_≡_, sym, _∙_}
 use contract.Lifetimes.{Lfts}
 use borrow.Fn.Kinds.{Dens, endedOf}
 use denote.Triple.Clauses.{AtExit}
-use Rattle.grams.specs.declared.cattle.CattleNitrogen.{CattleNitrogen}
-use Rattle.grams.specs.declared.pig.PigManure.{PigManure}
 use Rattle.grams.specs.declared.units.Co2.{Co2}
 use Rattle.grams.specs.declared.units.Grazed.{Grazed}
 use Rattle.grams.specs.declared.units.N2o.{N2o}
 use Rattle.grams.specs.declared.units.N2oN.{N2oN}
-use Rattle.grams.proofs.cattle.enteric.Kinds as methane
-use Rattle.grams.proofs.cattle.enteric.Reads as methane-contract
-use Rattle.grams.proofs.cattle.nitrogen.Kinds as nitrogen
-use Rattle.grams.proofs.cattle.nitrogen.Reads as nitrogen-contract
-use Rattle.grams.proofs.farm.co2e.Kinds as warmed
-use Rattle.grams.proofs.farm.co2e.Reads as warmed-contract
-use Rattle.grams.proofs.farm.energy.Kinds as fuel
-use Rattle.grams.proofs.farm.energy.Reads as fuel-contract
-use Rattle.grams.proofs.farm.soil.Kinds as ground
-use Rattle.grams.proofs.farm.soil.Reads as ground-contract
-use Rattle.grams.proofs.grazing.grazing.Kinds as grass
-use Rattle.grams.proofs.grazing.grazing.Reads as grass-contract
-use Rattle.grams.proofs.pig.manure.Kinds as pig
-use Rattle.grams.proofs.pig.manure.Reads as pig-contract
 use Rattle.grams.proofs.rounding.round_div.Kinds as division
 use Rattle.grams.proofs.rounding.round_div.Reads as division-contract
-use Rattle.grams.proofs.tillage.tillage.Kinds as ploughed
-use Rattle.grams.proofs.tillage.tillage.Reads as ploughed-contract
 use Rattle.grams.proofs.units.Co2.from_word.Kinds as told-air
 use Rattle.grams.proofs.units.Co2.from_word.Reads as told-air-contract
 use Rattle.grams.proofs.units.Co2.of.Kinds as air
@@ -172,41 +154,6 @@ pub one-round-div : (κs : Lfts 0) (args : Dens κs division.ps) (f g : ℕ) (e 
     → division-contract.Learnt κs args f e → division-contract.Learnt κs args g e′ → f ≡ g
 one-round-div κs args f g e e′ p q = p ∙ sym q
 
--- Enteric CH4.
-pub one-enteric : (κs : Lfts 0) (args : Dens κs methane.ps) (f g : ℕ) (e e′ : AtExit (endedOf 0 methane.ps methane.r) κs)
-    → methane-contract.Learnt κs args f e → methane-contract.Learnt κs args g e′ → f ≡ g
-one-enteric κs args f g e e′ p q = p .exact ∙ sym (q .exact)
-
--- Cattle nitrogen: X below zero, or excreted N and N2O.
-pub one-nitrogen : (κs : Lfts 0) (args : Dens κs nitrogen.ps) (f g : CattleNitrogen) (e e′ : AtExit (endedOf 0 nitrogen.ps nitrogen.r) κs)
-    → nitrogen-contract.Learnt κs args f e → nitrogen-contract.Learnt κs args g e′ → f ≡ g
-one-nitrogen κs args f g e e′ p q = p .exact ∙ sym (q .exact)
-
--- Pig manure: CH4, N2O, excreted and land N.
-pub one-manure : (κs : Lfts 0) (args : Dens κs pig.ps) (f g : PigManure) (e e′ : AtExit (endedOf 0 pig.ps pig.r) κs)
-    → pig-contract.Learnt κs args f e → pig-contract.Learnt κs args g e′ → f ≡ g
-one-manure κs args f g e e′ p q = p .exact ∙ sym (q .exact)
-
--- Energy CO2.
-pub one-energy : (κs : Lfts 0) (args : Dens κs fuel.ps) (f g : Co2) (e e′ : AtExit (endedOf 0 fuel.ps fuel.r) κs)
-    → fuel-contract.Learnt κs args f e → fuel-contract.Learnt κs args g e′ → f ≡ g
-one-energy κs args f g e e′ p q = p .exact ∙ sym (q .exact)
-
--- Organic soil CO2.
-pub one-soil : (κs : Lfts 0) (args : Dens κs ground.ps) (f g : Co2) (e e′ : AtExit (endedOf 0 ground.ps ground.r) κs)
-    → ground-contract.Learnt κs args f e → ground-contract.Learnt κs args g e′ → f ≡ g
-one-soil κs args f g e e′ p q = p .exact ∙ sym (q .exact)
-
--- Tillage CO2.
-pub one-tillage : (κs : Lfts 0) (args : Dens κs ploughed.ps) (f g : Co2) (e e′ : AtExit (endedOf 0 ploughed.ps ploughed.r) κs)
-    → ploughed-contract.Learnt κs args f e → ploughed-contract.Learnt κs args g e′ → f ≡ g
-one-tillage κs args f g e e′ p q = p .exact ∙ sym (q .exact)
-
--- CO2e.
-pub one-co2e : (κs : Lfts 0) (args : Dens κs warmed.ps) (f g : Co2) (e e′ : AtExit (endedOf 0 warmed.ps warmed.r) κs)
-    → warmed-contract.Learnt κs args f e → warmed-contract.Learnt κs args g e′ → f ≡ g
-one-co2e κs args f g e e′ p q = p ∙ sym q
-
 -- Grams as CO2e of grazing.
 pub one-grazed-of : (κs : Lfts 0) (args : Dens κs grazed.ps) (f g : Grazed) (e e′ : AtExit (endedOf 0 grazed.ps grazed.r) κs)
     → grazed-contract.Learnt κs args f e → grazed-contract.Learnt κs args g e′ → f ≡ g
@@ -226,8 +173,3 @@ one-grazed-grams κs args f g e e′ p q = p ∙ sym q
 pub one-grazed-plus : (κs : Lfts 0) (args : Dens κs grazed-sum.ps) (f g : Grazed) (e e′ : AtExit (endedOf 0 grazed-sum.ps grazed-sum.r) κs)
     → grazed-sum-contract.Learnt κs args f e → grazed-sum-contract.Learnt κs args g e′ → f ≡ g
 one-grazed-plus κs args f g e e′ p q = p ∙ sym q
-
--- Grazing.
-pub one-grazing : (κs : Lfts 0) (args : Dens κs grass.ps) (f g : Grazed) (e e′ : AtExit (endedOf 0 grass.ps grass.r) κs)
-    → grass-contract.Learnt κs args f e → grass-contract.Learnt κs args g e′ → f ≡ g
-one-grazing κs args f g e e′ p q = p .exact ∙ sym (q .exact)

@@ -6,6 +6,7 @@ use Rattle.grams.specs.Round.{roundDiv}
 use Rattle.grams.specs.Units.{gramsGrazed}
 use Rattle.grams.specs.Figure.{Pasture}
 use Rattle.grams.specs.declared.units.Grazed.{Grazed}
+pub mod Cases
 
 -- table 2.4.6 as printed, in hundredths of a tonne of CO2e for a tonne of live weight in a year: cows, heifers, calves
 unfoldable pub pastureTable : List (List ℕ)

@@ -8,6 +8,7 @@ use Rattle.grams.specs.TillageTable.{Pair, pairOf}
 use Rattle.grams.specs.CarbonRate.{withSign, mgOf}
 use Rattle.grams.specs.declared.units.Co2.{Co2}
 use Rattle.grams.specs.declared.tillage_table.Entry.{Entry}
+pub mod Cases
 
 -- the ranges of a tillage record
 pub record TillageIn (zone texture change years area : ℕ) : Type 0 where

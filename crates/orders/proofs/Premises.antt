@@ -8,22 +8,17 @@ use lib.ListN.{getD}
 use Rattle.codec.specs.Table.{table, size}
 use Rattle.codec.specs.Codec.{valAt, be, valuesAt, bytesOf, firstBad, recordBytes}
 use Rattle.line_bytes.specs.Lines.{lineFields, totalFields, lineBytes, totalBytes}
-use Rattle.grams.specs.Round.{roundDiv}
 use Rattle.grams.specs.Cattle as cattle
-use Rattle.grams.specs.Pig as pig
-use Rattle.grams.specs.Farm.{energyOf, soilOf, co2eOf}
-use Rattle.grams.specs.TillageTable.{lessTillage, lessOf, pairOf}
-use Rattle.grams.specs.CarbonRate.{steps, expOf, rateOf, mgOf}
-use Rattle.grams.specs.Tillage.{co2Of, tillageOf}
-use Rattle.grams.specs.Grazing.{pastureTable, pastureFactor, grazingOf}
-use Rattle.account.specs.Figures.{figuresOf}
+use Rattle.grams.specs.Farm.{co2eOf}
+use Rattle.account.proofs.EachFigure.{computed}
 use Rattle.account.specs.Sorts.{sortOf}
 use Rattle.account.specs.Judge.{first, inPlace, accepted, judge}
 use Rattle.book.specs.Front.{front}
 use Rattle.book.specs.WholeRecords.{recordsBy, recordsOf}
 use Rattle.book.specs.State.{noRecordYet}
 use Rattle.book.specs.Run.{bookBy, book, run}
-use Rattle.promises.specs.Paper.{verdict, everyKind}
+use Rattle.promises.specs.Paper.{verdict}
+use Rattle.promises.specs.EveryKind.{everyKind}
 use Rattle.promises.proofs.Paper.{every-kind-closed}
 use Rattle.orders.specs.InOrder.{toFront, inOrder}
 use Rattle.orders.specs.AnyOrder.{Accepted, Details, bookOf, InAnyOrder}
@@ -63,7 +58,7 @@ pig-moved = any-order cattleMoved pigBefore pigDetails pigBehind tillageFirst mo
 
 -- The lines of the book with both runs so, computed: those of the book with every kind, in the new order, with its subtotals and its total.
 pub moved-lines : run noRecordYet (bookOf pigBefore (inOrder tillageFirst pigDetails) pigBehind) .lines ≡ movedLines
-unfolding table size valAt be valuesAt firstBad bytesOf lineBytes totalBytes lineFields totalFields roundDiv cattle.entericOf cattle.belowZero cattle.manureOf pig.manureOf energyOf soilOf lessTillage lessOf pairOf steps expOf rateOf mgOf co2Of tillageOf pastureTable pastureFactor grazingOf co2eOf figuresOf first inPlace accepted sortOf judge front bookBy book run recordsBy recordsOf toFront inOrder
+unfolding table size valAt be valuesAt firstBad bytesOf lineBytes totalBytes lineFields totalFields cattle.belowZero computed co2eOf first inPlace accepted sortOf judge front bookBy book run recordsBy recordsOf toFront inOrder
 moved-lines = refl
 
 -- ---- two faults

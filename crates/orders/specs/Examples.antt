@@ -5,7 +5,8 @@ use Prim.Native.Nat.{ℕ}
 use mathlib.Core.List.{List, [], _∷_, _++_}
 use lib.ListN.{take, drop}
 use Rattle.book.specs.WholeRecords.{recordsOf}
-use Rattle.promises.specs.Paper.{opening, enteric, shares, everyKind, everyKindLines}
+use Rattle.promises.specs.Paper.{opening, enteric, shares}
+use Rattle.promises.specs.EveryKind.{everyKind, everyKindLines}
 use Rattle.orders.specs.InOrder.{inOrder}
 
 -- ---- every kind of detail

@@ -3,16 +3,8 @@
 use lib.Dec.{T}
 use Rattle.codec.specs.Table.{table, size}
 use Rattle.codec.specs.Codec.{valAt, be, valuesAt, bytesOf, firstBad, recordBytes}
-use Rattle.grams.specs.Round.{roundDiv}
 use Rattle.grams.specs.Cattle as cattle
-use Rattle.grams.specs.Pig as pig
-use Rattle.grams.specs.Farm.{energyOf, soilOf, co2eOf}
-use Rattle.grams.specs.TillageTable.{lessTillage, lessOf, pairOf}
-use Rattle.grams.specs.CarbonRate.{steps, expOf, rateOf, mgOf}
-use Rattle.grams.specs.Tillage.{co2Of, tillageOf}
-use Rattle.grams.specs.Grazing.{pastureTable, pastureFactor, grazingOf}
 use Rattle.grams.specs.Cases.{every}
-use Rattle.account.specs.Figures.{figuresOf}
 use Rattle.account.specs.Sorts.{sortOf}
 use Rattle.account.specs.Judge.{first, inPlace, accepted, judge}
 use Rattle.book.specs.Front.{front}
@@ -21,5 +13,5 @@ use Rattle.promises.specs.Limits.{limits}
 
 -- Refusals 1 to 12: each row of the tables comes to what document 01 says.
 pub both-sides : T (every limits)
-unfolding table size valAt be valuesAt bytesOf firstBad recordBytes roundDiv cattle.entericOf cattle.belowZero cattle.manureOf pig.manureOf energyOf soilOf lessTillage lessOf pairOf steps expOf rateOf mgOf co2Of tillageOf pastureTable pastureFactor grazingOf co2eOf figuresOf first inPlace accepted sortOf judge front bookBy book run
+unfolding table size valAt be valuesAt bytesOf firstBad recordBytes cattle.belowZero first inPlace accepted sortOf judge front bookBy book run
 both-sides = tt

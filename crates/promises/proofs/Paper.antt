@@ -15,10 +15,6 @@ use Rattle.grams.specs.Round.{roundDiv}
 use Rattle.grams.specs.Cattle as cattle
 use Rattle.grams.specs.Pig as pig
 use Rattle.grams.specs.Farm.{energyOf, soilOf, co2eOf}
-use Rattle.grams.specs.TillageTable.{lessTillage, lessOf, pairOf}
-use Rattle.grams.specs.CarbonRate.{steps, expOf, rateOf, mgOf}
-use Rattle.grams.specs.Tillage.{co2Of, tillageOf}
-use Rattle.grams.specs.Grazing.{pastureTable, pastureFactor, grazingOf}
 use Rattle.grams.specs.Cases.{every}
 use Rattle.account.specs.Figures.{figuresOf}
 use Rattle.account.specs.Range.{accountInRange}
@@ -31,7 +27,9 @@ use Rattle.book.specs.Run.{bookBy, book, run}
 use Rattle.book.specs.Call.{longest, answerOf, call}
 use Rattle.book.specs.Way.{way, Ended}
 use Rattle.promises.specs.Headings.{lastGroup, acceptedRecords}
-use Rattle.promises.specs.Paper.{verdictOf, paper, sample, sampleLines, fiveParts, everyKind, everyKindLines, credit, creditLines}
+use Rattle.promises.specs.Paper.{verdictOf, paper, sample, sampleLines, fiveParts, credit, creditLines}
+use Rattle.promises.specs.EveryKind.{everyKind, everyKindLines, everyKindVerdict}
+use Rattle.account.proofs.EachFigure.{computed}
 use Rattle.book.proofs.RunLeaves.{run-leaves}
 use Rattle.promises.proofs.StaysInRange.{new-in-range}
 
@@ -55,16 +53,16 @@ sample-left = refl
 
 -- The book with every kind is accepted and closed, and gives, byte for byte, the lines that the second program writes.
 pub every-kind-lines : run noRecordYet everyKind .lines ≡ everyKindLines
-unfolding table size valAt be valuesAt firstBad bytesOf lineBytes totalBytes lineFields totalFields roundDiv cattle.entericOf cattle.belowZero cattle.manureOf pig.manureOf energyOf soilOf lessTillage lessOf pairOf steps expOf rateOf mgOf co2Of tillageOf pastureTable pastureFactor grazingOf co2eOf figuresOf first inPlace accepted sortOf judge front bookBy book run
+unfolding table size valAt be valuesAt firstBad bytesOf lineBytes totalBytes lineFields totalFields cattle.belowZero computed co2eOf first inPlace accepted sortOf judge front bookBy book run
 every-kind-lines = refl
 
-pub every-kind-closed : verdictOf (run noRecordYet everyKind .state .account) ≡ 2 ∷ 11 ∷ 0 ∷ 0 ∷ 0 ∷ []
+pub every-kind-closed : verdictOf (run noRecordYet everyKind .state .account) ≡ everyKindVerdict
 unfolding table size valAt valuesAt firstBad roundDiv cattle.belowZero first inPlace accepted sortOf judge front bookBy book run
 every-kind-closed = refl
 
 -- A book may close below zero: the one with a change of tillage alone does, to the byte.
 pub credit-lines : run noRecordYet credit .lines ≡ creditLines
-unfolding table size valAt be valuesAt firstBad bytesOf lineBytes totalBytes lineFields totalFields roundDiv lessTillage lessOf pairOf steps expOf rateOf mgOf co2Of tillageOf pastureTable pastureFactor grazingOf co2eOf figuresOf first inPlace accepted sortOf judge front bookBy book run
+unfolding table size valAt be valuesAt firstBad bytesOf lineBytes totalBytes lineFields totalFields computed co2eOf first inPlace accepted sortOf judge front bookBy book run
 credit-lines = refl
 
 -- ---- the premises are met

@@ -20,11 +20,12 @@ use Rattle.grams.specs.declared.units.Co2.{Co2}
 use Rattle.account.specs.declared.Figures.{Figures}
 use Rattle.account.specs.declared.Subtotal.{Subtotal}
 use Rattle.account.specs.Sorts.{Sort, opens, heads, ofGroup, ofFarm, closes, sortOf, bySort}
-use Rattle.account.specs.Figures.{noFigures, noSubtotal, added, grouped, groupFigures, co2Alone, figuresOf}
+use Rattle.account.specs.Figures.{noFigures, noSubtotal, added, grouped, groupFigures, co2Alone}
 use Rattle.account.specs.Line.{lineWith, subtotals, totalOf}
 use Rattle.account.specs.Range.{Ungrouped, AccountInRange}
 use Rattle.account.specs.Judge.{kindOf, valuesOf, first, refusals, Step, accepted, judge}
-use Rattle.account.proofs.Sorts.{by-sort, not-of-group}
+use Rattle.account.proofs.Sorts.{by-sort}
+use Rattle.account.proofs.EachFigure.{of-farm}
 use Rattle.account.proofs.Keeps.{in-range-judge}
 use Rattle.book.specs.declared.State.{State}
 use Rattle.book.specs.Front.{Front, unfinished, badLength, whole, need, front}
@@ -210,11 +211,7 @@ module _ (a : Account) (r : List ℕ) (f : AccountInRange a) (x : Gas) where
 
   -- a detail of the farm gives CO2 alone
   air-alone : sortOf (kindOf r) ≡ ofFarm → x .farm (detailOf (a .heading) r) ≡ 0
-  unfolding figuresOf
-  air-alone e =
-      let n = not-of-group (kindOf r) e in
-      rw (n .0, n .1 .0, n .1 .1 .0, n .1 .1 .1) (of-choice Nothing (eqb (kindOf r) 6) (λ e. x .air _)
-      (λ e. of-choice Nothing (eqb (kindOf r) 7) (λ e. x .air _) (λ e. x .air _)))
+  air-alone e = of-farm Nothing (a .heading) (kindOf r) (valuesOf r) e (x .air)
 
   abbrev Balanced : Sort → Type 0
   Balanced s =

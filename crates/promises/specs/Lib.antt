@@ -2,6 +2,8 @@ pub mod Headings
 pub mod Taken
 pub mod Subtotals
 pub mod Paper
+pub mod Rows
+pub mod EveryKind
 pub mod Limits
 pub mod Halves
 pub mod Totals

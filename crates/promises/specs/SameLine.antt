@@ -12,7 +12,7 @@ use Rattle.book.specs.WholeRecords.{recordsOf}
 use Rattle.book.specs.State.{noRecordYet}
 use Rattle.book.specs.Run.{run}
 use Rattle.promises.specs.Headings.{acceptedRecords}
-use Rattle.promises.specs.Paper.{everyKind}
+use Rattle.promises.specs.EveryKind.{everyKind}
 use Rattle.promises.specs.WholeLines.{isHeading, headingFrom}
 
 -- the last heading record of rs, as its bytes; h where there is none

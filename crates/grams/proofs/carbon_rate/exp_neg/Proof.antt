@@ -5,7 +5,7 @@ use mathlib.Core.Path.{_≡_, sym, _∙_}
 use Prim.Native.Nat.{_≤_}
 use Rattle.grams.specs.CarbonRate.{scale, steps, expOf}
 use Rattle.grams.proofs.Bounds.{_⊗_, fits}
-use Rattle.grams.proofs.Steps.{turn, ended}
+use Rattle.grams.proofs.carbon_rate.Steps.{turn, ended}
 use Rattle.grams.proofs.carbon_rate.exp_neg.Statement.{statement}
 use Rattle.grams.proofs.carbon_rate.exp_neg.Tie as tie
 

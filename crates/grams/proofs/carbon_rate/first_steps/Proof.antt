@@ -4,7 +4,7 @@ use mathlib.Core.Path.{_≡_, refl, sym, _∙_}
 use Prim.Native.Nat.{_-_, _≤_}
 use Rattle.grams.specs.CarbonRate.{scale, steps, expOf}
 use Rattle.grams.proofs.Bounds.{_⊗_, fits}
-use Rattle.grams.proofs.Steps.{turn, less-than-all}
+use Rattle.grams.proofs.carbon_rate.Steps.{turn, less-than-all}
 use Rattle.grams.proofs.carbon_rate.first_steps.Statement.{statement}
 use Rattle.grams.proofs.carbon_rate.first_steps.Tie as tie
 

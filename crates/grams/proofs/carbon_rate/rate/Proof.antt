@@ -5,7 +5,7 @@ use Prim.Native.Nat.{ℕ, _-_, _*_, _^_, _≤_}
 use Rattle.grams.specs.Round.{roundDiv}
 use Rattle.grams.specs.CarbonRate.{scale, expOf, rateOf, RateIn}
 use Rattle.grams.proofs.Bounds.{_⊗_, less, fits, figure}
-use Rattle.grams.proofs.Parts.{rate-most}
+use Rattle.grams.proofs.carbon_rate.Small.{rate-most}
 use Rattle.grams.proofs.carbon_rate.rate.Statement.{statement}
 use Rattle.grams.proofs.carbon_rate.rate.Tie as tie
 

@@ -2,7 +2,7 @@
 use borrow.Author.Needs.{needs}
 use Rattle.grams.specs.Cattle.{entericOf}
 use Rattle.grams.proofs.Bounds.{_⊗_, fits, figure}
-use Rattle.grams.proofs.Small.{enteric-small}
+use Rattle.grams.proofs.cattle.Small.{enteric-small}
 use Rattle.grams.proofs.cattle.enteric.Statement.{statement}
 use Rattle.grams.proofs.cattle.enteric.Tie as tie
 

@@ -1,7 +1,7 @@
 -- `grams::cattle::excreted` meets its contract. Assumes nothing.
 use borrow.Author.Needs.{needs}
 use Rattle.grams.proofs.Bounds.{_⊗_, fits, figure}
-use Rattle.grams.proofs.Parts.{cattle-excreted-most}
+use Rattle.grams.proofs.cattle.Small.{cattle-excreted-most}
 use Rattle.grams.proofs.cattle.excreted.Statement.{statement}
 use Rattle.grams.proofs.cattle.excreted.Tie as tie
 

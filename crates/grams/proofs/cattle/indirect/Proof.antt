@@ -3,7 +3,7 @@ use borrow.Author.Needs.{needs}
 use mathlib.Core.Path.{ap, _∙_}
 use Rattle.grams.specs.Units.{asN2o}
 use Rattle.grams.proofs.Bounds.{_⊗_, _⊕_, num, below, fits, gas}
-use Rattle.grams.proofs.Parts.{cattle-indirect-most}
+use Rattle.grams.proofs.cattle.Small.{cattle-indirect-most}
 use Rattle.grams.proofs.cattle.indirect.Statement.{statement}
 use Rattle.grams.proofs.cattle.indirect.Tie as tie
 

@@ -8,7 +8,7 @@ use Rattle.grams.specs.Units.{gramsCo2, plusCo2, Co2Within}
 use Rattle.grams.specs.Farm.{co2eOf}
 use Rattle.grams.proofs.Bounds.{_⊗_, _⊕_, fits}
 use Rattle.grams.proofs.Carbon.{within-grams}
-use Rattle.grams.proofs.Small.{others-most}
+use Rattle.grams.proofs.farm.Small.{others-most}
 use Rattle.grams.proofs.farm.co2e.Statement.{statement}
 use Rattle.grams.proofs.farm.co2e.Tie as tie
 

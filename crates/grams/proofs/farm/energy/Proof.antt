@@ -6,7 +6,7 @@ use lib.IntN.{pos}
 use Rattle.grams.specs.Farm.{energyOf}
 use Rattle.grams.specs.Units.{gramsCo2}
 use Rattle.grams.proofs.Bounds.{_⊗_, fits, carbon}
-use Rattle.grams.proofs.Small.{energy-small}
+use Rattle.grams.proofs.farm.Small.{energy-small}
 use Rattle.grams.proofs.farm.energy.Statement.{statement}
 use Rattle.grams.proofs.farm.energy.Tie as tie
 

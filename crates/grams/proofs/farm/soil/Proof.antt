@@ -6,7 +6,7 @@ use lib.IntN.{pos}
 use Rattle.grams.specs.Farm.{soilOf}
 use Rattle.grams.specs.Units.{gramsCo2}
 use Rattle.grams.proofs.Bounds.{carbon}
-use Rattle.grams.proofs.Small.{soil-small}
+use Rattle.grams.proofs.farm.Small.{soil-small}
 use Rattle.grams.proofs.farm.soil.Statement.{statement}
 use Rattle.grams.proofs.farm.soil.Tie as tie
 

@@ -4,7 +4,7 @@ use native.Mathlib.Omega.{arith}
 use mathlib.Core.Path.{refl}
 use Rattle.grams.specs.Grazing.{pastureTable, pastureFactor}
 use Rattle.grams.proofs.Bounds.{figure, fits}
-use Rattle.grams.proofs.Parts.{factor-most}
+use Rattle.grams.proofs.grazing.Small.{factor-most}
 use Rattle.grams.proofs.grazing.factor_at.Statement.{statement}
 use Rattle.grams.proofs.grazing.factor_at.Tie as tie
 

@@ -6,7 +6,7 @@ use Rattle.grams.specs.Round.{roundDiv}
 use Rattle.grams.specs.Grazing.{grazingOf}
 use Rattle.grams.specs.Units.{gramsGrazed}
 use Rattle.grams.proofs.Bounds.{_⊗_, fits, pasture}
-use Rattle.grams.proofs.Small.{grazing-small}
+use Rattle.grams.proofs.grazing.Small.{grazing-small}
 use Rattle.grams.proofs.grazing.grazing.Statement.{statement}
 use Rattle.grams.proofs.grazing.grazing.Tie as tie
 

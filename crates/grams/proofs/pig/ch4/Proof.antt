@@ -1,7 +1,7 @@
 -- `grams::pig::ch4` meets its contract. Assumes nothing.
 use borrow.Author.Needs.{needs}
 use Rattle.grams.proofs.Bounds.{_⊗_, num, fits, figure}
-use Rattle.grams.proofs.Parts.{pig-ch4-most}
+use Rattle.grams.proofs.pig.Small.{pig-ch4-most}
 use Rattle.grams.proofs.pig.ch4.Statement.{statement}
 use Rattle.grams.proofs.pig.ch4.Tie as tie
 

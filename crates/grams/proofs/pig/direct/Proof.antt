@@ -8,7 +8,7 @@ use Rattle.grams.specs.Round.{roundDiv, round-scale}
 use Rattle.grams.specs.Units.{gramsN2o, partsN2oN, asN2o}
 use Rattle.grams.specs.Pig.{directOf}
 use Rattle.grams.proofs.Bounds.{_⊗_, num, fits, gas}
-use Rattle.grams.proofs.Parts.{pig-direct-most}
+use Rattle.grams.proofs.pig.Small.{pig-direct-most}
 use Rattle.grams.proofs.pig.direct.Statement.{statement}
 use Rattle.grams.proofs.pig.direct.Tie as tie
 

@@ -4,7 +4,7 @@ use native.Mathlib.Omega.{arith}
 use mathlib.Core.Path.{ap, _∙_}
 use Rattle.grams.specs.Units.{asN2o}
 use Rattle.grams.proofs.Bounds.{_⊗_, _⊕_, fits, gas}
-use Rattle.grams.proofs.Parts.{pig-indirect-most}
+use Rattle.grams.proofs.pig.Small.{pig-indirect-most}
 use Rattle.grams.proofs.pig.indirect.Statement.{statement}
 use Rattle.grams.proofs.pig.indirect.Tie as tie
 

@@ -1,7 +1,7 @@
 -- `grams::pig::land` meets its contract. Assumes nothing.
 use borrow.Author.Needs.{needs}
 use Rattle.grams.proofs.Bounds.{_⊗_, num, less, fits, figure}
-use Rattle.grams.proofs.Parts.{pig-land-most}
+use Rattle.grams.proofs.pig.Small.{pig-land-most}
 use Rattle.grams.proofs.pig.land.Statement.{statement}
 use Rattle.grams.proofs.pig.land.Tie as tie
 

@@ -1,7 +1,7 @@
 -- `grams::pig::nitrogen` meets its contract. Assumes nothing.
 use borrow.Author.Needs.{needs}
 use Rattle.grams.proofs.Bounds.{_⊗_, num, fits, figure}
-use Rattle.grams.proofs.Parts.{pig-nitrogen-most}
+use Rattle.grams.proofs.pig.Small.{pig-nitrogen-most}
 use Rattle.grams.proofs.pig.nitrogen.Statement.{statement}
 use Rattle.grams.proofs.pig.nitrogen.Tie as tie
 

@@ -1,7 +1,7 @@
 -- `grams::pig::solids` meets its contract. Assumes nothing.
 use borrow.Author.Needs.{needs}
 use Rattle.grams.proofs.Bounds.{_⊗_, fits, figure}
-use Rattle.grams.proofs.Parts.{pig-solids-most}
+use Rattle.grams.proofs.pig.Small.{pig-solids-most}
 use Rattle.grams.proofs.pig.solids.Statement.{statement}
 use Rattle.grams.proofs.pig.solids.Tie as tie
 

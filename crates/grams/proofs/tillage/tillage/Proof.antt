@@ -10,9 +10,9 @@ use Rattle.grams.specs.CarbonRate.{rateOf, RateIn}
 use Rattle.grams.specs.Tillage.{TillageIn, tillageOf, entryOf}
 use Rattle.grams.specs.declared.tillage_table.Entry.{Entry}
 use Rattle.grams.proofs.Bounds.{_⊗_, num, fits, carbon}
-use Rattle.grams.proofs.TillagePairs.{less-gains, back-loses, lum-most, k-most}
-use Rattle.grams.proofs.Signs.{gained-is, lost-is}
-use Rattle.grams.proofs.Small.{place-of, tillage-small}
+use Rattle.grams.proofs.tillage_table.Pairs.{less-gains, back-loses, lum-most, k-most}
+use Rattle.grams.proofs.tillage.Signs.{gained-is, lost-is}
+use Rattle.grams.proofs.tillage.Small.{place-of, tillage-small}
 use Rattle.grams.proofs.tillage.tillage.Statement.{statement}
 use Rattle.grams.proofs.tillage.tillage.Tie as tie
 

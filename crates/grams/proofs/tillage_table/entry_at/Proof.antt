@@ -1,7 +1,7 @@
 -- `grams::tillage_table::entry_at` meets its contract. Assumes nothing.
 use native.Mathlib.Omega.{arith}
 use mathlib.Core.Path.{_∙_}
-use Rattle.grams.proofs.TillagePairs.{pacific-medium, pacific-fine, no-exception}
+use Rattle.grams.proofs.tillage_table.Pairs.{pacific-medium, pacific-fine, no-exception}
 use Rattle.grams.proofs.tillage_table.entry_at.Statement.{statement}
 use Rattle.grams.proofs.tillage_table.entry_at.Tie as tie
 

@@ -4,7 +4,7 @@ use native.Mathlib.Omega.{arith}
 use mathlib.Core.Path.{refl}
 use Rattle.grams.specs.TillageTable.{PlaceIn, lessTillage, lessOf}
 use Rattle.grams.proofs.Bounds.{fits}
-use Rattle.grams.proofs.TillagePairs.{less-lum-most, less-k-most}
+use Rattle.grams.proofs.tillage_table.Pairs.{less-lum-most, less-k-most}
 use Rattle.grams.proofs.tillage_table.towards_less.Statement.{statement}
 use Rattle.grams.proofs.tillage_table.towards_less.Tie as tie
 

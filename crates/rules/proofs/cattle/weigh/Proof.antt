@@ -6,7 +6,7 @@ use borrow.Author.Tests.{lt-ltb, le-ltb, eq-eqb, ne-eqb}
 use Rattle.account.specs.Figures.{figuresOf}
 use Rattle.account.specs.Sorts.{sortOf}
 use Rattle.account.specs.Judge.{inPlace, first, accepted}
-use Rattle.account.proofs.Ranges.{cattle-in, cattle-shares}
+use Rattle.account.proofs.EachFigure.Cattle.{cattle-in, cattle-shares}
 use Rattle.account.proofs.Told.{head-most, days-most, sums-most, subtotal-most, small-cattle, below-zero, not-below, manure-is, tells-detail}
 use Rattle.account.proofs.Told.{told-in, Passes, passes, stops, refuses, accepts}
 use Rattle.rules.proofs.Places.{cattle-place}

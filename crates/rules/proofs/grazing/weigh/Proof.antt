@@ -6,7 +6,7 @@ use borrow.Author.Tests.{lt-ltb, le-ltb}
 use Rattle.account.specs.Figures.{figuresOf}
 use Rattle.account.specs.Sorts.{sortOf}
 use Rattle.account.specs.Judge.{inPlace, first, accepted}
-use Rattle.account.proofs.Ranges.{grazing-in, grazing-fraction}
+use Rattle.account.proofs.EachFigure.Grazing.{grazing-in, grazing-fraction}
 use Rattle.account.proofs.Told.{head-most, sums-most, subtotal-most, small-grazing, tells-detail, told-in, Passes, passes, stops, refuses, accepts}
 use Rattle.rules.proofs.Places.{cattle-place}
 use Rattle.rules.proofs.grazing.weigh.Statement.{statement}

@@ -1,0 +1,4 @@
+pub mod Signs
+pub mod Small
+pub mod OneAnswer
+pub mod Cases
