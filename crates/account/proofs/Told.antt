@@ -17,7 +17,7 @@ use Rattle.line_bytes.specs.Lines.{lineSize, totalSize, linesMost}
 use Rattle.line_bytes.proofs.LineLaws.{line-length, total-length}
 use Rattle.grams.specs.Cattle.{belowZero, manureOf, CattleSmall, Nitrogen}
 use Rattle.grams.specs.Pig.{Manure}
-use Rattle.grams.specs.Units.{noCo2, Co2Within}
+use Rattle.grams.specs.Units.{noCo2, co2Word, Co2Within}
 use Rattle.grams.specs.declared.units.Co2.{Co2}
 use Rattle.grams.specs.declared.units.Grazed.{Grazed}
 use Rattle.grams.specs.declared.cattle.CattleRation.{CattleRation}
@@ -31,7 +31,7 @@ use Rattle.account.specs.declared.Days.{Days}
 use Rattle.account.specs.declared.Figures.{Figures}
 use Rattle.account.specs.declared.Subtotal.{Subtotal}
 use Rattle.account.specs.declared.Judged.{Judged}
-use Rattle.account.specs.Figures.{groupFigures, ch4Alone, co2Alone, grazingAlone, cattleFigures, pigFigures}
+use Rattle.account.specs.Figures.{listed, groupFigures, ch4Alone, co2Alone, grazingAlone, cattleFigures, pigFigures}
 use Rattle.account.specs.Line.{joined, bytesOf, lineWith, totalWith, co2eIn, subtotals, totalOf}
 use Rattle.account.specs.Range.{Headed, Unheaded, Bounded, Grouped, AccountInRange}
 use Rattle.account.specs.Judge.{wrongVersion, wrongKind, judge, first, inPlace, notRising, daysOver, partsWrong, grazedOver, feedBelow}
@@ -111,10 +111,10 @@ step a ls = record { account = a; lines = ls }
 
 -- how many bytes a line has, the total, and a subtotal with the total
 pub line-long : (k g : ℕ) (f : Figures) → length (lineWith k g f) ≡ lineSize
-line-long k g f = line-length _ _ _ _ _ _ _ _
+line-long k g f = line-length k g (listed f)
 
 pub total-long : (f : Figures) (c : Co2) → length (totalWith f c) ≡ totalSize
-total-long f c = total-length _ _ _ _ _ _ _
+total-long f c = total-length (listed f) (co2Word c)
 
 pub both-long : (k g : ℕ) (f h : Figures) (c : Co2) → length (lineWith k g f ++ totalWith h c) ≡ linesMost
 both-long k g f h c = omega (arith, length-append (lineWith k g f) (totalWith h c), line-long k g f, total-long h c)

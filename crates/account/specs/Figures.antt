@@ -1,7 +1,7 @@
 -- Document 01, "The arithmetic", as a line uses it: the figures of one detail record, from its heading and its values alone.
 -- Assumes nothing.
 use Prim.Native.Nat.{ℕ, _+_}
-use mathlib.Core.List.{List}
+use mathlib.Core.List.{List, [], _∷_}
 use lib.ListN.{getD}
 use lib.Dec.{eqb}
 use Rattle.base.specs.Choice.{pick}
@@ -10,7 +10,7 @@ use Rattle.grams.specs.Pig as pig
 use Rattle.grams.specs.Farm.{energyOf, soilOf}
 use Rattle.grams.specs.Tillage.{tillageOf}
 use Rattle.grams.specs.Grazing.{grazingOf}
-use Rattle.grams.specs.Units.{gramsN2o, noCo2, plusCo2, gramsGrazed}
+use Rattle.grams.specs.Units.{gramsN2o, noCo2, plusCo2, co2Word, gramsGrazed}
 use Rattle.grams.specs.declared.units.Co2.{Co2}
 use Rattle.grams.specs.declared.units.Grazed.{Grazed}
 use Rattle.grams.specs.declared.cattle.CattleRation.{CattleRation}
@@ -36,6 +36,10 @@ added f g =
       land = f .land + g .land;
       grazing = gramsGrazed (f .grazing .0 + g .grazing .0);
     }
+
+-- in the order of a line: grams, of CO2 the word of signed grams
+abbrev pub listed : Figures → List ℕ
+listed f = f .ch4 ∷ f .n2o .0 ∷ co2Word (f .co2) ∷ f .excreted ∷ f .land ∷ f .grazing .0 ∷ []
 
 -- a group's subtotal: nothing yet
 abbrev pub noSubtotal : Subtotal

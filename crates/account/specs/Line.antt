@@ -13,11 +13,11 @@ use Rattle.account.specs.declared.Figures.{Figures}
 use Rattle.account.specs.declared.Heading.{Heading}
 use Rattle.account.specs.declared.Judged.{Judged}
 use Rattle.account.specs.Sorts.{sortOf, bySort}
-use Rattle.account.specs.Figures.{groupFigures, figuresOf}
+use Rattle.account.specs.Figures.{listed, groupFigures, figuresOf}
 
--- a line of kind k, with a group and six figures
+-- a line of kind k, with a group and its figures
 abbrev pub lineWith : ℕ → ℕ → Figures → List ℕ
-lineWith k group f = lineBytes k group (f .ch4) (f .n2o .0) (co2Word (f .co2)) (f .excreted) (f .land) (f .grazing .0)
+lineWith k group f = lineBytes k group (listed f)
 
 -- the group that a line bears: the heading's for a detail of the group, else 0
 abbrev pub groupOf : Heading → ℕ → ℕ
@@ -31,9 +31,9 @@ lineOf h k v = lineWith k (groupOf h k) (figuresOf h k v)
 abbrev pub co2eIn : Account → Co2
 co2eIn a = co2eOf (a .factors) (a .sums .co2) (a .sums .ch4) (a .sums .n2o) (a .sums .grazing)
 
--- the close's line: the six sums and CO2e
+-- the close's line: the sums of the figures and CO2e
 abbrev pub totalWith : Figures → Co2 → List ℕ
-totalWith f co2e = totalBytes (f .ch4) (f .n2o .0) (co2Word (f .co2)) (f .excreted) (f .land) (f .grazing .0) (co2Word co2e)
+totalWith f co2e = totalBytes (listed f) (co2Word co2e)
 
 abbrev pub totalOf : Account → List ℕ
 totalOf a = totalWith (a .sums) (co2eIn a)

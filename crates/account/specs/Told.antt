@@ -1,6 +1,6 @@
 -- The contracts of the functions that carry out specs/Judge.antt; a reader of the promises can pass it over.
 -- Assumes nothing.
-use Prim.Native.Nat.{ℕ, _^_, _≤_}
+use Prim.Native.Nat.{ℕ, _≤_}
 use mathlib.Core.Path.{_≡_}
 use mathlib.Core.List.{List}
 use mathlib.Core.Bool.{false}
@@ -8,7 +8,7 @@ use lib.ListN.{length}
 use lib.Dec.{leb, eqb}
 use Rattle.base.specs.Choice.{pick}
 use Rattle.line_bytes.specs.Lines.{lineSize, totalSize, linesMost}
-use Rattle.grams.specs.Units.{noCo2, Co2Within}
+use Rattle.grams.specs.Units.{noCo2}
 use Rattle.account.specs.declared.Account.{Account}
 use Rattle.account.specs.declared.Days.{Days}
 use Rattle.account.specs.declared.Figures.{Figures}
@@ -16,6 +16,7 @@ use Rattle.account.specs.declared.Subtotal.{Subtotal}
 use Rattle.account.specs.declared.Judged.{Judged}
 use Rattle.account.specs.declared.line.Line.{Line}
 use Rattle.account.specs.Figures.{noFigures, groupFigures}
+use Rattle.account.specs.Range.{Bounded}
 use Rattle.account.specs.Line.{joined, bytesOf, co2eIn}
 use Rattle.account.specs.Judge.{Step, WholeRecord, kindOf, wrongVersion, wrongKind, refused, underHeading, withDetail, closed}
 
@@ -43,14 +44,9 @@ pub record Kind (k : ℕ) (r : List ℕ) : Type 0 where
   pub listed : wrongKind r ≡ false
   pub kind : kindOf r ≡ k
 
--- what one line adds at most
-pub record Small (f : Figures) : Type 0 where
-  pub ch4 : f .ch4 ≤ 10 ^ 11
-  pub n2o : f .n2o .0 ≤ 10 ^ 10
-  pub co2 : Co2Within 1 (f .co2)
-  pub excreted : f .excreted ≤ 10 ^ 11
-  pub land : f .land ≤ 10 ^ 11
-  pub grazing : f .grazing .0 ≤ 10 ^ 11
+-- what one line adds at most: the sums of one record
+abbrev pub Small : Figures → Type 0
+Small f = Bounded f 1
 
 abbrev pub noLine : Line
 noLine = record { given = 0; kind = 0; group = 0; figures = noFigures; co2e = noCo2 }

@@ -10,8 +10,11 @@ use grams::units::NO_CO2;
 use grams::units::NO_GRAZING;
 use grams::units::NO_N2O;
 use line::Line;
+use line_bytes::FIGURES;
 ghost use mathlib.Core.Path.{_≡_};
-ghost use Rattle.account.specs.Range.{accountInRange};
+ghost use Rattle.account.specs.Figures.{added, listed};
+ghost use Rattle.account.specs.Range.{Bounded, accountInRange};
+ghost use Rattle.account.specs.Told.{Small};
 ghost use Rattle.account.specs.Judge.{noRecord, refused};
 
 // A group heading: its number, its class (1 milking, 2 dry, 3 heifer, 4 pig) and its head count; all zero where there is none.
@@ -73,6 +76,52 @@ pub struct Judged {
     pub line: Line,
 }
 
+// None, as where a rule gives none.
+pub const NO_FIGURES: Figures = Figures {
+    ch4: 0,
+    n2o: NO_N2O,
+    co2: NO_CO2,
+    excreted: 0,
+    land: 0,
+    grazing: NO_GRAZING,
+};
+
+impl Figures {
+    // The sums with a line's figures.
+    pub fn plus(self, f: Figures) -> Figures
+        requires { ⌜ Bounded self 4096 × Small f ⌝ }
+        ensures { λ r. ⌜ r ≡ added self f ⌝ }
+    {
+        let n = self.n2o;
+        let m = f.n2o;
+        let n2o = n.plus(m);
+        let c = self.co2;
+        let d = f.co2;
+        let co2 = c.plus(d);
+        let e = self.grazing;
+        let o = f.grazing;
+        let grazing = e.plus(o);
+        Figures {
+            ch4: self.ch4 + f.ch4,
+            n2o: n2o,
+            co2: co2,
+            excreted: self.excreted + f.excreted,
+            land: self.land + f.land,
+            grazing: grazing,
+        }
+    }
+
+    // In the order of a line.
+    pub fn listed(self) -> [u64; FIGURES]
+        ensures { λ r. ⌜ r ≡ listed self ⌝ }
+    {
+        let n2o = self.n2o.grams();
+        let co2 = self.co2.word();
+        let grazing = self.grazing.grams();
+        [self.ch4, n2o, co2, self.excreted, self.land, grazing]
+    }
+}
+
 impl Account {
     // Before any record.
     pub fn new() -> Account
@@ -98,14 +147,7 @@ impl Account {
                 excreted: 0,
                 land: 0,
             },
-            sums: Figures {
-                ch4: 0,
-                n2o: NO_N2O,
-                co2: NO_CO2,
-                excreted: 0,
-                land: 0,
-                grazing: NO_GRAZING,
-            },
+            sums: NO_FIGURES,
             refusal: Refusal {
                 code: 0,
                 accepted: 0,

@@ -1,10 +1,9 @@
 // The lines of a record before they are written: their values, not their bytes.
 use crate::Figures;
 use crate::Judged;
+use crate::NO_FIGURES;
 use grams::units::Co2;
 use grams::units::NO_CO2;
-use grams::units::NO_GRAZING;
-use grams::units::NO_N2O;
 ghost use mathlib.Core.Path.{_≡_};
 ghost use Prim.Native.Nat.{_+_, _≤_};
 ghost use lib.ListN.{length};
@@ -30,14 +29,7 @@ pub fn none() -> Line
         given: 0,
         kind: 0,
         group: 0,
-        figures: Figures {
-            ch4: 0,
-            n2o: NO_N2O,
-            co2: NO_CO2,
-            excreted: 0,
-            land: 0,
-            grazing: NO_GRAZING,
-        },
+        figures: NO_FIGURES,
         co2e: NO_CO2,
     }
 }
@@ -47,21 +39,7 @@ fn put_line(out: &mut [u8], w: usize, kind: u8, group: u16, f: Figures)
     requires { ⌜ w + lineSize ≤ length (now out) ⌝ }
     ensures { λ _. ⌜ now (out .exit) ≡ sets (now (out .entry)) w (lineWith kind group f) ⌝ }
 {
-    let n2o = f.n2o.grams();
-    let co2 = f.co2.word();
-    let grazing = f.grazing.grams();
-    line_bytes::put_line(
-        out,
-        w,
-        kind,
-        group,
-        f.ch4,
-        n2o,
-        co2,
-        f.excreted,
-        f.land,
-        grazing,
-    );
+    line_bytes::put_line(out, w, kind, group, f.listed());
 }
 
 // The total, at w.
@@ -69,20 +47,7 @@ fn put_total(out: &mut [u8], w: usize, f: Figures, co2e: Co2)
     requires { ⌜ w + totalSize ≤ length (now out) ⌝ }
     ensures { λ _. ⌜ now (out .exit) ≡ sets (now (out .entry)) w (totalWith f co2e) ⌝ }
 {
-    let n2o = f.n2o.grams();
-    let co2 = f.co2.word();
-    let grazing = f.grazing.grams();
-    line_bytes::put_total(
-        out,
-        w,
-        f.ch4,
-        n2o,
-        co2,
-        f.excreted,
-        f.land,
-        grazing,
-        co2e.word(),
-    );
+    line_bytes::put_total(out, w, f.listed(), co2e.word());
 }
 
 // Writes a record's lines at w.

@@ -81,25 +81,22 @@ module _ (kind : ℕ) (vs l : List ℕ) (at : ℕ) where
       record-stored ∙ stores-all (fields kind) vs 0 (sets (sets (sets l at (be 2 (lengthOf kind))) (at + 2) (be 1 (rowVersion kind))) (at + 3)
       (be 1 (rowKind kind))) at 4
 
--- ---- a loop over values of two bytes each
+-- ---- a loop over values of one field each
 
-abbrev pub twoByteFields : ℕ → List Field
-twoByteFields n = replicate n (field 2 0 65535)
-
-module _ (vs l : List ℕ) (n p i : ℕ) where
+module _ (f : Field) (vs l : List ℕ) (n p i : ℕ) where
   -- a turn
-  pub two-stored : i < n
-      → sets (sets l p (be 2 (getD vs i 0))) (p + 2) (bytesOf (twoByteFields (n - (i + 1))) vs (i + 1)) ≡ sets l p
-      (bytesOf (twoByteFields (n - i)) vs i)
+  pub one-stored : i < n
+      → sets (sets l p (be (f .0) (getD vs i 0))) (p + f .0) (bytesOf (replicate (n - (i + 1)) f) vs (i + 1)) ≡ sets l p
+      (bytesOf (replicate (n - i) f) vs i)
   unfolding bytesOf
-  two-stored h =
+  one-stored h =
       let e : n - i ≡ suc (n - (i + 1)) = omega arith in
-      rw (e, add-one) (put-then 2 (getD vs i 0) p l (bytesOf (twoByteFields (n - suc i)) vs (suc i)))
+      rw (e, add-one) (put-then (f .0) (getD vs i 0) p l (bytesOf (replicate (n - suc i) f) vs (suc i)))
 
   -- the end
-  pub twoByteFields-stored : n ≤ i → sets l p (bytesOf (twoByteFields (n - i)) vs i) ≡ l
+  pub all-stored : n ≤ i → sets l p (bytesOf (replicate (n - i) f) vs i) ≡ l
   unfolding bytesOf
-  twoByteFields-stored h = let e : n - i ≡ 0 = omega arith in rw e
+  all-stored h = let e : n - i ≡ 0 = omega arith in rw e
 
 -- a run of n stores, as the parts before and after it
 pub sets-at : (n : ℕ) (vs l : List ℕ) (i : ℕ) → length vs ≡ n → i + n ≤ length l → sets l i vs ≡ take i l ++ (vs ++ drop (i + n) l)

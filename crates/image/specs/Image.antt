@@ -18,6 +18,7 @@ use Rattle.account.specs.declared.Days.{Days}
 use Rattle.account.specs.declared.Subtotal.{Subtotal}
 use Rattle.account.specs.declared.Figures.{Figures}
 use Rattle.account.specs.declared.Refusal.{Refusal}
+use Rattle.account.specs.Figures.{listed}
 use Rattle.book.specs.declared.State.{State}
 use Rattle.book.specs.State.{InRange, inRange}
 
@@ -69,12 +70,12 @@ subtotalFields = figure ∷ figure ∷ figure ∷ figure ∷ []
 abbrev pub subtotalNumbers : Subtotal → List ℕ
 subtotalNumbers t = t .ch4 ∷ t .n2o .0 ∷ t .excreted ∷ t .land ∷ []
 
--- from 80 the sums: CH4, N2O, CO2 as the word of signed grams, excreted, land, grazing
+-- from 80 the sums, in the order of a line
 unfoldable pub sumsFields : List Field
 sumsFields = figure ∷ figure ∷ figure ∷ figure ∷ figure ∷ figure ∷ []
 
 abbrev pub sumsNumbers : Figures → List ℕ
-sumsNumbers f = f .ch4 ∷ f .n2o .0 ∷ co2Word (f .co2) ∷ f .excreted ∷ f .land ∷ f .grazing .0 ∷ []
+sumsNumbers f = listed f
 
 -- at 128 the refusal's code, at 129 the records accepted before it, at 131 its field
 unfoldable pub refusalFields : List Field

@@ -1,10 +1,10 @@
 -- Document 01, "Lines, calls and state": the two sorts of line, their fields as data and their bytes.
 -- Assumes nothing.
-use Prim.Native.Nat.{ℕ, _+_}
+use Prim.Native.Nat.{ℕ, _+_, _-_, _*_}
 use mathlib.Core.Bool.{Bool}
-use mathlib.Core.List.{List, [], _∷_}
+use mathlib.Core.List.{List, [], _∷_, _++_}
 use lib.Dec.{eqb}
-use lib.ListN.{getD}
+use lib.ListN.{getD, replicate}
 use Rattle.base.specs.Choice.{pick}
 use Rattle.codec.specs.declared.Field.{Field}
 use Rattle.codec.specs.Table.{field}
@@ -14,65 +14,54 @@ use Rattle.codec.specs.Codec.{bytesOf}
 abbrev pub figure : Field
 figure = field 8 0 18446744073709551615
 
+-- how many a line has: CH4, N2O, CO2, excreted N, land N, CO2e of grazing
+abbrev pub figureCount : ℕ
+figureCount = 6
+
+-- the bytes of a line: two of its length, version, kind, two of the group, eight of each figure
+abbrev pub lineSize : ℕ
+lineSize = 6 + 8 * figureCount
+
+-- the close's line has CO2e too
+abbrev pub totalSize : ℕ
+totalSize = lineSize + 8
+
+-- the most that one record gives: a subtotal and the close's line
+abbrev pub linesMost : ℕ
+linesMost = lineSize + totalSize
+
+-- a line's length counts what follows it
+abbrev pub lineLength : ℕ
+lineLength = lineSize - 2
+
+abbrev pub totalLength : ℕ
+totalLength = totalSize - 2
+
 -- the kind of a group's subtotal, a line that no record has the kind of
 abbrev pub subtotalKind : ℕ
 subtotalKind = 16
 
--- a line but the close's: length, version, kind, group, then CH4, N2O, CO2, excreted N, land N, CO2e of grazing
+-- a line but the close's: length, version, kind, group, then the figures. Its kind is a detail's, 3 to 7, 9 or 10, or the subtotal's
 unfoldable pub lineFields : List Field
-lineFields =
-    field 2 52 52
-    ∷ field 1 1 1
-    -- a detail's kind, 3 to 7, 9 or 10, or the subtotal's
-    ∷ field 1 3 subtotalKind
-    ∷ field 2 0 65535
-    ∷ figure
-    ∷ figure
-    ∷ figure
-    ∷ figure
-    ∷ figure
-    ∷ figure
-    ∷ []
+lineFields = field 2 lineLength lineLength ∷ field 1 1 1 ∷ field 1 3 subtotalKind ∷ field 2 0 65535 ∷ replicate figureCount figure
 
--- the close's line: length, version, kind 8, group 0, the six sums, CO2e
+-- the close's line: length, version, kind 8, group 0, the sums of the figures, CO2e
 unfoldable pub totalFields : List Field
-totalFields =
-    field 2 60 60
-    ∷ field 1 1 1
-    ∷ field 1 8 8
-    ∷ field 2 0 0
-    ∷ figure
-    ∷ figure
-    ∷ figure
-    ∷ figure
-    ∷ figure
-    ∷ figure
-    ∷ figure
-    ∷ []
+totalFields = field 2 totalLength totalLength ∷ field 1 1 1 ∷ field 1 8 8 ∷ field 2 0 0 ∷ replicate (figureCount + 1) figure
 
--- the bytes of a line, those of the close's line, and the most that one record gives: a subtotal and the close's line
-abbrev pub lineSize : ℕ
-lineSize = 54
+-- a line of a detail or a subtotal, of version 1
+abbrev pub lineValues : ℕ → ℕ → List ℕ → List ℕ
+lineValues kind group figures = lineLength ∷ 1 ∷ kind ∷ group ∷ figures
 
-abbrev pub totalSize : ℕ
-totalSize = 62
+unfoldable pub lineBytes : ℕ → ℕ → List ℕ → List ℕ
+lineBytes kind group figures = bytesOf lineFields (lineValues kind group figures) 0
 
-abbrev pub linesMost : ℕ
-linesMost = lineSize + totalSize
+-- the close's line, of version 1
+abbrev pub totalValues : List ℕ → ℕ → List ℕ
+totalValues sums co2e = totalLength ∷ 1 ∷ 8 ∷ 0 ∷ (sums ++ (co2e ∷ []))
 
--- a line of a detail or a subtotal: length 52, version 1, kind, group, then the six figures
-abbrev pub lineValues : ℕ → ℕ → ℕ → ℕ → ℕ → ℕ → ℕ → ℕ → List ℕ
-lineValues kind group ch4 n2o co2 excreted land grazing = 52 ∷ 1 ∷ kind ∷ group ∷ ch4 ∷ n2o ∷ co2 ∷ excreted ∷ land ∷ grazing ∷ []
-
-unfoldable pub lineBytes : ℕ → ℕ → ℕ → ℕ → ℕ → ℕ → ℕ → ℕ → List ℕ
-lineBytes kind group ch4 n2o co2 excreted land grazing = bytesOf lineFields (lineValues kind group ch4 n2o co2 excreted land grazing) 0
-
--- the close's line: length 60, version 1, kind 8, group 0, the six sums, CO2e
-abbrev pub totalValues : ℕ → ℕ → ℕ → ℕ → ℕ → ℕ → ℕ → List ℕ
-totalValues ch4 n2o co2 excreted land grazing co2e = 60 ∷ 1 ∷ 8 ∷ 0 ∷ ch4 ∷ n2o ∷ co2 ∷ excreted ∷ land ∷ grazing ∷ co2e ∷ []
-
-unfoldable pub totalBytes : ℕ → ℕ → ℕ → ℕ → ℕ → ℕ → ℕ → List ℕ
-totalBytes ch4 n2o co2 excreted land grazing co2e = bytesOf totalFields (totalValues ch4 n2o co2 excreted land grazing co2e) 0
+unfoldable pub totalBytes : List ℕ → ℕ → List ℕ
+totalBytes sums co2e = bytesOf totalFields (totalValues sums co2e) 0
 
 -- the line at the front of some bytes is the close's: its kind is 8
 abbrev pub isTotal : List ℕ → Bool

@@ -6,117 +6,98 @@ use codec::numbers::put2;
 use codec::numbers::put8;
 use codec::start::put_start;
 ghost use mathlib.Core.Path.{_≡_};
-ghost use Prim.Native.Nat.{_+_, _≤_};
-ghost use lib.ListN.{drop, length};
+ghost use mathlib.Core.List.{_∷_};
+ghost use Prim.Native.Nat.{_+_, _-_, _*_, _≤_};
+ghost use lib.ListN.{drop, length, replicate};
 ghost use lib.Seq.{sets};
-ghost use Rattle.codec.specs.Codec.{be, valuesAt};
-ghost use Rattle.line_bytes.specs.Lines.{lineFields, lineSize, totalFields, totalSize, frontSize, lineBytes, totalBytes};
+ghost use Rattle.codec.specs.Codec.{valAt, valuesAt, bytesOf};
+ghost use Rattle.line_bytes.specs.Lines.{figure, lineFields, lineSize, totalFields, totalSize, frontSize, lineBytes, totalBytes};
+
+// How many figures a line has: here alone, and in specs/Lines.antt.
+pub const FIGURES: usize = 6;
 
 // The bytes of a line, of the close's line, and the most that one record gives: a subtotal and the close's line.
-pub const LINE_SIZE: usize = 54;
+pub const LINE_SIZE: usize = 6 + 8 * FIGURES;
 
-pub const TOTAL_SIZE: usize = 62;
+pub const TOTAL_SIZE: usize = LINE_SIZE + 8;
 
-pub const LINES_MOST: usize = 116;
+pub const LINES_MOST: usize = LINE_SIZE + TOTAL_SIZE;
 
-// The six figures of the line that begins at `at`.
-fn put_figures(
-    out: &mut [u8],
-    at: usize,
-    ch4: u64,
-    n2o: u64,
-    co2: u64,
-    excreted: u64,
-    land: u64,
-    grazing: u64,
-)
-    requires { ⌜ at + lineSize ≤ length (now out) ⌝ }
-    ensures { λ _. ⌜ now (out .exit) ≡ sets (sets (sets (sets (sets (sets (now (out .entry)) (at + 6) (be 8 ch4)) (at + 14) (be 8 n2o)) (at + 22)
-        (be 8 co2)) (at + 30) (be 8 excreted)) (at + 38) (be 8 land)) (at + 46) (be 8 grazing) ⌝ }
+// Kind, group and the figures; and CO2e in the close's line.
+pub const LINE_NUMBERS: usize = 2 + FIGURES;
+
+pub const TOTAL_NUMBERS: usize = LINE_NUMBERS + 1;
+
+// Figures, one after the other.
+fn put_figures(out: &mut [u8], at: usize, f: &[u64])
+    requires { ⌜ at + 8 * length (now f) ≤ length (now out) ⌝ }
+    ensures { λ _. ⌜ now (out .exit) ≡ sets (now (out .entry)) at (bytesOf (replicate (length (now (f .entry))) figure) (now (f .entry)) 0) ⌝ }
 {
-    put8(out, at + 6, ch4);
-    put8(out, at + 14, n2o);
-    put8(out, at + 22, co2);
-    put8(out, at + 30, excreted);
-    put8(out, at + 38, land);
-    put8(out, at + 46, grazing);
+    let mut p = at;
+    let mut i = 0;
+    while i < f.len() {
+        put8(out, p, f[i]);
+        p += 8;
+        i += 1;
+    }
 }
 
 // The line of a detail or of a subtotal.
-pub fn put_line(
-    out: &mut [u8],
-    at: usize,
-    kind: u8,
-    group: u16,
-    ch4: u64,
-    n2o: u64,
-    co2: u64,
-    excreted: u64,
-    land: u64,
-    grazing: u64,
-)
+pub fn put_line(out: &mut [u8], at: usize, kind: u8, group: u16, f: [u64; FIGURES])
     requires { ⌜ at + lineSize ≤ length (now out) ⌝ }
-    ensures { λ _. ⌜ now (out .exit) ≡ sets (now (out .entry)) at (lineBytes kind group ch4 n2o co2 excreted land grazing) ⌝ }
+    ensures { λ _. ⌜ now (out .exit) ≡ sets (now (out .entry)) at (lineBytes kind group f) ⌝ }
 {
-    put_start(out, at, 52, kind as u64);
+    put_start(out, at, (LINE_SIZE - 2) as u64, kind as u64);
     put2(out, at + 4, group as u64);
-    put_figures(out, at, ch4, n2o, co2, excreted, land, grazing);
+    put_figures(out, at + 6, &f);
 }
 
 // The line of the close.
-pub fn put_total(
-    out: &mut [u8],
-    at: usize,
-    ch4: u64,
-    n2o: u64,
-    co2: u64,
-    excreted: u64,
-    land: u64,
-    grazing: u64,
-    co2e: u64,
-)
+pub fn put_total(out: &mut [u8], at: usize, f: [u64; FIGURES], co2e: u64)
     requires { ⌜ at + totalSize ≤ length (now out) ⌝ }
-    ensures { λ _. ⌜ now (out .exit) ≡ sets (now (out .entry)) at (totalBytes ch4 n2o co2 excreted land grazing co2e) ⌝ }
+    ensures { λ _. ⌜ now (out .exit) ≡ sets (now (out .entry)) at (totalBytes f co2e) ⌝ }
 {
-    put_start(out, at, 60, 8);
+    put_start(out, at, (TOTAL_SIZE - 2) as u64, 8);
     put2(out, at + 4, 0);
-    put_figures(out, at, ch4, n2o, co2, excreted, land, grazing);
-    put8(out, at + 54, co2e);
+    put_figures(out, at + 6, &f);
+    put8(out, at + LINE_SIZE, co2e);
 }
 
-// Kind, group and the six figures.
-pub fn detail_numbers(line: &[u8]) -> [u64; 8]
+// Kind, group and what figures stand behind them.
+fn read_numbers(line: &[u8], v: &mut [u64])
+    requires { ⌜ (2 ≤ length (now v)) × (8 * length (now v) ≤ length (now line) + 10) ⌝ }
+    ensures { λ _. ⌜ now (v .exit) ≡ valAt (now (line .entry)) 3 1 ∷ valAt (now (line .entry)) 4 2
+        ∷ valuesAt (replicate (length (now (v .entry)) - 2) figure) (now (line .entry)) 6 ⌝ }
+{
+    v[0] = be8(line, 3);
+    v[1] = be16(line, 4);
+    let mut p = 6;
+    let mut i = 2;
+    while i < v.len() {
+        v[i] = be64(line, p);
+        p += 8;
+        i += 1;
+    }
+}
+
+// Kind, group and the figures.
+pub fn detail_numbers(line: &[u8]) -> [u64; LINE_NUMBERS]
     requires { ⌜ lineSize ≤ length (now line) ⌝ }
     ensures { λ r. ⌜ r ≡ drop 2 (valuesAt lineFields (now (line .entry)) 0) ⌝ }
 {
-    [
-        be8(line, 3),
-        be16(line, 4),
-        be64(line, 6),
-        be64(line, 14),
-        be64(line, 22),
-        be64(line, 30),
-        be64(line, 38),
-        be64(line, 46),
-    ]
+    let mut v = [0; LINE_NUMBERS];
+    read_numbers(line, &mut v);
+    v
 }
 
-// Kind, group, the six sums and CO2e.
-pub fn total_numbers(line: &[u8]) -> [u64; 9]
+// Kind, group, the sums and CO2e.
+pub fn total_numbers(line: &[u8]) -> [u64; TOTAL_NUMBERS]
     requires { ⌜ totalSize ≤ length (now line) ⌝ }
     ensures { λ r. ⌜ r ≡ drop 2 (valuesAt totalFields (now (line .entry)) 0) ⌝ }
 {
-    [
-        be8(line, 3),
-        be16(line, 4),
-        be64(line, 6),
-        be64(line, 14),
-        be64(line, 22),
-        be64(line, 30),
-        be64(line, 38),
-        be64(line, 46),
-        be64(line, 54),
-    ]
+    let mut v = [0; TOTAL_NUMBERS];
+    read_numbers(line, &mut v);
+    v
 }
 
 // The bytes of the line at the front of s.

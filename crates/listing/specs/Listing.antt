@@ -2,7 +2,7 @@
 -- figures, and for kind 8 CO2e; then `closed`, `unfinished`, or `refused` with code, records, field, one space between."
 -- Document 02, W7: "CO2 figures, their sum and CO2e become signed, eight bytes in two's complement."
 -- Document 02, W10: "Lines and the state gain it as a sixth figure, .., before CO2e in the total".
-use Prim.Native.Nat.{ℕ, zero, suc, _/_}
+use Prim.Native.Nat.{ℕ, zero, suc, _+_, _/_}
 use mathlib.Core.Path.{_≡_}
 use mathlib.Core.List.{List, [], _∷_, _++_}
 use mathlib.Core.Bool.{Bool, _&&_, _||_}
@@ -11,7 +11,7 @@ use lib.Dec.{ltb, leb, eqb}
 use Rattle.base.specs.Choice.{pick}
 use Rattle.base.specs.Signed.{signedOf}
 use Rattle.codec.specs.Codec.{valuesAt}
-use Rattle.line_bytes.specs.Lines.{frontSize, frontFields}
+use Rattle.line_bytes.specs.Lines.{figureCount, frontSize, frontFields}
 use Rattle.printing.specs.Ascii.{ascii}
 use Rattle.printing.specs.Decimal.{decimal, signed, numbersLine, Put}
 use Rattle.account.specs.declared.Account.{Account}
@@ -26,9 +26,9 @@ use Rattle.listing.specs.declared.Listed.{Listed}
 unfoldable pub lineNumbers : List ℕ → List ℕ
 lineNumbers xs = drop 2 (valuesAt (frontFields xs) xs 0)
 
--- the columns of the signed figures, counted from 0: CO2, and kind 8's CO2e
+-- the columns of the signed figures, counted from 0: CO2, and kind 8's CO2e, which stands behind kind, group and the figures
 abbrev pub isSigned : ℕ → Bool
-isSigned column = eqb column 4 || eqb column 8
+isSigned column = eqb column 4 || eqb column (2 + figureCount)
 
 -- the number of a column as text
 abbrev pub columnText : ℕ → ℕ → List ℕ

@@ -2,6 +2,7 @@
 use account::Account;
 use base::rest_of;
 use book::State;
+use line_bytes::LINE_NUMBERS;
 use line_bytes::LINE_SIZE;
 use line_bytes::detail_numbers;
 use line_bytes::front_size;
@@ -37,7 +38,7 @@ fn put_column(out: &mut [u8], at: usize, column: usize, v: u64) -> usize
     ensures { λ r. ⌜ Put (now (out .entry)) (now (out .exit)) at (columnText column v) r ⌝ }
     ensures { λ r. ⌜ r ≤ at + 20 ⌝ }
 {
-    if (column == 4) | (column == 8) {
+    if (column == 4) | (column == LINE_NUMBERS) {
         return put_signed(out, at, v);
     }
     put_decimal(out, at, v)

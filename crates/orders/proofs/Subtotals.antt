@@ -35,7 +35,7 @@ unfolding subtotalLines
 none-there [] a h g t = refl
 none-there (r ∷ rs) a h g t =
     let k = row-most (kindOf r) (row-of-kind (versionOf r) (kindByte r) (not-false (isKind (kindByte r)) (t .0 .takes .passes .kind))) in
-    let m = ap (λ (m : Mark). m .kind) (line-mark (kindOf r) (groupOf h (kindOf r)) _ _ _ _ _ _ (omega (arith, k)) (group-small h (kindOf r) g)) in
+    let m = ap (λ (m : Mark). m .kind) (line-mark (kindOf r) (groupOf h (kindOf r)) _ (omega (arith, k)) (group-small h (kindOf r) g)) in
     another-kind (lineIn h r) (map (lineIn h) rs) (kindOf r) m (λ e. omega (arith, e, k)) ∙ none-there rs (withRecord a r) h g (t .1)
 
 pub around : (rs : List (List ℕ)) (a : Account) (h : Heading) (ks ls : List (List ℕ)) → h .group ≤ 65535 → InTurn a rs

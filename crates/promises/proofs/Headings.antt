@@ -40,16 +40,14 @@ use Rattle.promises.specs.Headings.{acceptedRecords, groupBy, lastGroup,
 both-same : (k k′ g g′ : ℕ) → k ≡ k′ → g ≡ g′ → _≡_ {A = Mark} (record { kind = k; group = g }) (record { kind = k′; group = g′ })
 both-same k k′ g g′ p q = rw (p, q)
 
-pub line-mark : (k g ch4 n2o co2 excreted land grazing : ℕ) → k < 256 → g < 65536
-    → markOf (lineBytes k g ch4 n2o co2 excreted land grazing) ≡ record { kind = k; group = g }
+pub line-mark : (k g : ℕ) (figures : List ℕ) → k < 256 → g < 65536 → markOf (lineBytes k g figures) ≡ record { kind = k; group = g }
 unfolding lineBytes lineFields bytesOf be valAt
-line-mark k g ch4 n2o co2 excreted land grazing p q =
+line-mark k g figures p q =
     both-same (0 + k % 256) k ((0 + g / 256 % 256) * 256 + g % 256) g (omega arith) (omega arith)
 
-pub total-mark : (ch4 n2o co2 excreted land grazing co2e : ℕ)
-    → markOf (totalBytes ch4 n2o co2 excreted land grazing co2e) ≡ record { kind = 8; group = 0 }
+pub total-mark : (sums : List ℕ) (co2e : ℕ) → markOf (totalBytes sums co2e) ≡ record { kind = 8; group = 0 }
 unfolding totalBytes totalFields bytesOf be valAt
-total-mark ch4 n2o co2 excreted land grazing co2e = refl
+total-mark sums co2e = refl
 
 pub map-append : (xs ys : List (List ℕ)) → map markOf (xs ++ ys) ≡ map markOf xs ++ map markOf ys
 map-append [] ys = refl
@@ -85,7 +83,7 @@ module _ (a : Account) (r : List ℕ) (f : AccountInRange a) (kinds : isRow (kin
           → map markOf (pick b [] (lineWith 16 (a .heading .group) (groupFigures (a .subtotal)) ∷ [])) ≡ pick b []
           (record { kind = 16; group = a .heading .group } ∷ [])
       go true = refl
-      go false = ap (λ (m : Mark). m ∷ []) (line-mark _ _ _ _ _ _ _ _ (omega arith) (omega (arith, group-most a f)))
+      go false = ap (λ (m : Mark). m ∷ []) (line-mark _ _ _ (omega arith) (omega (arith, group-most a f)))
 
   -- a heading's first value is its group
   first-value : kindOf r ≡ 2 → getD (valuesOf r) 0 0 ≡ valAt r 4 2
@@ -100,7 +98,7 @@ module _ (a : Account) (r : List ℕ) (f : AccountInRange a) (kinds : isRow (kin
   close-marks : map markOf (subtotals a ++ (totalOf a ∷ [])) ≡ subtotalMark (a .heading .group) ++ (record { kind = 8; group = 0 } ∷ [])
   close-marks =
       map-append (subtotals a) (totalOf a ∷ []) ∙ rw group-marks (ap (λ (m : Mark). subtotalMark (a .heading .group) ++ (m ∷ []))
-      (total-mark _ _ _ _ _ _ _))
+      (total-mark _ _))
 
   grown : Grown a r (accepted a (kindOf r) (valuesOf r))
   unfolding accepted lastGroup
@@ -110,12 +108,12 @@ module _ (a : Account) (r : List ℕ) (f : AccountInRange a) (kinds : isRow (kin
       new-heading
       (λ e. record {
         counted = refl;
-        marks = rw e (ap (λ (m : Mark). m ∷ []) (line-mark _ _ _ _ _ _ _ _ small-kind (omega (arith, group-most a f))));
+        marks = rw e (ap (λ (m : Mark). m ∷ []) (line-mark _ _ _ small-kind (omega (arith, group-most a f))));
         group = rw e refl;
       })
       (λ e. record {
         counted = refl;
-        marks = rw e (ap (λ (m : Mark). m ∷ []) (line-mark _ _ _ _ _ _ _ _ small-kind (omega arith)));
+        marks = rw e (ap (λ (m : Mark). m ∷ []) (line-mark _ _ _ small-kind (omega arith)));
         group = rw e refl;
       })
       (λ e. record { counted = refl; marks = close-marks ∙ rw e refl; group = rw e refl })

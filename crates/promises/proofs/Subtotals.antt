@@ -63,7 +63,7 @@ unfolding subtotalLines
 own-line l e = rw e refl
 
 line-kind : (k g : ℕ) (f : Figures) → k < 256 → g < 65536 → valAt (lineWith k g f) 3 1 ≡ k
-line-kind k g f p q = ap (λ (m : Mark). m .kind) (line-mark k g _ _ _ _ _ _ p q)
+line-kind k g f p q = ap (λ (m : Mark). m .kind) (line-mark k g _ p q)
 
 -- ---- what one record does
 
@@ -112,7 +112,7 @@ module _ (a : Account) (r : List ℕ) (f : AccountInRange a) (kinds : isRow (kin
       other-line (lineWith (kindOf r) g (detailOf (a .heading) r)) (kindOf r) (line-kind (kindOf r) _ _ (omega arith) b) (λ q. omega (arith, q, most))
 
   total-line : subtotalLines (totalOf a ∷ []) ≡ []
-  total-line = other-line (totalOf a) 8 (ap (λ (m : Mark). m .kind) (total-mark _ _ _ _ _ _ _)) (λ q. omega (arith, q))
+  total-line = other-line (totalOf a) 8 (ap (λ (m : Mark). m .kind) (total-mark _ _)) (λ q. omega (arith, q))
 
   made : Made a r (accepted a (kindOf r) (valuesOf r))
   unfolding accepted subtotalLines

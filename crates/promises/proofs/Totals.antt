@@ -9,15 +9,15 @@ use native.Mathlib.Omega.{arith}
 use lib.ListN.{length, take, drop, length-drop}
 use lib.Dec.{eqb}
 use Rattle.base.proofs.Tests.{lt-or-ge, of-choice}
-use Rattle.codec.specs.Codec.{bytesHold, valAt, be, bytesOf}
-use Rattle.codec.proofs.BigEndian.{valAt-be}
-use Rattle.line_bytes.specs.Lines.{lineFields, totalFields, lineBytes, totalBytes}
+use Rattle.codec.specs.Codec.{bytesHold, valAt}
+use Rattle.line_bytes.proofs.Laid.{line-figure, total-figure}
+use Rattle.grams.specs.Units.{co2Word}
 use Rattle.grams.specs.declared.units.Co2.{Co2}
 use Rattle.account.specs.declared.Account.{Account}
 use Rattle.account.specs.declared.Figures.{Figures}
 use Rattle.account.specs.declared.Subtotal.{Subtotal}
 use Rattle.account.specs.Sorts.{sortOf}
-use Rattle.account.specs.Figures.{noFigures, noSubtotal, groupFigures}
+use Rattle.account.specs.Figures.{noFigures, noSubtotal, listed, groupFigures}
 use Rattle.account.specs.Line.{lineWith, subtotals, totalWith, totalOf}
 use Rattle.account.specs.Range.{Bounded, AccountInRange}
 use Rattle.account.specs.Judge.{kindOf, noRecord, first, refusals, Step, accepted, judge}
@@ -116,60 +116,6 @@ gains s xs v k q =
 
 -- ---- the figures in a line's bytes
 
--- behind six bytes stand five figures of 8 bytes, and then others: each but the third, read again
-module _ (b0 b1 b2 b3 b4 b5 a n c e l : ℕ) (behind : List ℕ) where
-  abbrev five : List ℕ
-  five = (b0 ∷ b1 ∷ b2 ∷ b3 ∷ b4 ∷ b5 ∷ []) ++ (be 8 a ++ (be 8 n ++ (be 8 c ++ (be 8 e ++ (be 8 l ++ behind)))))
-
-  read-first : a < bytesHold 8 → valAt five 6 8 ≡ a
-  read-first h = valAt-be 8 a (b0 ∷ b1 ∷ b2 ∷ b3 ∷ b4 ∷ b5 ∷ []) (be 8 n ++ (be 8 c ++ (be 8 e ++ (be 8 l ++ behind)))) h
-
-  read-second : n < bytesHold 8 → valAt five 14 8 ≡ n
-  unfolding be
-  read-second h = valAt-be 8 n ((b0 ∷ b1 ∷ b2 ∷ b3 ∷ b4 ∷ b5 ∷ []) ++ be 8 a) (be 8 c ++ (be 8 e ++ (be 8 l ++ behind))) h
-
-  read-fourth : e < bytesHold 8 → valAt five 30 8 ≡ e
-  unfolding be
-  read-fourth h = valAt-be 8 e ((b0 ∷ b1 ∷ b2 ∷ b3 ∷ b4 ∷ b5 ∷ []) ++ (be 8 a ++ (be 8 n ++ be 8 c))) (be 8 l ++ behind) h
-
-  read-fifth : l < bytesHold 8 → valAt five 38 8 ≡ l
-  unfolding be
-  read-fifth h = valAt-be 8 l ((b0 ∷ b1 ∷ b2 ∷ b3 ∷ b4 ∷ b5 ∷ []) ++ (be 8 a ++ (be 8 n ++ (be 8 c ++ be 8 e)))) behind h
-
--- in a line and in a total line
-module _ (k g a n c e l z w : ℕ) where
-  line-first : a < bytesHold 8 → valAt (lineBytes k g a n c e l z) 6 8 ≡ a
-  unfolding lineBytes lineFields bytesOf be
-  line-first h = read-first _ _ _ _ _ _ a n c e l (be 8 z) h
-
-  total-first : a < bytesHold 8 → valAt (totalBytes a n c e l z w) 6 8 ≡ a
-  unfolding totalBytes totalFields bytesOf be
-  total-first h = read-first _ _ _ _ _ _ a n c e l (be 8 z ++ be 8 w) h
-
-  line-second : n < bytesHold 8 → valAt (lineBytes k g a n c e l z) 14 8 ≡ n
-  unfolding lineBytes lineFields bytesOf be
-  line-second h = read-second _ _ _ _ _ _ a n c e l (be 8 z) h
-
-  total-second : n < bytesHold 8 → valAt (totalBytes a n c e l z w) 14 8 ≡ n
-  unfolding totalBytes totalFields bytesOf be
-  total-second h = read-second _ _ _ _ _ _ a n c e l (be 8 z ++ be 8 w) h
-
-  line-fourth : e < bytesHold 8 → valAt (lineBytes k g a n c e l z) 30 8 ≡ e
-  unfolding lineBytes lineFields bytesOf be
-  line-fourth h = read-fourth _ _ _ _ _ _ a n c e l (be 8 z) h
-
-  total-fourth : e < bytesHold 8 → valAt (totalBytes a n c e l z w) 30 8 ≡ e
-  unfolding totalBytes totalFields bytesOf be
-  total-fourth h = read-fourth _ _ _ _ _ _ a n c e l (be 8 z ++ be 8 w) h
-
-  line-fifth : l < bytesHold 8 → valAt (lineBytes k g a n c e l z) 38 8 ≡ l
-  unfolding lineBytes lineFields bytesOf be
-  line-fifth h = read-fifth _ _ _ _ _ _ a n c e l (be 8 z) h
-
-  total-fifth : l < bytesHold 8 → valAt (totalBytes a n c e l z w) 38 8 ≡ l
-  unfolding totalBytes totalFields bytesOf be
-  total-fifth h = read-fifth _ _ _ _ _ _ a n c e l (be 8 z ++ be 8 w) h
-
 -- where a figure of a group stands in a line: read from a subtotal line and from a total line it is itself, as no sum is too big for 8 bytes
 record Placed (x : Gas) (at : ℕ) : Type 0 where
   line : (g : ℕ) (t : Subtotal) → x .group t < bytesHold 8 → valAt (lineWith 16 g (groupFigures t)) at 8 ≡ x .group t
@@ -180,8 +126,8 @@ ch4-placed : Placed ch4 6
 unfolding bytesHold
 ch4-placed =
     record {
-      line = λ g t h. line-first 16 g _ _ _ _ _ _ 0 h;
-      total = λ f w h. total-first 0 0 _ _ _ _ _ _ _ h;
+      line = λ g t h. line-figure (listed (groupFigures t)) 0 (omega arith) h 16 g;
+      total = λ f w h. total-figure (listed f) 0 (omega arith) h (co2Word w) refl;
       small = λ f r b m. omega (arith, b .ch4, m);
     }
 
@@ -189,8 +135,8 @@ n2o-placed : Placed n2o 14
 unfolding bytesHold
 n2o-placed =
     record {
-      line = λ g t h. line-second 16 g _ _ _ _ _ _ 0 h;
-      total = λ f w h. total-second 0 0 _ _ _ _ _ _ _ h;
+      line = λ g t h. line-figure (listed (groupFigures t)) 1 (omega arith) h 16 g;
+      total = λ f w h. total-figure (listed f) 1 (omega arith) h (co2Word w) refl;
       small = λ f r b m. omega (arith, b .n2o, m);
     }
 
@@ -198,8 +144,8 @@ excreted-placed : Placed excreted 30
 unfolding bytesHold
 excreted-placed =
     record {
-      line = λ g t h. line-fourth 16 g _ _ _ _ _ _ 0 h;
-      total = λ f w h. total-fourth 0 0 _ _ _ _ _ _ _ h;
+      line = λ g t h. line-figure (listed (groupFigures t)) 3 (omega arith) h 16 g;
+      total = λ f w h. total-figure (listed f) 3 (omega arith) h (co2Word w) refl;
       small = λ f r b m. omega (arith, b .excreted, m);
     }
 
@@ -207,8 +153,8 @@ land-placed : Placed land 38
 unfolding bytesHold
 land-placed =
     record {
-      line = λ g t h. line-fifth 16 g _ _ _ _ _ _ 0 h;
-      total = λ f w h. total-fifth 0 0 _ _ _ _ _ _ _ h;
+      line = λ g t h. line-figure (listed (groupFigures t)) 4 (omega arith) h 16 g;
+      total = λ f w h. total-figure (listed f) 4 (omega arith) h (co2Word w) refl;
       small = λ f r b m. omega (arith, b .land, m);
     }
 

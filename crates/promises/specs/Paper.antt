@@ -80,11 +80,11 @@ sample =
 -- its lines, the subtotal of group 12 before the total
 abbrev pub sampleLines : List (List ℕ)
 sampleLines =
-    lineBytes 3 12 434501 0 0 0 0 0
-    ∷ lineBytes 6 0 0 0 875000 0 0 0
-    ∷ lineBytes 3 12 392453 0 0 0 0 0
-    ∷ lineBytes 16 12 826954 0 0 0 0 0
-    ∷ totalBytes 826954 0 875000 0 0 0 18241034
+    lineBytes 3 12 (434501 ∷ 0 ∷ 0 ∷ 0 ∷ 0 ∷ 0 ∷ [])
+    ∷ lineBytes 6 0 (0 ∷ 0 ∷ 875000 ∷ 0 ∷ 0 ∷ 0 ∷ [])
+    ∷ lineBytes 3 12 (392453 ∷ 0 ∷ 0 ∷ 0 ∷ 0 ∷ 0 ∷ [])
+    ∷ lineBytes 16 12 (826954 ∷ 0 ∷ 0 ∷ 0 ∷ 0 ∷ 0 ∷ [])
+    ∷ totalBytes (826954 ∷ 0 ∷ 875000 ∷ 0 ∷ 0 ∷ 0 ∷ []) 18241034
     ∷ []
 
 -- the sample book in five parts, with buffers that are too small at first

@@ -5,9 +5,7 @@ use Prim.Native.Nat.{ℕ, _-_}
 use mathlib.Core.List.{List, [], _∷_, _++_}
 use lib.ListN.{replicate}
 use Rattle.grams.specs.Cases.{Row, row}
-use Rattle.grams.specs.Units.{co2Word}
-use Rattle.account.specs.declared.Figures.{Figures}
-use Rattle.account.specs.Figures.{figuresOf}
+use Rattle.account.specs.Figures.{listed, figuresOf}
 use Rattle.account.specs.Judge.{noRecord}
 use Rattle.book.specs.State.{holding}
 use Rattle.book.specs.Run.{run}
@@ -75,10 +73,6 @@ from records bytes told =
 
 -- ---- the figures of a record
 
--- CH4, N2O, CO2 as a word, excreted and land nitrogen, CO2e of grazing
-abbrev pub shown : Figures → List ℕ
-shown f = f .ch4 ∷ f .n2o .0 ∷ co2Word (f .co2) ∷ f .excreted ∷ f .land ∷ f .grazing .0 ∷ []
-
 -- of a record of kind k with the values v under a heading of so many head
 abbrev pub given : ℕ → ℕ → List ℕ → List ℕ
-given head k v = shown (figuresOf (record { group = 1; class = 1; head = head }) k v)
+given head k v = listed (figuresOf (record { group = 1; class = 1; head = head }) k v)

@@ -1,7 +1,6 @@
 // What a record that is not refused leaves: the account after it with its line, as far as the line fits the room.
 use crate::figures::group_figures;
 use crate::figures::sub_summed;
-use crate::figures::summed;
 use account::Account;
 use account::Days;
 use account::Figures;
@@ -67,7 +66,7 @@ pub(crate) fn detailed(
         return full(a, line);
     }
     let sums = a.sums;
-    let more = summed(sums, f);
+    let more = sums.plus(f);
     let mut next = a.by_fields();
     next.records = a.records + 1;
     next.days = days;

@@ -1,9 +1,9 @@
--- `line_bytes::detail_numbers` meets its contract: each value is what its call gave.
+-- `line_bytes::detail_numbers` meets its contract.
 -- Assumes nothing.
 use native.Mathlib.Omega.{arith}
-use mathlib.Core.List.{[], _∷_}
-use Rattle.line_bytes.specs.Lines.{lineFields}
+use borrow.Author.Needs.{needs}
 use Rattle.codec.specs.Codec.{valuesAt}
+use Rattle.line_bytes.specs.Lines.{lineFields}
 use Rattle.line_bytes.proofs.detail_numbers.Statement.{statement}
 use Rattle.line_bytes.proofs.detail_numbers.Tie as tie
 
@@ -12,15 +12,6 @@ unfolding lineFields valuesAt
 detail-numbers-spec =
     tie.close
     (tie.spec
-    (λ c κs. omega arith)
-    (λ c κs. omega arith)
-    (λ c κs. omega arith)
-    (λ c κs. omega arith)
-    (λ c κs. omega arith)
-    (λ c κs. omega arith)
-    (λ c κs. omega arith)
-    (λ c κs. omega arith)
-    (λ c. λ j. c .before .before .before .before .before .before .before .be8 .ensures j
-    ∷ c .before .before .before .before .before .before .be16 .ensures j ∷ c .before .before .before .before .before .be64 .ensures j
-    ∷ c .before .before .before .before .be642 .ensures j ∷ c .before .before .before .be643 .ensures j ∷ c .before .before .be644 .ensures j
-    ∷ c .before .be645 .ensures j ∷ c .be646 .ensures j ∷ []))
+    (λ c. search needs)
+    (λ c κs. (search needs, search needs))
+    (λ c. c .before .read-numbers .ensures))

@@ -1,29 +1,36 @@
 -- `line_bytes::put_total` meets its contract.
 -- Assumes nothing.
-use mathlib.Core.Path.{refl}
-use Rattle.line_bytes.specs.Lines.{totalFields, totalBytes}
-use Rattle.codec.proofs.Stores.{bytes-stored}
+use mathlib.Core.Path.{_≡_}
 use native.Mathlib.Omega.{arith}
+use borrow.Author.Needs.{needs}
+use lib.ListN.{length}
+use Rattle.line_bytes.specs.Lines.{figureCount}
+use Rattle.line_bytes.proofs.Laid.{total-stored}
 use Rattle.line_bytes.proofs.put_total.Statement.{statement}
 use Rattle.line_bytes.proofs.put_total.Tie as tie
 
 pub put-total-spec : {M : Type 1} → statement M
-unfolding totalBytes totalFields
 put-total-spec =
     tie.close
     (tie.spec
-    (λ c κs. omega arith)
     (λ c. omega arith)
-    (λ c κs. omega arith)
     (λ c κs. omega arith)
     (λ c. omega arith)
     (λ c κs. omega arith)
     (λ c. omega arith)
-    (λ c. rw (
-      bytes-stored,
+    (λ c. search needs)
+    (λ c κs. omega arith)
+    (λ c. omega arith)
+    (λ c κs. omega arith)
+    (λ c. omega arith)
+    (λ c.
+    let args = c .before .before .before .before .before .before .before .before .before .before .before .before .before .before .before .before .before .before .args in
+    let count : length (args .t3) ≡ figureCount = omega arith in
+    rw (
+      total-stored (args .t3) (args .co2e) (args .out .now) (args .at) count,
       c .before .before .put8 .ensures,
       c .before .before .before .before .before .before .put-figures .ensures,
-      c .before .before .before .before .before .before .before .before .before .before .put2 .ensures,
-      c .before .before .before .before .before .before .before .before .before .before .before .before .before .before .put-start
-          .ensures,
-    ) refl))
+      c .before .before .before .before .before .before .before .before .before .before .before .put2 .ensures,
+      c .before .before .before .before .before .before .before .before .before .before .before .before .before .before .before .put-start .ensures,
+      count,
+    )))

@@ -17,4 +17,4 @@ detailed-spec =
     (λ c κs. search needs)
     (λ c κs. tt)
     (λ c. search needs)
-    (λ c. rw (le-leb _ _ (c .before .before .before .before .if1 .left), c .before .by-fields .ensures, c .before .before .summed .ensures) refl))
+    (λ c. rw (le-leb _ _ (c .before .before .before .before .if1 .left), c .before .by-fields .ensures, c .before .before .plus .ensures) refl))

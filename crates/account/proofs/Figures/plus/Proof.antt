@@ -3,17 +3,17 @@ use mathlib.Core.Path.{refl}
 use native.Mathlib.Omega.{arith}
 use borrow.Author.Needs.{needs}
 use Rattle.grams.proofs.Carbon.{within-more}
-use Rattle.rules.proofs.figures.summed.Statement.{statement}
-use Rattle.rules.proofs.figures.summed.Tie as tie
+use Rattle.account.proofs.Figures.plus.Statement.{statement}
+use Rattle.account.proofs.Figures.plus.Tie as tie
 
-pub summed-spec : {M : Type 1} → statement M
-summed-spec =
+pub plus-spec : {M : Type 1} → statement M
+plus-spec =
     tie.close
     (tie.spec
     (λ c κs. search needs)
     (λ c κs. let a = c .before .before .before .before .before in (
       a .pre .0 .co2,
-      within-more (a .args .g .co2) 1 49152 (omega arith) (a .pre .1 .co2),
+      within-more (a .args .f .co2) 1 49152 (omega arith) (a .pre .1 .co2),
     ))
     (λ c κs. search needs)
     (λ c. search needs)
