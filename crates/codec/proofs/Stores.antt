@@ -9,7 +9,7 @@ use native.Mathlib.Numerals.{add-one}
 use lib.ListN.{length, getD, set, take, drop, replicate, drop-of-length-le}
 use lib.Seq.{sets, sets-eq, drop-cons}
 use Rattle.codec.specs.declared.Field.{Field}
-use Rattle.codec.specs.Table.{field, fields, rowVersion, rowKind, lengthOf}
+use Rattle.codec.specs.Table.{fields, rowVersion, rowKind, lengthOf}
 use Rattle.codec.specs.Codec.{be, bytesOf, recordBytes}
 use Rattle.codec.proofs.BigEndian.{be-length}
 

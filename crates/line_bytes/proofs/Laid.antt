@@ -6,7 +6,7 @@ use Prim.Native.Nat.{ℕ, zero, suc, _+_, _-_, _*_, _<_, _≤_}
 use native.Mathlib.Omega.{arith}
 use native.Mathlib.Nat.{zero-add, add-zero, add-suc, suc-add}
 use native.Mathlib.Numerals.{add-one}
-use lib.ListN.{length, length-append, length-set, getD, set, take, drop, replicate, length-replicate, drop-of-length-le, List·getD-append}
+use lib.ListN.{length, length-append, length-set, getD, set, replicate, length-replicate, drop-of-length-le, List·getD-append}
 use lib.Seq.{sets, sets-eq, getD-at}
 use Rattle.codec.specs.declared.Field.{Field}
 use Rattle.codec.specs.Table.{size}
@@ -35,7 +35,9 @@ one-behind zero i vs v h = append-nil _ ∙ ap (be 8) (getD-at vs v [] 0 i (sym 
 one-behind (suc n) i vs v h =
     let first : getD (vs ++ (v ∷ [])) i 0 ≡ getD vs i 0 = List·getD-append vs (v ∷ []) 0 i (omega arith) in
     let rest = one-behind n (suc i) vs v (rw (suc-add, ← add-suc) h) in
-    rw first (ap (λ (l : List ℕ). be 8 (getD vs i 0) ++ l) rest ∙ sym (append-assoc (be 8 (getD vs i 0)) (bytesOf (replicate n figure) vs (suc i)) (be 8 v)))
+    rw first
+    (ap (λ (l : List ℕ). be 8 (getD vs i 0) ++ l) rest
+    ∙ sym (append-assoc (be 8 (getD vs i 0)) (bytesOf (replicate n figure) vs (suc i)) (be 8 v)))
 
 total-is : (sums : List ℕ) (co2e : ℕ) → length sums ≡ figureCount
     → totalBytes sums co2e ≡ headed totalLength 8 0 (bytesOf (replicate figureCount figure) sums 0 ++ be 8 co2e)
@@ -46,7 +48,8 @@ total-is sums co2e n = ap (headed totalLength 8 0) (one-behind figureCount 0 sum
 abbrev pub opened : List ℕ → ℕ → ℕ → ℕ → ℕ → List ℕ
 opened l at len kind group = sets (sets (sets (sets l at (be 2 len)) (at + 2) (be 1 1)) (at + 3) (be 1 kind)) (at + 4) (be 2 group)
 
-head-stored : (len kind group : ℕ) (rest l : List ℕ) (at : ℕ) → sets l at (headed len kind group rest) ≡ sets (opened l at len kind group) (at + 6) rest
+head-stored : (len kind group : ℕ) (rest l : List ℕ) (at : ℕ)
+    → sets l at (headed len kind group rest) ≡ sets (opened l at len kind group) (at + 6) rest
 head-stored len kind group rest l at =
     let l2 : List ℕ = sets l at (be 2 len) in
     let l3 : List ℕ = sets l2 (at + 2) (be 1 1) in
@@ -89,7 +92,8 @@ total-stored sums co2e l at n =
 module _ (s l : List ℕ) (n p i : ℕ) where
   -- a turn of the loop over the figures
   pub one-read : i < n
-      → sets (set l i (valAt s p 8)) (i + 1) (valuesAt (replicate (n - (i + 1)) figure) s (p + 8)) ≡ sets l i (valuesAt (replicate (n - i) figure) s p)
+      → sets (set l i (valAt s p 8)) (i + 1) (valuesAt (replicate (n - (i + 1)) figure) s (p + 8))
+      ≡ sets l i (valuesAt (replicate (n - i) figure) s p)
   unfolding valuesAt
   one-read h = let e : n - i ≡ suc (n - (i + 1)) = omega arith in rw (e, add-one)
 

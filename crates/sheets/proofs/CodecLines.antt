@@ -12,7 +12,8 @@ use Rattle.sheets.specs.Rows.{columns, lengthOf, bytes, lineOf}
 
 -- a detail's line or a subtotal: its last column is empty
 pub detail-line : (kind group ch4 n2o co2 excreted land grazing : ℕ) → (kind ≡ 8 → ⊥)
-    → lineOf kind (kind ∷ group ∷ ch4 ∷ n2o ∷ co2 ∷ excreted ∷ land ∷ grazing ∷ 0 ∷ []) ≡ lineBytes kind group (ch4 ∷ n2o ∷ co2 ∷ excreted ∷ land ∷ grazing ∷ [])
+    → lineOf kind (kind ∷ group ∷ ch4 ∷ n2o ∷ co2 ∷ excreted ∷ land ∷ grazing ∷ 0 ∷ [])
+    ≡ lineBytes kind group (ch4 ∷ n2o ∷ co2 ∷ excreted ∷ land ∷ grazing ∷ [])
 unfolding lineOf bytes columns lineBytes lineFields bytesOf be
 detail-line kind group ch4 n2o co2 excreted land grazing h = rw (ne-eqb kind 8 h) refl
 

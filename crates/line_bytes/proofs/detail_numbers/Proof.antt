@@ -1,6 +1,5 @@
 -- `line_bytes::detail_numbers` meets its contract.
 -- Assumes nothing.
-use native.Mathlib.Omega.{arith}
 use borrow.Author.Needs.{needs}
 use Rattle.codec.specs.Codec.{valuesAt}
 use Rattle.line_bytes.specs.Lines.{lineFields}

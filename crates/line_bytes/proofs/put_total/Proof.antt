@@ -24,13 +24,14 @@ put-total-spec =
     (λ c κs. omega arith)
     (λ c. omega arith)
     (λ c.
-    let args = c .before .before .before .before .before .before .before .before .before .before .before .before .before .before .before .before .before .before .args in
+    let first = c .before .before .before .before .before .before .before .before .before .before .before .before .before .before .before in
+    let args = first .before .before .before .args in
     let count : length (args .t3) ≡ figureCount = omega arith in
     rw (
       total-stored (args .t3) (args .co2e) (args .out .now) (args .at) count,
       c .before .before .put8 .ensures,
       c .before .before .before .before .before .before .put-figures .ensures,
       c .before .before .before .before .before .before .before .before .before .before .before .put2 .ensures,
-      c .before .before .before .before .before .before .before .before .before .before .before .before .before .before .before .put-start .ensures,
+      first .put-start .ensures,
       count,
     )))
