@@ -13,7 +13,7 @@ use Rattle.base.specs.Choice.{pick}
 use Rattle.base.proofs.Tests.{and-l, and-r, or-l, not-false, not-true, of-choice}
 use Rattle.codec.proofs.EachKind.{each-row, row-of-kind}
 use Rattle.codec.specs.declared.Field.{Field}
-use Rattle.codec.specs.Table.{table, fields, isRow, lineSize, totalSize, linesMost}
+use Rattle.codec.specs.Table.{table, fields, lastRow, isRow, lineSize, totalSize, linesMost}
 use Rattle.codec.specs.Codec.{firstBad}
 use Rattle.codec.proofs.Within.{bad-position}
 use Rattle.grams.specs.Farm.{energyOf, soilOf}
@@ -363,11 +363,11 @@ module _ (a : Account) (f : AccountInRange a) (early : a .stage < 2) where
       (λ e. in-range-opened _ (omega arith) (omega arith) (omega arith) (omega arith) empty)
       (λ e. in-range-opened _ (omega arith) (omega arith) (omega arith) (omega arith) empty)
 
-  kept-factors : (v : List ℕ) → ValuesPass a 11 v → Kept (accepted a 11 v)
+  kept-factors : (v : List ℕ) → ValuesPass a lastRow v → Kept (accepted a lastRow v)
   unfolding inPlace accepted sortOf
   kept-factors v c =
-      let i = factors-in v (passed a 11 v c .ranges) in
-      in-range-opened _ (i .ch4-least) (i .ch4-most) (i .n2o-least) (i .n2o-most) (eqb-true _ _ (passed a 11 v c .place))
+      let i = factors-in v (passed a lastRow v c .ranges) in
+      in-range-opened _ (i .ch4-least) (i .ch4-most) (i .n2o-least) (i .n2o-most) (eqb-true _ _ (passed a lastRow v c .place))
 
   after-first : (k : ℕ) (v : List ℕ) → ValuesPass a k v → isFarm k ≡ false → 1 ≤ a .records
   unfolding inPlace
@@ -384,9 +384,35 @@ module _ (a : Account) (f : AccountInRange a) (early : a .stage < 2) where
 
   pub in-range-accepted : (k : ℕ) (v : List ℕ) → ValuesPass a k v → isRow k ≡ true → Kept (accepted a k v)
   in-range-accepted k v c both =
-      each-row (λ (n : ℕ). ValuesPass a n v → Kept (accepted a n v)) (kept-farm v) (later 2 v refl kept-heading) (later 3 v refl detail-enteric)
-      (later 4 v refl detail-cattle) (later 5 v refl detail-pig) (later 6 v refl detail-energy) (later 7 v refl detail-soil)
-      (later 8 v refl kept-close) (later 9 v refl detail-tillage) (later 10 v refl detail-grazing) (kept-factors v) k both c
+      each-row (λ (n : ℕ). ValuesPass a n v → Kept (accepted a n v)) (
+        kept-farm v,
+        (
+          later 2 v refl kept-heading,
+          (
+            later 3 v refl detail-enteric,
+            (
+              later 4 v refl detail-cattle,
+              (
+                later 5 v refl detail-pig,
+                (
+                  later 6 v refl detail-energy,
+                  (
+                    later 7 v refl detail-soil,
+                    (
+                      later 8 v refl kept-close,
+                      (
+                        later 9 v refl detail-tillage,
+                        (later 10 v refl detail-grazing, (kept-factors v, tt)),
+                      ),
+                    ),
+                  ),
+                ),
+              ),
+            ),
+          ),
+        ),
+      )
+      k both c
 
 -- ---- a whole record
 

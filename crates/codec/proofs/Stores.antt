@@ -2,14 +2,14 @@
 -- Assumes nothing.
 use mathlib.Core.Path.{_≡_, refl, sym, ap, _∙_}
 use mathlib.Core.List.{List, [], _∷_, _++_, append-assoc}
-use Prim.Native.Nat.{ℕ, suc, _+_, _-_, _/_, _<_, _≤_}
+use Prim.Native.Nat.{ℕ, suc, _+_, _/_, _<_, _≤_}
 use native.Mathlib.Omega.{arith}
 use native.Mathlib.Nat.{zero-add, add-zero, add-suc, add-assoc}
 use native.Mathlib.Numerals.{add-one}
-use lib.ListN.{length, getD, set, take, drop, replicate, drop-of-length-le}
+use lib.ListN.{length, getD, set, take, drop, drop-of-length-le}
 use lib.Seq.{sets, sets-eq, drop-cons}
 use Rattle.codec.specs.declared.Field.{Field}
-use Rattle.codec.specs.Table.{field, fields, rowVersion, rowKind, lengthOf}
+use Rattle.codec.specs.Table.{fields, rowVersion, rowKind, lengthOf}
 use Rattle.codec.specs.Codec.{be, bytesOf, recordBytes}
 use Rattle.codec.proofs.BigEndian.{be-length}
 
@@ -74,32 +74,6 @@ module _ (kind : ℕ) (vs l : List ℕ) (at : ℕ) where
       ∙ ap (λ k. sets l3 k (be 1 (rowKind kind) ++ rest)) e3
       ∙ sym (put-then 1 (rowKind kind) (at + 3) l3 rest)
       ∙ ap (λ k. sets (sets l3 (at + 3) (be 1 (rowKind kind))) k rest) e4
-
-  pub fields-stored : sets l at (recordBytes kind vs) ≡ stores (fields kind) vs 0
-      (sets (sets (sets l at (be 2 (lengthOf kind))) (at + 2) (be 1 (rowVersion kind))) (at + 3) (be 1 (rowKind kind))) at 4
-  fields-stored =
-      record-stored ∙ stores-all (fields kind) vs 0 (sets (sets (sets l at (be 2 (lengthOf kind))) (at + 2) (be 1 (rowVersion kind))) (at + 3)
-      (be 1 (rowKind kind))) at 4
-
--- ---- a loop over values of two bytes each
-
-abbrev pub twoByteFields : ℕ → List Field
-twoByteFields n = replicate n (field 2 0 65535)
-
-module _ (vs l : List ℕ) (n p i : ℕ) where
-  -- a turn
-  pub two-stored : i < n
-      → sets (sets l p (be 2 (getD vs i 0))) (p + 2) (bytesOf (twoByteFields (n - (i + 1))) vs (i + 1)) ≡ sets l p
-      (bytesOf (twoByteFields (n - i)) vs i)
-  unfolding bytesOf
-  two-stored h =
-      let e : n - i ≡ suc (n - (i + 1)) = omega arith in
-      rw (e, add-one) (put-then 2 (getD vs i 0) p l (bytesOf (twoByteFields (n - suc i)) vs (suc i)))
-
-  -- the end
-  pub twoByteFields-stored : n ≤ i → sets l p (bytesOf (twoByteFields (n - i)) vs i) ≡ l
-  unfolding bytesOf
-  twoByteFields-stored h = let e : n - i ≡ 0 = omega arith in rw e
 
 -- a run of n stores, as the parts before and after it
 pub sets-at : (n : ℕ) (vs l : List ℕ) (i : ℕ) → length vs ≡ n → i + n ≤ length l → sets l i vs ≡ take i l ++ (vs ++ drop (i + n) l)
