@@ -11,6 +11,7 @@ use lib.ListN.{getD}
 use lib.Dec.{eqb}
 use Rattle.base.specs.Choice.{pick}
 use Rattle.base.proofs.Tests.{by-test, of-choice, no-bool, not-true, not-false, and-l, and-r, or-l, or-r}
+use Rattle.codec.specs.Table.{lastRow}
 use Rattle.grams.specs.Units.{gramsN2o, plusCo2, gramsGrazed}
 use Rattle.grams.specs.declared.units.Co2.{Co2}
 use Rattle.grams.proofs.Carbon.{plus-comm, plus-assoc}
@@ -202,7 +203,7 @@ record Found (a : Account) (r : List ℕ) : Type 0 where
 -- in its place: the heading serves, and there is a record before it
 in-place : (a : Account) (k : ℕ) → DetailKind k → inPlace a k ≡ headingServes (a .heading .class) k && not (eqb (a .records) 0)
 unfolding inPlace sortOf
-in-place a k d = rw (other-kind k 1 d refl, other-kind k 11 d refl) refl
+in-place a k d = rw (other-kind k 1 d refl, other-kind k lastRow d refl) refl
 
 found : (a : Account) (r : List ℕ) → DetailKind (kindOf r) → NotRefused a r → Found a r
 found a r d t =

@@ -48,10 +48,20 @@ pub figures-small : (h : Heading) (v : List ℕ) → h .head ≤ 20000 → (k : 
     → partsWrong k v ≡ false → Small (figuresOf h k v)
 unfolding sortOf
 figures-small h v m =
-    each-row (λ (k : ℕ). DetailKind k → firstBad (fields k) v 0 ≡ 0 → partsWrong k v ≡ false → Small (figuresOf h k v)) (λ d. no-bool d)
-    (λ d. no-bool d) (λ d e p. enteric-figures h v m e) (λ d e p. cattle-figures h v m e) (λ d e p. pig-figures h v m e (ltb-false _ _ p))
-    (λ d e p. energy-figures h v e) (λ d e p. soil-figures h v e) (λ d. no-bool d) (λ d e p. tillage-figures h v e)
-    (λ d e p. grazing-figures h v m e) (λ d. no-bool d)
+    each-row (λ (k : ℕ). DetailKind k → firstBad (fields k) v 0 ≡ 0 → partsWrong k v ≡ false → Small (figuresOf h k v)) (
+      (λ d. no-bool d),
+      (λ d. no-bool d),
+      (λ d e p. enteric-figures h v m e),
+      (λ d e p. cattle-figures h v m e),
+      (λ d e p. pig-figures h v m e (ltb-false _ _ p)),
+      (λ d e p. energy-figures h v e),
+      (λ d e p. soil-figures h v e),
+      (λ d. no-bool d),
+      (λ d e p. tillage-figures h v e),
+      (λ d e p. grazing-figures h v m e),
+      (λ d. no-bool d),
+      tt,
+    )
 
 -- a detail of the farm gives CO2 alone
 pub of-farm : (P : Figures → Type 0) (h : Heading) (k : ℕ) (v : List ℕ) → sortOf k ≡ ofFarm → ((g : Co2) → P (co2Alone g)) → P (figuresOf h k v)

@@ -6,7 +6,7 @@ use mathlib.Core.List.{List, [], _∷_}
 use native.Mathlib.Omega.{arith}
 use lib.ListN.{length, getD}
 use Rattle.codec.specs.declared.Field.{Field}
-use Rattle.codec.specs.Table.{table, fields}
+use Rattle.codec.specs.Table.{table, fields, lastRow}
 use Rattle.codec.specs.Codec.{firstBad}
 use Rattle.codec.proofs.Within.{Good, first-within}
 
@@ -25,9 +25,9 @@ pub record FactorsIn (v : List ℕ) : Type 0 where
   pub n2o-least : 1 ≤ getD v 3 0
   pub n2o-most : getD v 3 0 ≤ 1000
 
-pub factors-in : (v : List ℕ) → firstBad (fields 11) v 0 ≡ 0 → FactorsIn v
+pub factors-in : (v : List ℕ) → firstBad (fields lastRow) v 0 ≡ 0 → FactorsIn v
 unfolding table
-factors-in v e = let g = good 11 v e in record { ch4-least = omega arith; ch4-most = omega arith; n2o-least = omega arith; n2o-most = omega arith }
+factors-in v e = let g = good lastRow v e in record { ch4-least = omega arith; ch4-most = omega arith; n2o-least = omega arith; n2o-most = omega arith }
 
 pub record HeadingIn (v : List ℕ) : Type 0 where
   pub group-least : 1 ≤ getD v 0 0

@@ -7,7 +7,7 @@ use mathlib.Core.Bool.{Bool, true, false, _&&_, _||_, not}
 use lib.ListN.{length, getD}
 use lib.Dec.{ltb, leb, eqb}
 use Rattle.base.specs.Choice.{pick}
-use Rattle.codec.specs.Table.{fields, rowOf, lengthOf, lengthMost, isKind}
+use Rattle.codec.specs.Table.{fields, rowOf, lastRow, lengthOf, lengthMost, isKind}
 use Rattle.codec.specs.Codec.{valAt, valuesAt, firstBad}
 use Rattle.grams.specs.Cattle.{belowZero}
 use Rattle.grams.specs.Farm.{setFactors}
@@ -139,7 +139,7 @@ closed a =
 
 -- the warming factors of a farm record: those of its set, or with version 2 its own
 abbrev pub farmFactors : ℕ → List ℕ → Factors
-farmFactors k v = pick (eqb k 11) (record { ch4 = getD v 2 0; n2o = getD v 3 0 }) (setFactors (getD v 2 0))
+farmFactors k v = pick (eqb k lastRow) (record { ch4 = getD v 2 0; n2o = getD v 3 0 }) (setFactors (getD v 2 0))
 
 -- ---- the refusals
 

@@ -5,10 +5,11 @@ use Prim.Native.Nat.{ℕ}
 use mathlib.Core.Bool.{Bool, _||_}
 use lib.Dec.{eqb}
 use Rattle.base.specs.Choice.{pick}
+use Rattle.codec.specs.Table.{lastRow}
 
 -- k is a row of the table: a kind, or behind the kinds the farm record of version 2
 abbrev pub isFarm : ℕ → Bool
-isFarm k = eqb k 1 || eqb k 11
+isFarm k = eqb k 1 || eqb k lastRow
 
 pub data Sort : Type 0 where
   opens : Sort

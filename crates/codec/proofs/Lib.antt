@@ -4,6 +4,8 @@ pub mod Values
 pub mod Within
 mod AllIn
 pub mod Rows
+pub mod Columns
+mod FieldByField
 pub mod EachKind
 pub mod Round
 pub mod Sample

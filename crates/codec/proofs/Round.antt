@@ -9,7 +9,7 @@ use lib.Seq.{sets, take-all, length-take-le, take-add, drop-drop, drop-cons}
 use lib.Dec.{eqb}
 use Rattle.base.proofs.Tests.{of-choice}
 use Rattle.codec.specs.declared.Field.{Field}
-use Rattle.codec.specs.Table.{fields, rowVersion, rowKind, size, lengthOf}
+use Rattle.codec.specs.Table.{fields, lastRow, rowVersion, rowKind, size, lengthOf}
 use Rattle.codec.specs.Codec.{bytesHold, valAt, be, valuesAt, bytesOf, firstBad, recordBytes}
 use Rattle.codec.specs.Codec.{Bytes, Fit}
 use Rattle.codec.proofs.BigEndian.{bytes-append, be-bytes, be-length, valAt-be, be-valAt}
@@ -114,10 +114,10 @@ record-again kind r w =
 
 -- and what is written is a whole record
 version-small : (row : ℕ) → rowVersion row < 256
-version-small row = of-choice (λ (n : ℕ). n < 256) (eqb row 11) (λ e. omega arith) (λ e. omega arith)
+version-small row = of-choice (λ (n : ℕ). n < 256) (eqb row lastRow) (λ e. omega arith) (λ e. omega arith)
 
 kind-small : (row : ℕ) → row < 256 → rowKind row < 256
-kind-small row h = of-choice (λ (n : ℕ). n < 256) (eqb row 11) (λ e. omega arith) (λ e. h)
+kind-small row h = of-choice (λ (n : ℕ). n < 256) (eqb row lastRow) (λ e. omega arith) (λ e. h)
 
 pub record-whole : (kind : ℕ) (vs : List ℕ) → kind < 256 → Whole kind (recordBytes kind vs)
 unfolding recordBytes be bytesHold

@@ -1,9 +1,9 @@
--- The first enteric record of document 01's sample book, computed.
+-- The first enteric record of document 01's sample book, computed; and the length of each row.
 -- Assumes nothing.
 use mathlib.Core.Path.{_≡_, refl}
-use mathlib.Core.List.{List, [], _∷_}
+use mathlib.Core.List.{List, [], _∷_, map}
 use Prim.Native.Nat.{ℕ}
-use Rattle.codec.specs.Table.{table, fields, size}
+use Rattle.codec.specs.Table.{table, fields, size, lengthOf}
 use Rattle.codec.specs.Codec.{valAt, be, valuesAt, bytesOf, firstBad, recordBytes}
 
 -- 000A0103001F00007530028A
@@ -25,3 +25,8 @@ pub tested :
     ≡ 0 ∷ 1 ∷ 1 ∷ 3 ∷ []
 unfolding firstBad table
 tested = refl
+
+-- the lengths of document 01, kinds 1 to 8, of change requests W7 and W10, kinds 9 and 10, and of W11
+pub lengths : map lengthOf (1 ∷ 2 ∷ 3 ∷ 4 ∷ 5 ∷ 6 ∷ 7 ∷ 8 ∷ 9 ∷ 10 ∷ 11 ∷ []) ≡ 9 ∷ 7 ∷ 10 ∷ 20 ∷ 26 ∷ 11 ∷ 6 ∷ 4 ∷ 11 ∷ 8 ∷ 12 ∷ []
+unfolding table size
+lengths = refl

@@ -75,12 +75,6 @@ module _ (kind : ℕ) (vs l : List ℕ) (at : ℕ) where
       ∙ sym (put-then 1 (rowKind kind) (at + 3) l3 rest)
       ∙ ap (λ k. sets (sets l3 (at + 3) (be 1 (rowKind kind))) k rest) e4
 
-  pub fields-stored : sets l at (recordBytes kind vs) ≡ stores (fields kind) vs 0
-      (sets (sets (sets l at (be 2 (lengthOf kind))) (at + 2) (be 1 (rowVersion kind))) (at + 3) (be 1 (rowKind kind))) at 4
-  fields-stored =
-      record-stored ∙ stores-all (fields kind) vs 0 (sets (sets (sets l at (be 2 (lengthOf kind))) (at + 2) (be 1 (rowVersion kind))) (at + 3)
-      (be 1 (rowKind kind))) at 4
-
 -- ---- a loop over values of one field each
 
 module _ (f : Field) (vs l : List ℕ) (n p i : ℕ) where

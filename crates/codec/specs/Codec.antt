@@ -1,9 +1,9 @@
 -- Document 01, "The book": big-endian numbers, a record's values from its bytes, its bytes from its values, the first value out of
 -- its range. All of it goes by the fields of specs/Table.antt.
 -- Assumes nothing.
-use Prim.Native.Nat.{ℕ, zero, suc, _+_, _*_, _/_, _%_, _<_}
+use Prim.Native.Nat.{ℕ, zero, suc, _+_, _-_, _*_, _/_, _%_, _<_}
 use mathlib.Core.List.{List, [], _∷_, _++_}
-use lib.ListN.{getD}
+use lib.ListN.{getD, length, replicate}
 use lib.Dec.{leb}
 use Rattle.base.specs.Choice.{pick}
 use Rattle.codec.specs.declared.Field.{Field}
@@ -32,6 +32,10 @@ be (suc w) v = be w (v / 256) ++ (v % 256 ∷ [])
 unfoldable pub valuesAt : List Field → List ℕ → ℕ → List ℕ
 valuesAt [] s at = []
 valuesAt (f ∷ fs) s at = valAt s at (f .0) ∷ valuesAt fs s (at + f .0)
+
+-- the values of a record in twelve places, zeros behind; no record has more
+abbrev pub inTwelve : List ℕ → List ℕ
+inTwelve v = v ++ replicate (12 - length v) 0
 
 -- the bytes of the fields fs, whose values stand in vs from i
 unfoldable pub bytesOf : List Field → List ℕ → ℕ → List ℕ

@@ -45,27 +45,30 @@ table =
     ∷ (field 4 0 4294967295 ∷ field 2 1900 2200 ∷ field 2 1 1000 ∷ field 2 1 1000 ∷ [])
     ∷ []
 
--- the row of a record, by its version and its kind
-abbrev pub rowOf : ℕ → ℕ → ℕ
-rowOf version kind = pick (eqb version 2 && eqb kind 1) 11 kind
-
--- version and kind of the records of a row
-abbrev pub rowVersion : ℕ → ℕ
-rowVersion row = pick (eqb row 11) 2 1
-
-abbrev pub rowKind : ℕ → ℕ
-rowKind row = pick (eqb row 11) 1 row
-
--- the fields of a row, in order
-abbrev pub fields : ℕ → List Field
-fields row = getD table row []
-
 -- the highest kind, and the last row
 abbrev pub lastKind : ℕ
 lastKind = 10
 
 abbrev pub lastRow : ℕ
 lastRow = 11
+
+-- the row of a record, by its version and its kind
+abbrev pub rowOf : ℕ → ℕ → ℕ
+rowOf version kind = pick (eqb version 2 && eqb kind 1) lastRow kind
+
+-- version and kind of the records of a row
+abbrev pub rowVersion : ℕ → ℕ
+rowVersion row = pick (eqb row lastRow) 2 1
+
+abbrev pub rowKind : ℕ → ℕ
+rowKind row = pick (eqb row lastRow) 1 row
+
+-- the fields of a row, in order, and the field i of a row, counted from 0, where it has one
+abbrev pub fields : ℕ → List Field
+fields row = getD table row []
+
+abbrev pub fieldAt : ℕ → ℕ → Field
+fieldAt row i = getD (fields row) i (field 0 0 0)
 
 -- a kind that a record may have
 abbrev pub isKind : ℕ → Bool

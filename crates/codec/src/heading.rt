@@ -1,15 +1,11 @@
-// Kind 2, a heading: its values from its bytes, the first value out of its range, its bytes from its values.
+// Kind 2, a heading: its values from its bytes, and the first value out of its range.
 use crate::numbers::be8;
 use crate::numbers::be16;
-use crate::numbers::put1;
-use crate::numbers::put2;
-use crate::start::put_start;
 ghost use mathlib.Core.Path.{_≡_};
 ghost use Prim.Native.Nat.{_+_, _≤_};
 ghost use lib.ListN.{length};
-ghost use lib.Seq.{sets};
 ghost use Rattle.codec.specs.Table.{fields};
-ghost use Rattle.codec.specs.Codec.{firstBad, recordBytes, valuesAt};
+ghost use Rattle.codec.specs.Codec.{firstBad, valuesAt};
 
 // The values of the fields, which begin at `at`.
 pub fn read(s: &[u8], at: usize) -> [u64; 3]
@@ -42,15 +38,4 @@ pub fn first_bad(v: [u64; 3]) -> u8
         return 3;
     }
     0
-}
-
-// The whole record at `at`.
-pub fn write(out: &mut [u8], at: usize, v: [u64; 3])
-    requires { ⌜ (at + 9 ≤ length (now out)) × (firstBad (fields 2) v 0 ≡ 0) ⌝ }
-    ensures { λ _. ⌜ now (out .exit) ≡ sets (now (out .entry)) at (recordBytes 2 v) ⌝ }
-{
-    put_start(out, at, 7, 2);
-    put2(out, at + 4, v[0]);
-    put1(out, at + 6, v[1]);
-    put2(out, at + 7, v[2]);
 }

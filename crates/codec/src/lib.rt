@@ -2,7 +2,7 @@
 pub mod numbers; // numbers.rt: big-endian numbers
 pub mod start; // start.rt: what every record and every line begins with
 
-// A file for each kind: its values from its bytes, the first value out of its range, its bytes from its values.
+// A file for each kind: its values from its bytes, and the first value out of its range.
 pub mod cattle;
 pub mod close;
 pub mod energy;
@@ -14,7 +14,8 @@ pub mod heading;
 pub mod pig;
 pub mod soil;
 pub mod tillage;
-pub mod kinds; // kinds.rt: how many values and bytes each kind has
+pub mod by_row; // by_row.rt: the values and the bytes of a record of any row
+pub mod kinds; // kinds.rt: the table as the code has it
 
 // The highest kind, and the last row of the table, which is the farm record of version 2.
 pub const LAST_KIND: u64 = 10;

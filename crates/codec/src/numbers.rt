@@ -1,10 +1,9 @@
 // Big-endian numbers: read from a slice (be8, be16, be32, be64, by their bits), written into one (put1, put2, put4, put8, by their bytes).
 ghost use mathlib.Core.Path.{_≡_};
-ghost use Prim.Native.Nat.{_+_, _*_, _<_, _≤_};
-ghost use lib.ListN.{length, replicate};
+ghost use Prim.Native.Nat.{_+_, _<_, _≤_};
+ghost use lib.ListN.{length};
 ghost use lib.Seq.{sets};
-ghost use Rattle.codec.specs.Table.{field};
-ghost use Rattle.codec.specs.Codec.{valAt, be, bytesOf};
+ghost use Rattle.codec.specs.Codec.{valAt, be};
 
 fn wide(x: u8) -> u64
     ensures { λ r. ⌜ (r ≡ x) × (r < 256) ⌝ }
@@ -61,21 +60,6 @@ pub fn put2(out: &mut [u8], at: usize, v: u64)
 {
     out[at] = (v / 256 % 256) as u8;
     out[at + 1] = (v % 256) as u8;
-}
-
-// Values of two bytes each, one after the other.
-pub(crate) fn put2_each(out: &mut [u8], at: usize, v: &[u64])
-    requires { ⌜ at + length (now v) * 2 ≤ length (now out) ⌝ }
-    ensures { λ _. ⌜ now (out .exit) ≡ sets (now (out .entry)) at
-        (bytesOf (replicate (length (now (v .entry))) (field 2 0 65535)) (now (v .entry)) 0) ⌝ }
-{
-    let mut p = at;
-    let mut i = 0;
-    while i < v.len() {
-        put2(out, p, v[i]);
-        p += 2;
-        i += 1;
-    }
 }
 
 pub fn put4(out: &mut [u8], at: usize, v: u64)

@@ -11,7 +11,7 @@ use lib.ListN.{length, take, drop, length-drop}
 use lib.Seq.{drop-drop}
 use lib.Dec.{eqb}
 use Rattle.base.specs.Choice.{pick}
-use Rattle.codec.specs.Table.{rowOf}
+use Rattle.codec.specs.Table.{rowOf, lastRow}
 use Rattle.base.proofs.Tests.{by-test, of-choice, not-true, not-false, and-l, and-r}
 use Rattle.account.specs.declared.Account.{Account}
 use Rattle.account.specs.Sorts.{ofGroup, ofFarm, sortOf, bySort}
@@ -114,13 +114,13 @@ module _ (r xs : List ℕ) (many at i n : ℕ) (c : Counting r xs many at i n) w
 
 -- ---- a detail, as the code tests it
 
-detail-kind : (k : ℕ) → not (eqb k 1) && not (eqb k 2) && not (eqb k 8) && not (eqb k 11) ≡ bySort (sortOf k) false false true true false
+detail-kind : (k : ℕ) → not (eqb k 1) && not (eqb k 2) && not (eqb k 8) && not (eqb k lastRow) ≡ bySort (sortOf k) false false true true false
 unfolding sortOf
 detail-kind k =
     by-test (eqb k 1) (λ q. rw (eqb-true k 1 q) refl)
     (λ q1. by-test (eqb k 2) (λ q. rw (eqb-true k 2 q) refl)
     (λ q2. by-test (eqb k 8) (λ q. rw (eqb-true k 8 q) refl)
-    (λ q8. by-test (eqb k 11) (λ q. rw (eqb-true k 11 q) refl)
+    (λ q8. by-test (eqb k lastRow) (λ q. rw (eqb-true k lastRow q) refl)
     (λ q11. rw (q1, q2, q8, q11) (go (eqb k 3 || (eqb k 4 || (eqb k 5 || eqb k 10))))))))
   where
     go : (b : Bool) → true ≡ bySort (pick b ofGroup ofFarm) false false true true false
@@ -129,7 +129,7 @@ detail-kind k =
 
 -- a farm record of either version is none
 pub detail-test : (v k : ℕ)
-    → not (eqb k 1) && not (eqb k 2) && not (eqb k 8) && not (eqb k 11) ≡ bySort (sortOf (rowOf v k)) false false true true false
+    → not (eqb k 1) && not (eqb k 2) && not (eqb k 8) && not (eqb k lastRow) ≡ bySort (sortOf (rowOf v k)) false false true true false
 unfolding sortOf
 detail-test v k =
     by-test (eqb v 2 && eqb k 1) (λ q. rw (eqb-true k 1 (and-r (eqb v 2) (eqb k 1) q), eqb-true v 2 (and-l (eqb v 2) (eqb k 1) q)) refl)

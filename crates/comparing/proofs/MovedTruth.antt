@@ -12,6 +12,7 @@ use lib.Seq.{drop-drop, getD-take}
 use lib.Dec.{eqb}
 use Rattle.base.specs.Choice.{pick}
 use Rattle.base.proofs.Tests.{by-test, and-r}
+use Rattle.codec.specs.Table.{lastRow}
 use Rattle.account.specs.declared.Account.{Account}
 use Rattle.account.specs.declared.Heading.{Heading}
 use Rattle.account.specs.Sorts.{sortOf}
@@ -113,7 +114,7 @@ shape-byte r = go (eqb (kindByte r) 8)
 close-row : (r : List ℕ) → kindByte r ≡ 8 → kindOf r ≡ 8
 close-row r e = rw e (go (eqb (versionOf r) 2))
   where
-    go : (b : Bool) → _≡_ {A = ℕ} (pick (b && false) 11 8) 8
+    go : (b : Bool) → _≡_ {A = ℕ} (pick (b && false) lastRow 8) 8
     go true = refl
     go false = refl
 

@@ -35,12 +35,12 @@ fn times(r: &[u8], xs: &[u8], many: usize) -> usize
     n
 }
 
-// Whether the record r is a detail: it neither opens the book nor heads a group nor closes the book. 11 is a row of the table, and no kind.
+// Whether the record r is a detail: it neither opens the book nor heads a group nor closes the book. The last row of the table is no kind.
 fn detail(r: &[u8]) -> bool
     requires { ⌜ 4 ≤ length (now r) ⌝ }
     ensures { λ b. ⌜ b ≡ isDetail (now (r .entry)) ⌝ }
 {
-    (r[3] != 1) & (r[3] != 2) & (r[3] != 8) & (r[3] != 11)
+    (r[3] != 1) & (r[3] != 2) & (r[3] != 8) & (r[3] != (codec::LAST_ROW as u8))
 }
 
 // Whether the record r is a detail and stands as often among the first m records of xs as among the first n of ys.

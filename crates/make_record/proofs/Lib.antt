@@ -1,8 +1,7 @@
 pub mod RowLaws
-pub mod Listed
-pub mod ByKind
 pub mod Answers
 pub mod ReaderLaws
+mod AsRecord
 pub mod RoundTrip
 pub mod AsReader
 pub mod TooBig

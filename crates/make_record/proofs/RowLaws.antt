@@ -6,30 +6,30 @@ use mathlib.Core.List.{List}
 use mathlib.Core.Bool.{true, false, _&&_, _||_, not}
 use mathlib.Core.Logic.{⊎-elim}
 use native.Mathlib.Omega.{arith}
-use borrow.Author.Tests.{eqb-true, ne-eqb, le-leb, not-false}
+use borrow.Author.Tests.{eqb-true, eqb-false, ne-eqb, le-leb, not-false}
 use lib.Dec.{eqb}
 use lib.ListN.{length}
 use Rattle.base.specs.Choice.{pick}
 use Rattle.base.proofs.Tests.{by-test, and-false, and-l, and-r, or-cases, of-choice, no-bool}
-use Rattle.codec.specs.Table.{table, fields, rowOf, rowVersion, rowKind, lastKind, isKind, Of}
-use Rattle.codec.proofs.EachKind.{kind-most, each-row}
+use Rattle.codec.specs.Table.{table, fields, rowOf, rowVersion, rowKind, lastKind, lastRow, isKind, Of}
+use Rattle.codec.proofs.EachKind.{kind-most}
 use Rattle.make_record.specs.Write.{rowFor, OfKind}
 
 -- ---- the version and the kind of a row
 
 -- they lead back to it
 pub row-back : (row : ℕ) → rowOf (rowVersion row) (rowKind row) ≡ row
-row-back row = by-test (eqb row 11) (λ e. rw e (sym (eqb-true row 11 e))) (λ e. rw e refl)
+row-back row = by-test (eqb row lastRow) (λ e. rw e (sym (eqb-true row lastRow e))) (λ e. rw e refl)
 
 -- 2 lets them through
 pub version-passes : (row : ℕ) → not (eqb (rowVersion row) 1 || (eqb (rowVersion row) 2 && eqb (rowKind row) 1)) ≡ false
-version-passes row = by-test (eqb row 11) (λ e. rw e refl) (λ e. rw e refl)
+version-passes row = by-test (eqb row lastRow) (λ e. rw e refl) (λ e. rw e refl)
 
 -- and so does 3
-pub kind-passes : (row : ℕ) → 1 ≤ row → row ≤ 11 → not (isKind (rowKind row)) ≡ false
+pub kind-passes : (row : ℕ) → 1 ≤ row → row ≤ lastRow → not (isKind (rowKind row)) ≡ false
 kind-passes row l m =
-    each-row (λ n. not (isKind (rowKind n)) ≡ false) refl refl refl refl refl refl refl refl refl refl refl row
-    (rw (le-leb 1 row l, le-leb row 11 m) refl)
+    by-test (eqb row lastRow) (λ e. rw e refl)
+    (λ e. let n = eqb-false row lastRow e in rw (e, le-leb 1 row l, le-leb row lastKind (omega arith)) refl)
 
 -- ---- the row of some values
 
@@ -37,22 +37,22 @@ pub kind-of-row : (k count : ℕ) → k ≤ lastKind → rowKind (rowFor k count
 kind-of-row k count m =
     by-test (eqb k 1 && eqb count 4)
     (λ e. rw e (sym (eqb-true k 1 (and-l (eqb k 1) (eqb count 4) e))))
-    (λ e. let n : k ≡ 11 → ⊥ = λ q. omega arith in rw (e, ne-eqb k 11 n) refl)
+    (λ e. let n : k ≡ lastRow → ⊥ = λ q. omega arith in rw (e, ne-eqb k lastRow n) refl)
 
 pub version-of-row : (k count : ℕ) → k ≤ lastKind → rowVersion (rowFor k count) ≡ pick (eqb k 1 && eqb count 4) 2 1
 version-of-row k count m =
     by-test (eqb k 1 && eqb count 4)
     (λ e. rw e refl)
-    (λ e. let n : k ≡ 11 → ⊥ = λ q. omega arith in rw (e, ne-eqb k 11 n) refl)
+    (λ e. let n : k ≡ lastRow → ⊥ = λ q. omega arith in rw (e, ne-eqb k lastRow n) refl)
 
 -- values of a kind are values of their row
 pub of-row : (k : ℕ) (v : List ℕ) {row : ℕ} → row ≡ rowFor k (length v) → OfKind k row v → Of row v
 of-row k v {row} e o = record { least = range .0; most = range .1; count = o .count }
   where
-    range : (1 ≤ row) × (row ≤ 11)
+    range : (1 ≤ row) × (row ≤ lastRow)
     range =
         rw e
-        (of-choice (λ (n : ℕ). (1 ≤ n) × (n ≤ 11)) (eqb k 1 && eqb (length v) 4)
+        (of-choice (λ (n : ℕ). (1 ≤ n) × (n ≤ lastRow)) (eqb k 1 && eqb (length v) 4)
         (λ _. (omega arith, omega arith)) (λ _. (o .least, omega (arith, o .most))))
 
 -- as many values as a record has are of the record's row
@@ -70,21 +70,21 @@ row-again version k count e =
 
 -- ---- version and kind of a record that 2 and 3 let through are those of its row
 
-kind-is-no-row : (k : ℕ) → isKind k ≡ true → k ≡ 11 → ⊥
+kind-is-no-row : (k : ℕ) → isKind k ≡ true → k ≡ lastRow → ⊥
 kind-is-no-row k e q = let m = kind-most k e in omega arith
 
 pub kind-again : (version k : ℕ) → isKind k ≡ true → k ≡ rowKind (rowOf version k)
 kind-again version k e =
     by-test (eqb version 2 && eqb k 1)
     (λ t. rw t (eqb-true k 1 (and-r (eqb version 2) (eqb k 1) t)))
-    (λ t. rw (t, ne-eqb k 11 (kind-is-no-row k e)) refl)
+    (λ t. rw (t, ne-eqb k lastRow (kind-is-no-row k e)) refl)
 
 pub version-again : (version k : ℕ) → not (eqb version 1 || (eqb version 2 && eqb k 1)) ≡ false → isKind k ≡ true
     → version ≡ rowVersion (rowOf version k)
 version-again version k p e =
     by-test (eqb version 2 && eqb k 1)
     (λ t. rw t (eqb-true version 2 (and-l (eqb version 2) (eqb k 1) t)))
-    (λ t. rw (t, ne-eqb k 11 (kind-is-no-row k e)) (one t))
+    (λ t. rw (t, ne-eqb k lastRow (kind-is-no-row k e)) (one t))
   where
     one : eqb version 2 && eqb k 1 ≡ false → version ≡ 1
     one t =

@@ -7,7 +7,7 @@ use mathlib.Core.Bool.{Bool, _&&_, _||_, not}
 use lib.ListN.{length, drop}
 use lib.Dec.{ltb, eqb}
 use Rattle.base.specs.Choice.{pick}
-use Rattle.codec.specs.Table.{fields, lastKind, lengthOf}
+use Rattle.codec.specs.Table.{fields, lastKind, lastRow, lengthOf}
 use Rattle.codec.specs.Codec.{recordBytes}
 use Rattle.account.specs.declared.Account.{Account}
 use Rattle.account.specs.declared.Refusal.{Refusal}
@@ -35,7 +35,7 @@ refusalBy code records = record { code = code; accepted = records; field = 0 }
 
 -- the row of the table that so many values of kind k are of: four of a farm record are version 2's, any other count version 1's
 abbrev pub rowFor : ℕ → ℕ → ℕ
-rowFor k count = pick (eqb k 1 && eqb count 4) 11 k
+rowFor k count = pick (eqb k 1 && eqb count 4) lastRow k
 
 -- the reader's account after values v of a row
 abbrev pub next : State → ℕ → List ℕ → Account

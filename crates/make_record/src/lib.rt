@@ -122,7 +122,7 @@ pub fn write(state: State, kind: u64, values: &[u64], out: &mut [u8]) -> Written
 {
     let w = answered(state, kind, values, out.len());
     if w.written != 0 {
-        kinds::put(out, row_for(kind, values.len()), values);
+        codec::by_row::write(out, 0, row_for(kind, values.len()), values);
     }
     w
 }

@@ -10,7 +10,7 @@ use lib.ListN.{length, getD, take, drop}
 use lib.Dec.{eqb, ltb, leb}
 use Rattle.base.specs.Choice.{pick}
 use Rattle.base.proofs.Tests.{of-choice, not-false}
-use Rattle.codec.specs.Table.{table, fields, size, lengthOf}
+use Rattle.codec.specs.Table.{table, fields, size, lengthOf, lastRow}
 use Rattle.codec.specs.Codec.{valAt, be, bytesOf, firstBad, recordBytes}
 use Rattle.codec.proofs.Round.{record-length, record-back}
 use Rattle.grams.specs.Farm.{setFactors}
@@ -131,7 +131,7 @@ same-front false b c d x y h e = h
 abbrev factorsIf : Bool → Factors
 factorsIf b = pick b (record { ch4 = 21; n2o = 310 }) (record { ch4 = 23; n2o = 296 })
 
-factors-fit : (farm year set : ℕ) → firstBad (fields 1) (bySet farm year set) 0 ≡ 0 → firstBad (fields 11) (byFactors farm year set) 0 ≡ 0
+factors-fit : (farm year set : ℕ) → firstBad (fields 1) (bySet farm year set) 0 ≡ 0 → firstBad (fields lastRow) (byFactors farm year set) 0 ≡ 0
 unfolding firstBad table
 factors-fit farm year set h = same-front (leb 0 farm) (leb farm 4294967295) (leb 1900 year) (leb year 2200) _ _ h (go (eqb set 1))
   where
@@ -145,25 +145,25 @@ size-1 : lengthOf 1 + 2 ≡ 11
 unfolding table size
 size-1 = refl
 
-size-11 : lengthOf 11 + 2 ≡ 14
+size-last : lengthOf lastRow + 2 ≡ 14
 unfolding table size
-size-11 = refl
+size-last = refl
 
 size-of-1 : 2 + lengthOf 1 ≡ 11
 unfolding table size
 size-of-1 = refl
 
-size-of-11 : 2 + lengthOf 11 ≡ 14
+size-of-last : 2 + lengthOf lastRow ≡ 14
 unfolding table size
-size-of-11 = refl
+size-of-last = refl
 
 count-1 : 3 ≡ length (fields 1)
 unfolding table
 count-1 = refl
 
-count-11 : 4 ≡ length (fields 11)
+count-last : 4 ≡ length (fields lastRow)
 unfolding table
-count-11 = refl
+count-last = refl
 
 -- what a farm record in range does first of all
 set-weighs : (v : List ℕ) → firstBad (fields 1) v 0 ≡ 0
@@ -171,8 +171,8 @@ set-weighs : (v : List ℕ) → firstBad (fields 1) v 0 ≡ 0
 unfolding weigh first inPlace accepted sortOf
 set-weighs v h = rw h refl
 
-factors-weigh : (v : List ℕ) → firstBad (fields 11) v 0 ≡ 0
-    → weigh noRecord 11 v ≡ record { account = opened noRecord (record { ch4 = getD v 2 0; n2o = getD v 3 0 }); lines = [] }
+factors-weigh : (v : List ℕ) → firstBad (fields lastRow) v 0 ≡ 0
+    → weigh noRecord lastRow v ≡ record { account = opened noRecord (record { ch4 = getD v 2 0; n2o = getD v 3 0 }); lines = [] }
 unfolding weigh first inPlace accepted sortOf
 factors-weigh v h = rw h refl
 
@@ -180,14 +180,14 @@ set-kind : (farm year set : ℕ) → Kind 1 (recordBytes 1 (bySet farm year set)
 unfolding recordBytes be bytesOf table size valAt
 set-kind farm year set = record { whole = record { long = refl; low = omega arith; high = omega arith }; version = refl; listed = refl; kind = refl }
 
-factors-kind : (farm year set : ℕ) → Kind 11 (recordBytes 11 (byFactors farm year set))
+factors-kind : (farm year set : ℕ) → Kind lastRow (recordBytes lastRow (byFactors farm year set))
 unfolding recordBytes be bytesOf table size valAt
 factors-kind farm year set =
     record { whole = record { long = refl; low = omega arith; high = omega arith }; version = refl; listed = refl; kind = refl }
 
 -- A farm record of version 2 with the factors of a set gives what version 1 with that set gives: the same state, lines and bytes left.
 pub factors-as-set : (farm year set : ℕ) (xs : List ℕ) → firstBad (fields 1) (bySet farm year set) 0 ≡ 0
-    → run noRecordYet (recordBytes 11 (byFactors farm year set) ++ xs) ≡ run noRecordYet (recordBytes 1 (bySet farm year set) ++ xs)
+    → run noRecordYet (recordBytes lastRow (byFactors farm year set) ++ xs) ≡ run noRecordYet (recordBytes 1 (bySet farm year set) ++ xs)
 unfolding run
 factors-as-set farm year set xs h =
     let v = bySet farm year set in
@@ -198,10 +198,10 @@ factors-as-set farm year set xs h =
     let by-set : judge noRecord (recordBytes 1 v) ≡ record { account = opened noRecord (setFactors set); lines = [] } =
     right-length noRecord 1 (recordBytes 1 v) 11 one size-1 (record-length 1 v ∙ size-of-1) ∙ ap (weigh noRecord 1) (record-back 1 v h count-1)
     ∙ set-weighs v h in
-    let by-factors : judge noRecord (recordBytes 11 w) ≡ record { account = opened noRecord (setFactors set); lines = [] } =
-    right-length noRecord 11 (recordBytes 11 w) 14 two size-11 (record-length 11 w ∙ size-of-11)
-    ∙ ap (weigh noRecord 11) (record-back 11 w fit count-11) ∙ factors-weigh w fit in
-    book-record noRecord (recordBytes 11 w) xs (two .whole) (omega arith)
+    let by-factors : judge noRecord (recordBytes lastRow w) ≡ record { account = opened noRecord (setFactors set); lines = [] } =
+    right-length noRecord lastRow (recordBytes lastRow w) 14 two size-last (record-length lastRow w ∙ size-of-last)
+    ∙ ap (weigh noRecord lastRow) (record-back lastRow w fit count-last) ∙ factors-weigh w fit in
+    book-record noRecord (recordBytes lastRow w) xs (two .whole) (omega arith)
     ∙ ap (λ (j : Step). then (j .lines) (book (j .account) xs)) (by-factors ∙ sym by-set)
     ∙ sym (book-record noRecord (recordBytes 1 v) xs (one .whole) (omega arith))
 

@@ -13,6 +13,7 @@ use Rattle.base.specs.Choice.{pick}
 use Rattle.base.proofs.Tests.{and-l, and-r, of-choice, no-bool, not-false, not-true}
 use Rattle.codec.specs.Table.{table, fields, isRow}
 use Rattle.codec.proofs.Within.{Within, ranges, bad-position}
+use Rattle.codec.proofs.Rows.{fields-few}
 use Rattle.line_bytes.specs.Lines.{linesMost}
 use Rattle.account.specs.declared.Account.{Account}
 use Rattle.account.specs.declared.Judged.{Judged}
@@ -21,7 +22,7 @@ use Rattle.account.specs.Judge.{WholeRecord, versionOf, kindByte, kindOf, value
 use Rattle.account.specs.Told.{TellsIn}
 use Rattle.account.specs.Compared.{badField, sharesOf, partsOf, grazedWith}
 use Rattle.account.proofs.Told.{tells-fit, lines-short}
-use Rattle.codec.proofs.EachKind.{row-least, row-most, row-of-kind, each-row}
+use Rattle.codec.proofs.EachKind.{row-least, row-most, row-of-kind}
 use Rattle.account.proofs.Sorts.{by-sort}
 use Rattle.account.proofs.Refusals.{none-refuses, refused-by, number-most, judged-passes}
 use Rattle.reasons.specs.Inner.{Sized, Parted, Faulty}
@@ -120,12 +121,6 @@ faulty-told {a} {r} e b w h s = rw (e, b) (faulty a r h (rw e at s) w)
 
 -- ---- what a number says of the record
 
-fields-few : (k : ℕ) → isRow k ≡ true → length (fields k) ≤ 12
-unfolding table
-fields-few =
-    each-row (λ (k : ℕ). length (fields k) ≤ 12) (omega arith) (omega arith) (omega arith) (omega arith) (omega arith) (omega arith) (omega arith)
-    (omega arith) (omega arith) (omega arith) (omega arith)
-
 module _ {a : Account} {r : List ℕ} {code field : ℕ} (f : Faulty a r code field) where
   -- from 4 on it has a row of the table, from 5 on its length is the row's
   pub row-in : 4 ≤ code → isRow (kindOf r) ≡ true
@@ -143,7 +138,7 @@ module _ {a : Account} {r : List ℕ} {code field : ℕ} (f : Faulty a r code fi
       let p : field ≡ badField (kindOf r) (valuesOf r) = f .position ∙ rw e refl in
       let n : badField (kindOf r) (valuesOf r) ≡ 0 → ⊥ = eqb-false _ _ (not-true _ (f .broken .values .inRange .1 (sym e))) in
       let m = bad-position (fields (kindOf r)) (valuesOf r) 0 in
-      (p, omega (arith, p, n), omega (arith, p, m, fields-few (kindOf r) (row-in (omega arith))))
+      (p, omega (arith, p, n), omega (arith, p, m, fields-few (kindOf r)))
 
   -- from 8 on each value is in its range
   pub in-range : 8 ≤ code → (i : ℕ) → i < length (fields (kindOf r)) → Within (getD (fields (kindOf r)) i (0, 0, 0)) (getD (valuesOf r) (0 + i) 0)

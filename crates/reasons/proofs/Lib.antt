@@ -1,4 +1,3 @@
-pub mod Limits
 pub mod FaultLaws
 pub mod ValueLaws
 pub mod RecordLists

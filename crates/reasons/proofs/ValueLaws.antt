@@ -11,10 +11,13 @@ use lib.Dec.{ltb}
 use lib.ListN.{length, getD, take, List·getD-eq-default}
 use lib.Seq.{length-take-le}
 use Rattle.base.proofs.Tests.{lt-or-ge, or-r}
-use Rattle.codec.specs.Table.{field, table, fields, lengthOf, lastKind}
-use Rattle.codec.specs.Codec.{valAt, valuesAt}
+use Rattle.codec.specs.Table.{field, table, fields, size, lengthOf, lastKind, lastRow}
+use Rattle.codec.specs.Codec.{valAt, valuesAt, inTwelve}
 use Rattle.codec.proofs.BigEndian.{one-byte}
 use Rattle.codec.proofs.Within.{ranges}
+use Rattle.codec.proofs.Values.{values-length}
+use Rattle.codec.proofs.Rows.{fields-few}
+use Rattle.codec.proofs.Columns.{twelve-at}
 use Rattle.account.specs.declared.Account.{Account}
 use Rattle.account.specs.Judge.{versionOf, kindByte, kindOf, valuesOf}
 use Rattle.account.specs.Compared.{noNumbers, numbers, outside, badField, rangeOf, valueAt, daysWith, valuesCompared, compared}
@@ -26,14 +29,21 @@ use Rattle.reasons.specs.Why.{reason}
 use Rattle.reasons.specs.declared.Verdict.the-variants.{Missing, NextLength, Refused}
 use Rattle.reasons.specs.Inner.{told, Sized, Parted, partsTold, versionTold, unread}
 
--- ---- one value, by its kind
+-- ---- one value of a record
 
-module _ (k : ℕ) {kind : ℕ} (e : kind ≡ k) (r : List ℕ) (f : kind ≡ kindOf r) where
-  pub long-by : (n : ℕ) → lengthOf k ≡ n → Sized r → length r ≡ n + 2
-  long-by n q s = s .long ∙ ap (λ (i : ℕ). lengthOf i + 2) (sym f ∙ e) ∙ ap (λ (i : ℕ). i + 2) q
+module _ (r : List ℕ) {row : ℕ} (f : row ≡ kindOf r) where
+  -- its values are there
+  pub values-there : Sized r → (row ≤ lastRow) × (4 + size (fields row) ≤ length r)
+  values-there s = rw f (s .most, omega (arith, s .long))
 
-  pub value-by : (i : ℕ) {v : List ℕ} {n : ℕ} → v ≡ valuesAt (fields k) r 4 → n ≡ getD v i 0 → n ≡ getD (valuesOf r) i 0
-  value-by i p q = q ∙ ap (λ (v : List ℕ). getD v i 0) (p ∙ ap (λ (j : ℕ). valuesAt (fields j) r 4) (sym e ∙ f))
+  -- the value i of them, in twelve places, or behind them
+  pub value-is : (i : ℕ) {v : List ℕ} → v ≡ inTwelve (valuesAt (fields row) r 4) → getD v i 0 ≡ getD (valuesOf r) i 0
+  value-is i e =
+      ap (λ (l : List ℕ). getD l i 0) e ∙ twelve-at (valuesAt (fields row) r 4) i ∙ ap (λ (k : ℕ). getD (valuesAt (fields k) r 4) i 0) f
+
+  pub no-value : (i : ℕ) → 12 ≤ i → 0 ≡ getD (valuesOf r) i 0
+  no-value i h =
+      sym (List·getD-eq-default (valuesOf r) 0 (omega (arith, values-length (fields (kindOf r)) r 4, fields-few (kindOf r))))
 
 -- ---- shares and parts
 

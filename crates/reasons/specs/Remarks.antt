@@ -5,7 +5,7 @@ use mathlib.Core.List.{List, [], _++_}
 use mathlib.Core.Bool.{Bool, true, false, _&&_, _||_, not}
 use lib.Dec.{ltb, eqb}
 use Rattle.base.specs.Choice.{pick}
-use Rattle.codec.specs.Table.{isKind}
+use Rattle.codec.specs.Table.{isKind, lastRow}
 use Rattle.printing.specs.Ascii.{ascii}
 use Rattle.printing.specs.Decimal.{decimal}
 use Rattle.typed_words.specs.Words.{nthPart}
@@ -63,7 +63,7 @@ subjectLine code row =
     pick (eqb code 10 && eqb row 5) 13
     (pick (eqb code 10 && eqb row 10) 14
     (pick (eqb code 4 && eqb row 1) 15
-    (pick (eqb code 4 && eqb row 11) 16 code)))
+    (pick (eqb code 4 && eqb row lastRow) 16 code)))
 
 abbrev pub subjectText : ℕ → ℕ → ℕ → List ℕ
 subjectText code row field =

@@ -1,11 +1,11 @@
 // The value and the limit: what the test of a rule compares.
-use crate::values::highest;
-use crate::values::lowest;
 use crate::values::value_at;
 use account::Account;
 use account::Days;
 use codec::LAST_KIND;
 use codec::kinds::bytes_of;
+use codec::kinds::highest;
+use codec::kinds::lowest;
 use codec::kinds::row_of;
 use codec::numbers::be8;
 use codec::numbers::be16;
@@ -79,8 +79,9 @@ fn out_of_range(r: &[u8], row: u8, position: u8) -> Numbers
     requires { ⌜ Sized (now r) × (row ≡ kindOf (now r)) × (1 ≤ position) × (position ≤ 12) ⌝ }
     ensures { λ n. ⌜ n ≡ told (outside (rangeOf row position .1) (rangeOf row position .2) (valueAt (valuesOf (now (r .entry))) position)) ⌝ }
 {
-    let value = value_at(r, row, position as usize - 1);
-    outside(lowest(row, position), highest(row, position), value)
+    let i = position as usize - 1;
+    let value = value_at(r, row, i);
+    outside(lowest(row as u64, i), highest(row as u64, i), value)
 }
 
 // The days of a kind, 3, 4 or 5, with so many more.

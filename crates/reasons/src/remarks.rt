@@ -122,7 +122,7 @@ fn subject(code: u64, row: u64) -> usize
     if (code == 4) & (row == 1) {
         return 15;
     }
-    if (code == 4) & (row == 11) {
+    if (code == 4) & (row == codec::LAST_ROW) {
         return 16;
     }
     code as usize

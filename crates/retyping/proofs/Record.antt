@@ -8,7 +8,7 @@ use mathlib.Core.List.{List, [], _∷_, _++_}
 use lib.ListN.{length, take, replicate, length-append}
 use lib.Seq.{take-all, take-append-le}
 use lib.Dec.{eqb}
-use borrow.Author.Tests.{lt-leb, le-leb, ne-eqb, eq-eqb}
+use borrow.Author.Tests.{lt-leb, le-ltb, ne-eqb, eq-eqb, eqb-true, eqb-false}
 use Rattle.codec.specs.Codec.{Bytes}
 use Rattle.base.specs.Choice.{pick}
 use Rattle.typed_words.specs.Words.{nthWord}
@@ -16,10 +16,10 @@ use Rattle.printing.specs.Decimal.{decimal, spaced}
 use Rattle.names.specs.Names.{kindName, decimalsAt}
 use Rattle.text_lines.specs.Lines.{has, kept, unmarked, isMarked}
 use Rattle.text_lines.proofs.Bytes.{before-all, has-behind}
-use Rattle.codec.specs.Table.{table, fields, rowKind, Of, isKind, lastRow}
-use Rattle.codec.proofs.EachKind.{each-row, row-least, row-most, row-of-kind}
+use Rattle.codec.specs.Table.{table, fields, rowKind, Of, isKind, lastKind, lastRow}
+use Rattle.codec.proofs.EachKind.{row-least, row-most, row-of-kind}
 use Rattle.codec.proofs.Values.{values-length}
-use Rattle.base.proofs.Tests.{not-false}
+use Rattle.base.proofs.Tests.{by-test, not-false}
 use Rattle.account.specs.Judge.{WholeRecord, versionOf, kindByte, kindOf, valuesOf, judge}
 use Rattle.book.specs.declared.State.{State}
 use Rattle.book.specs.State.{holding}
@@ -90,7 +90,7 @@ by-set : (v line : List ℕ) → Line 1 v line
 unfolding rowOfLine table
 by-set v line n e f = rw (e, three-words v n) refl
 
-by-factors : (v line : List ℕ) → Line 11 v line
+by-factors : (v line : List ℕ) → Line lastRow v line
 unfolding rowOfLine table
 by-factors v line n e f =
     let w = four-words v n in
@@ -101,8 +101,9 @@ by-factors v line n e f =
 row-typed : (k : ℕ) (v line : List ℕ) → 1 ≤ k → k ≤ lastRow → Line k v line
 unfolding rowOfLine
 row-typed k v line least most =
-    each-row (λ n. Line n v line) (by-set v line) (λ n e f. refl) (λ n e f. refl) (λ n e f. refl) (λ n e f. refl) (λ n e f. refl) (λ n e f. refl)
-    (λ n e f. refl) (λ n e f. refl) (λ n e f. refl) (by-factors v line) k (rw (le-leb 1 k least, le-leb k lastRow most) refl)
+    by-test (eqb k 1) (λ e. rw (eqb-true k 1 e) (by-set v line))
+    (λ e. by-test (eqb k lastRow) (λ f. rw (eqb-true k lastRow f) (by-factors v line))
+    (λ f n p q. let o = eqb-false k lastRow f in rw (f, le-ltb lastKind k (omega arith), e)))
 
 -- ---- the line of a row and its values
 

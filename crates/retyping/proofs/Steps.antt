@@ -16,8 +16,8 @@ use Rattle.printing.specs.Said.{Said}
 use Rattle.printing.proofs.Puts.{none, put-length, and-then}
 use Rattle.printing.specs.Ascii.{ascii}
 use Rattle.names.specs.Names.{kindName, sentence}
-use Rattle.codec.specs.Table.{table, fields, lengthOf, isRow}
-use Rattle.codec.specs.Codec.{valAt, valuesAt}
+use Rattle.codec.specs.Table.{fields, size, lengthOf, lastRow, isRow}
+use Rattle.codec.specs.Codec.{valAt, valuesAt, inTwelve}
 use Rattle.codec.proofs.Values.{values-length}
 use Rattle.line_bytes.specs.Lines.{linesMost}
 use Rattle.account.specs.declared.Account.{Account}
@@ -32,14 +32,13 @@ use Rattle.book.specs.Call.{Call, call, fedOf}
 use Rattle.book.proofs.FrontLaws.{good-length}
 use Rattle.book.proofs.RangeLaws.{range-parts}
 use Rattle.book.proofs.RecordLaws.{record-whole, record-in}
-use Rattle.make_record.proofs.Listed.{elements, listed}
 use Rattle.make_record.proofs.ReaderLaws.{call-one}
 use Rattle.retyping.specs.declared.Retyped.{Retyped}
 use Rattle.retyping.specs.Typed.{lineTyped}
 use Rattle.make_record.specs.Write.{Ready}
 use Rattle.retyping.proofs.Tables.{name-short, fields-some, fields-few}
 use Rattle.retyping.specs.Book.{lengthBy, wholeLength, readOf, isReady, accepts, Retyping, typedIf, oneTyped}
-use Rattle.retyping.specs.Book.{andThen, nothingYet, retypedBy, Retypes, Typable, inTwelve, refusedText, endText}
+use Rattle.retyping.specs.Book.{andThen, nothingYet, retypedBy, Retypes, Typable, refusedText, endText}
 
 -- ---- the length of the record at the front
 
@@ -280,25 +279,6 @@ module _ {s₀ : State} {xs out₀ out : List ℕ} {s : State} {at last left : �
 
 -- ---- a record's values and its line
 
-pub in-places : (n : ℕ) (v : List ℕ) → length v ≡ n → elements n v 0 ++ replicate (12 - n) 0 ≡ inTwelve v
-in-places n v e = rw (listed n v e, e)
-
--- the kind is k
-module _ (k : ℕ) {kind : ℕ} (e : kind ≡ k) (r : List ℕ) (f : kind ≡ kindOf r) where
-  pub long-by : (n : ℕ) → lengthOf k ≡ n → Typable r → length r ≡ n + 2
-  long-by n q t = t .long ∙ ap (λ (i : ℕ). lengthOf i + 2) (sym f ∙ e) ∙ ap (λ (i : ℕ). i + 2) q
-
-  pub values-by : {v w : List ℕ} → v ≡ valuesAt (fields k) r 4 → w ≡ inTwelve v → w ≡ inTwelve (valuesOf r)
-  values-by p q = q ∙ ap inTwelve (p ∙ ap (λ (i : ℕ). valuesAt (fields i) r 4) (sym e ∙ f))
-
--- twelve values have places enough
-pub twelve-by : (r : List ℕ) {kind : ℕ} → kind ≡ 5 → kind ≡ kindOf r → {v : List ℕ} → v ≡ valuesAt (fields 5) r 4 → v ≡ inTwelve (valuesOf r)
-unfolding table
-twelve-by r e f {v} p =
-    let n : length v ≡ 12 = ap length p ∙ values-length (fields 5) r 4 in
-    let z : inTwelve v ≡ v = rw n (append-nil v) in
-    values-by 5 e r f p (sym z)
-
 spaced-joined : (v : List ℕ) → 0 < length v → spaced v ≡ 32 ∷ joined v
 unfolding spaced joined
 spaced-joined [] h = absurd (omega arith)
@@ -307,6 +287,10 @@ spaced-joined (n ∷ v) h = refl
 module _ (r : List ℕ) (t : Typable r) {kind : ℕ} (b : kind ≡ kindOf r) where
   pub kind-byte : kind ≡ kindOf r
   kind-byte = b
+
+  -- its values are there
+  pub values-there : (kind ≤ lastRow) × (4 + size (fields kind) ≤ length r)
+  values-there = rw b (t .most, omega (arith, t .long))
 
   -- its name is put whole
   pub name-put : {out out′ : List ℕ} {at last : ℕ} → at + 261 ≤ length out → Said out out′ at (kindName kind) last
@@ -319,10 +303,10 @@ module _ (r : List ℕ) (t : Typable r) {kind : ℕ} (b : kind ≡ kindOf r) whe
     pub count-most : n ≤ 12
     count-most = let m = fields-few (kindOf r) (t .least) (t .most) in omega (arith, c ∙ ap (λ (i : ℕ). length (fields i)) kind-byte)
 
-    pub values-first : {w : List ℕ} → w ≡ inTwelve (valuesOf r) → take n w ≡ valuesOf r
+    pub values-first : {w : List ℕ} → w ≡ inTwelve (valuesAt (fields kind) r 4) → take n w ≡ valuesOf r
     values-first e =
         let l : length (valuesOf r) ≡ n = values-length (fields (kindOf r)) r 4 ∙ ap (λ (i : ℕ). length (fields i)) (sym kind-byte) ∙ sym c in
-        rw e (take-at (valuesOf r) (replicate (12 - length (valuesOf r)) 0) n l)
+        rw (e, b) (take-at (valuesOf r) (replicate (12 - length (valuesOf r)) 0) n l)
 
   pub line-put : {out o1 o2 o3 : List ℕ} {at a1 a2 a3 : ℕ} → Put out o1 at (kindName (kindOf r)) a1 → Put o1 o2 a1 (32 ∷ []) a2
       → {v : List ℕ} → v ≡ valuesOf r → Put o2 o3 a2 (numbersLine v) a3 → Put out o3 at (lineTyped (kindOf r) (valuesOf r)) a3

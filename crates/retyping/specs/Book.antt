@@ -105,10 +105,6 @@ pub record Typable (r : List ℕ) : Type 0 where
   pub most : kindOf r ≤ lastRow
   pub long : length r ≡ lengthOf (kindOf r) + 2
 
--- the values of a record in twelve places, zeros behind
-abbrev pub inTwelve : List ℕ → List ℕ
-inTwelve v = v ++ replicate (12 - length v) 0
-
 -- ---- the end
 
 -- a refusal: its number, the records accepted before it, its field, and the number's sentence

@@ -21,7 +21,7 @@ ghost use Rattle.printing.specs.Said.{Said};
 ghost use Rattle.account.specs.Judge.{kindOf, valuesOf};
 ghost use Rattle.book.specs.Call.{fedOf};
 ghost use Rattle.retyping.specs.Typed.{lineTyped};
-ghost use Rattle.retyping.specs.Book.{wholeLength, readOf, isReady, accepts, oneTyped, retypedBy, Retypes, Typable, inTwelve};
+ghost use Rattle.retyping.specs.Book.{wholeLength, readOf, isReady, accepts, oneTyped, retypedBy, Retypes, Typable};
 ghost use Rattle.retyping.specs.Book.{refusedText, endText, statusByte};
 
 // The state behind some records of a book, the bytes taken, the end of the text in the buffer, and whether all of them were accepted.
@@ -30,49 +30,6 @@ pub struct Retyped {
     pub taken: usize,
     pub written: usize,
     pub more: bool,
-}
-
-fn from_one(v: [u64; 1]) -> [u64; 12]
-    ensures { λ r. ⌜ r ≡ inTwelve v ⌝ }
-{
-    [v[0], 0, 0, 0, 0, 0, 0, 0, 0, 0, 0, 0]
-}
-
-fn from_three(v: [u64; 3]) -> [u64; 12]
-    ensures { λ r. ⌜ r ≡ inTwelve v ⌝ }
-{
-    [v[0], v[1], v[2], 0, 0, 0, 0, 0, 0, 0, 0, 0]
-}
-
-fn from_four(v: [u64; 4]) -> [u64; 12]
-    ensures { λ r. ⌜ r ≡ inTwelve v ⌝ }
-{
-    [v[0], v[1], v[2], v[3], 0, 0, 0, 0, 0, 0, 0, 0]
-}
-
-fn from_five(v: [u64; 5]) -> [u64; 12]
-    ensures { λ r. ⌜ r ≡ inTwelve v ⌝ }
-{
-    [v[0], v[1], v[2], v[3], v[4], 0, 0, 0, 0, 0, 0, 0]
-}
-
-fn from_nine(v: [u64; 9]) -> [u64; 12]
-    ensures { λ r. ⌜ r ≡ inTwelve v ⌝ }
-{
-    [
-        v[0],
-        v[1],
-        v[2],
-        v[3],
-        v[4],
-        v[5],
-        v[6],
-        v[7],
-        v[8],
-        0,
-        0,
-        0,
-    ]
 }
 
 // The row of a record in the table.
@@ -84,26 +41,6 @@ fn row_at(bytes: &[u8]) -> u64
     row as u64
 }
 
-// The values of a record, zeros behind.
-fn values_of(bytes: &[u8], kind: u64) -> [u64; 12]
-    requires { ⌜ Typable (now bytes) × (kind ≡ kindOf (now bytes)) ⌝ }
-    ensures { λ r. ⌜ r ≡ inTwelve (valuesOf (now (bytes .entry))) ⌝ }
-{
-    match kind {
-        1 => from_three(codec::farm::read(bytes, 4)),
-        2 => from_three(codec::heading::read(bytes, 4)),
-        3 => from_three(codec::enteric::read(bytes, 4)),
-        4 => from_nine(codec::cattle::read(bytes, 4)),
-        5 => codec::pig::read(bytes, 4),
-        6 => from_three(codec::energy::read(bytes, 4)),
-        7 => from_one(codec::soil::read(bytes, 4)),
-        8 => from_one(codec::close::read(bytes, 4)),
-        9 => from_five(codec::tillage::read(bytes, 4)),
-        10 => from_four(codec::grazing::read(bytes, 4)),
-        _ => from_four(codec::farm_factors::read(bytes, 4)),
-    }
-}
-
 // The line that a person types for a record: its kind's name, its values, and the line feed.
 fn put_record(out: &mut [u8], at: usize, bytes: &[u8]) -> usize
     requires { ⌜ Typable (now bytes) ⌝ }
@@ -112,7 +49,7 @@ fn put_record(out: &mut [u8], at: usize, bytes: &[u8]) -> usize
     ensures { λ r. ⌜ r ≤ at + 261 ⌝ }
 {
     let kind = row_at(bytes);
-    let values = values_of(bytes, kind);
+    let values = codec::by_row::read(kind, bytes, 4);
     let n = codec::kinds::values_of(kind);
     let name = say_kind(out, at, kind);
     let blank = put_byte(out, name, b' ');

@@ -3,11 +3,14 @@
 use Prim.Native.Nat.{ℕ, _+_, _≤_}
 use mathlib.Core.Path.{_≡_, refl, sym, ap, _∙_}
 use mathlib.Core.List.{List}
-use mathlib.Core.Bool.{Bool, true, false}
+use mathlib.Core.Bool.{true, false, _||_}
+use mathlib.Core.Logic.{⊎-elim}
 use native.Mathlib.Omega.{arith}
+use borrow.Author.Tests.{ltb-true, ltb-false, le-leb, lt-leb}
 use lib.ListN.{length}
-use Rattle.base.specs.Choice.{pick}
-use Rattle.codec.specs.Table.{fields, lengthOf, isKind}
+use lib.Dec.{ltb, leb}
+use Rattle.base.proofs.Tests.{and-false, or-cases, or-l, or-r}
+use Rattle.codec.specs.Table.{fields, lengthOf, lastKind, isKind}
 use Rattle.codec.specs.Codec.{valuesAt}
 use Rattle.account.specs.declared.Account.{Account}
 use Rattle.account.specs.declared.Judged.{Judged}
@@ -17,25 +20,18 @@ use Rattle.rules.specs.Right.{Right}
 use Rattle.account.proofs.Told.{right-length}
 use Rattle.rules.proofs.ByVersion.{first-version, own-row}
 
--- the size that a kind has, or none
-module _ (k n : ℕ) (e : n ≡ pick (isKind k) (2 + lengthOf k) 0) where
-  pub not-listed : n ≡ 0 → isKind k ≡ false
-  not-listed z = go (isKind k) (sym e ∙ z)
-    where
-      go : (b : Bool) → pick b (2 + lengthOf k) 0 ≡ 0 → b ≡ false
-      go true q = absurd (omega arith)
-      go false q = refl
+-- the kinds go from 1 to the highest
+module _ (k : ℕ) where
+  pub not-listed : ltb k 1 || ltb lastKind k ≡ true → isKind k ≡ false
+  not-listed e =
+      ⊎-elim (λ (l : ltb k 1 ≡ true). rw (lt-leb 1 k (ltb-true k 1 l)) refl)
+      (λ (l : ltb lastKind k ≡ true). rw (lt-leb k lastKind (ltb-true lastKind k l)) (and-false (leb 1 k))) (or-cases (ltb k 1) (ltb lastKind k) e)
 
-  module _ (some : n ≡ 0 → ⊥) where
-    sized : (b : Bool) → n ≡ pick b (2 + lengthOf k) 0 → (b ≡ true) × (n ≡ 2 + lengthOf k)
-    sized true q = (refl, q)
-    sized false q = absurd (some q)
-
-    pub listed : isKind k ≡ true
-    listed = sized (isKind k) e .0
-
-    pub size-is : n ≡ 2 + lengthOf k
-    size-is = sized (isKind k) e .1
+  pub listed : ltb k 1 || ltb lastKind k ≡ false → isKind k ≡ true
+  listed e =
+      let least = ltb-false k 1 (or-l (ltb k 1) (ltb lastKind k) e) in
+      let most = ltb-false lastKind k (or-r (ltb k 1) (ltb lastKind k) e) in
+      rw (le-leb 1 k least, le-leb k lastKind most) refl
 
 module _ {r : List ℕ} (s : Right r) (k : ℕ) (e : kindOf r ≡ k) where
   -- the bytes that the kind's function reads are there

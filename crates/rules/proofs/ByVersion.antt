@@ -7,6 +7,7 @@ use mathlib.Core.Bool.{Bool, true, false, _&&_, _||_, not}
 use borrow.Author.Tests.{eqb-true, ne-eqb}
 use lib.Dec.{eqb}
 use Rattle.base.proofs.Tests.{no-bool}
+use Rattle.codec.specs.Table.{lastRow}
 use Rattle.account.specs.Judge.{WholeRecord, versionOf, kindByte, kindOf, wrongVersion, wrongKind}
 use Rattle.account.specs.Told.{Kind}
 
@@ -28,7 +29,7 @@ module _ (r : List ℕ) where
       go false b q = refl
 
   -- 2 of a farm record
-  pub second-version : WholeRecord r → not (eqb (versionOf r) 2) || not (eqb (kindByte r) 1) ≡ false → Kind 11 r
+  pub second-version : WholeRecord r → not (eqb (versionOf r) 2) || not (eqb (kindByte r) 1) ≡ false → Kind lastRow r
   second-version w e = record { whole = w; version = passes; listed = listed; kind = row }
     where
       go : (a b : Bool) → not a || not b ≡ false → (a ≡ true) × (b ≡ true)
@@ -48,5 +49,5 @@ module _ (r : List ℕ) where
       listed : wrongKind r ≡ false
       listed = rw (eqb-true (kindByte r) 1 one) refl
 
-      row : kindOf r ≡ 11
+      row : kindOf r ≡ lastRow
       row = rw (eqb-true (versionOf r) 2 two, eqb-true (kindByte r) 1 one) refl

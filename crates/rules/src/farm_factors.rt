@@ -5,13 +5,14 @@ use crate::refusals::stopped;
 use account::Account;
 use account::Judged;
 ghost use Prim.Native.Nat.{_<_};
+ghost use Rattle.codec.specs.Table.{lastRow};
 ghost use Rattle.account.specs.Range.{AccountInRange};
 ghost use Rattle.account.specs.Judge.{weigh};
 ghost use Rattle.account.specs.Told.{TellsIn};
 
 pub fn weigh(a: Account, v: [u64; 4], room: usize) -> Judged
     requires { ⌜ AccountInRange a × (a .stage < 2) ⌝ }
-    ensures { λ j. ⌜ TellsIn room a (weigh a 11 v) j ⌝ }
+    ensures { λ j. ⌜ TellsIn room a (weigh a lastRow v) j ⌝ }
 {
     let bad = codec::farm_factors::first_bad(v);
     let code = barred(a.records, a.records == 0, bad);

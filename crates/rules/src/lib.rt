@@ -13,40 +13,20 @@ pub mod soil;
 pub mod tillage;
 mod figures; // figures.rt: sums and subtotals
 mod lines; // lines.rt: an account with its line
+pub mod outside; // outside.rt: a value out of its range, whatever the row
 mod refusals; // refusals.rt: what all kinds share
 
 use account::Account;
 use account::Judged;
+use codec::LAST_KIND;
+use codec::kinds::bytes_of;
 use refusals::wrong;
 ghost use mathlib.Core.Path.{_≡_};
-ghost use Prim.Native.Nat.{_+_, _<_};
-ghost use mathlib.Core.Bool.{_&&_};
-ghost use lib.Dec.{leb};
-ghost use Rattle.base.specs.Choice.{pick};
-ghost use Rattle.codec.specs.Table.{lengthOf, isKind};
+ghost use Prim.Native.Nat.{_<_};
 ghost use Rattle.account.specs.Range.{AccountInRange};
 ghost use Rattle.account.specs.Judge.{WholeRecord, versionOf, kindOf, judge};
 ghost use Rattle.account.specs.Told.{TellsIn};
 ghost use Rattle.rules.specs.Right.{Right};
-
-// How many bytes a record of the kind has, the two of its length among them; 0 where there is no such kind.
-fn size_of(kind: u8) -> usize
-    ensures { λ r. ⌜ r ≡ pick (isKind kind) (2 + lengthOf kind) 0 ⌝ }
-{
-    match kind {
-        1 => 11,
-        2 => 9,
-        3 => 12,
-        4 => 22,
-        5 => 28,
-        6 => 13,
-        7 => 8,
-        8 => 6,
-        9 => 13,
-        10 => 10,
-        _ => 0,
-    }
-}
 
 // What the values of a record do that is as long as its kind: a function of its own, else the compiler keeps copies of the account. No kind is left
 // for the last arm; with it the compiler sees that the number needs no further test.
@@ -95,11 +75,10 @@ pub fn judge(a: Account, r: &[u8], room: usize) -> Judged
         return by_version(a, r, room);
     }
     let kind = r[3];
-    let size = size_of(kind);
-    if size == 0 {
+    if (kind < 1) | ((LAST_KIND as u8) < kind) {
         return wrong(a, 3, 0);
     }
-    if r.len() != size {
+    if r.len() != bytes_of(kind as u64) {
         return wrong(a, 4, 0);
     }
     by_kind(a, kind, r, room)

@@ -9,7 +9,7 @@ use borrow.Author.Tests.{eqb-true, eqb-false, ne-eqb, leb-true}
 use lib.Dec.{leb, eqb}
 use Rattle.base.specs.Choice.{pick}
 use Rattle.base.proofs.Tests.{true-or-false, and-r, or-cases}
-use Rattle.codec.specs.Table.{rowOf, isKind}
+use Rattle.codec.specs.Table.{rowOf, lastRow, isKind}
 use Rattle.codec.proofs.EachKind.{kind-most}
 use Rattle.account.specs.Sorts.{isFarm, sortOf}
 use Rattle.salvaging.specs.Salvage.{ofGroupKind}
@@ -39,9 +39,9 @@ of-group-is k =
     (λ h4. at 5 k refl
     (λ h5. at 8 k refl
     (λ h8. at 10 k refl
-    (λ h10. at 11 k refl
+    (λ h10. at lastRow k refl
     (λ h11.
-    rw (ne-eqb k 1 h1, ne-eqb k 2 h2, ne-eqb k 3 h3, ne-eqb k 4 h4, ne-eqb k 5 h5, ne-eqb k 8 h8, ne-eqb k 10 h10, ne-eqb k 11 h11)
+    rw (ne-eqb k 1 h1, ne-eqb k 2 h2, ne-eqb k 3 h3, ne-eqb k 4 h4, ne-eqb k 5 h5, ne-eqb k 8 h8, ne-eqb k 10 h10, ne-eqb k lastRow h11)
     (outside k h3 h4 h5)))))))))
 
 -- ---- the row of a close and of a farm record
@@ -50,23 +50,23 @@ module _ (version kind : ℕ) where
   pub row-eight : rowOf version kind ≡ 8 → kind ≡ 8
   row-eight e = go (eqb version 2 && eqb kind 1) e
     where
-      go : (b : Bool) → pick b 11 kind ≡ 8 → kind ≡ 8
+      go : (b : Bool) → pick b lastRow kind ≡ 8 → kind ≡ 8
       go true e = absurd (omega arith)
       go false e = e
 
   pub eight-row : kind ≡ 8 → rowOf version kind ≡ 8
   eight-row e = rw e (go (eqb version 2))
     where
-      go : (b : Bool) → _≡_ {A = ℕ} (pick (b && false) 11 8) 8
+      go : (b : Bool) → _≡_ {A = ℕ} (pick (b && false) lastRow 8) 8
       go true = refl
       go false = refl
 
   pub farm-row : isKind kind ≡ true → isFarm (rowOf version kind) ≡ true → kind ≡ 1
   farm-row l f = go (eqb version 2 && eqb kind 1) refl f
     where
-      go : (b : Bool) → eqb version 2 && eqb kind 1 ≡ b → isFarm (pick b 11 kind) ≡ true → kind ≡ 1
+      go : (b : Bool) → eqb version 2 && eqb kind 1 ≡ b → isFarm (pick b lastRow kind) ≡ true → kind ≡ 1
       go true e f = eqb-true _ _ (and-r (eqb version 2) (eqb kind 1) e)
       go false e f =
           ⊎-elim (λ (p : eqb kind 1 ≡ true). eqb-true _ _ p)
-          (λ (p : eqb kind 11 ≡ true). let z = eqb-true kind 11 p in let m = kind-most kind l in absurd (omega arith))
-          (or-cases (eqb kind 1) (eqb kind 11) f)
+          (λ (p : eqb kind lastRow ≡ true). let z = eqb-true kind lastRow p in let m = kind-most kind l in absurd (omega arith))
+          (or-cases (eqb kind 1) (eqb kind lastRow) f)

@@ -59,7 +59,8 @@ impl Reading {
         ensures { λ _. ⌜ now (book .exit) ≡ sets (now (book .entry)) w (recordBytes 8 (self .account .records ∷ [])) ⌝ }
     {
         let a = self.account;
-        codec::close::write(book, w, [a.records as u64]);
+        let count = [a.records as u64];
+        codec::by_row::write(book, w, 8, &count);
     }
 }
 

@@ -11,7 +11,7 @@ use lib.ListN.{length}
 use lib.Dec.{eqb, leb, ltb}
 use Rattle.base.specs.Choice.{pick, oneMore}
 use Rattle.base.proofs.Tests.{and-l, and-r, of-choice, or-l, or-r, or-cases}
-use Rattle.codec.specs.Table.{lastKind}
+use Rattle.codec.specs.Table.{lastKind, lastRow}
 use Rattle.account.specs.declared.Account.{Account}
 use Rattle.account.specs.Judge.{Step, headingServes, inPlace, accepted, weigh}
 use Rattle.account.specs.Sorts.{sortOf}
@@ -78,7 +78,7 @@ needs-class a k v h g z =
     let place = passed a k v (weighed-passes a k v h) .place in
     let low : 3 ≤ k = grouped-most k g .0 in
     let one : eqb k 1 ≡ false = ne-eqb k 1 (λ (e : k ≡ 1). omega arith) in
-    let other : eqb k 11 ≡ false = ne-eqb k 11 (λ (e : k ≡ 11). omega (arith, grouped-most k g .1)) in
+    let other : eqb k lastRow ≡ false = ne-eqb k lastRow (λ (e : k ≡ lastRow). omega (arith, grouped-most k g .1)) in
     let serves = and-l (headingServes (a .heading .class) k) _ (rw (one, other) at place) in
     no-class k (grouped-kinds k g) (rw z at serves)
   where

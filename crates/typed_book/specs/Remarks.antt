@@ -8,7 +8,7 @@ use Rattle.base.specs.Choice.{pick}
 use Rattle.printing.specs.Ascii.{ascii}
 use Rattle.printing.specs.Decimal.{decimal}
 use Rattle.typed_words.specs.Words.{nthWord}
-use Rattle.codec.specs.Table.{fields}
+use Rattle.codec.specs.Table.{fields, lastRow}
 use Rattle.names.specs.Names.{kindName, kindNames, fieldName, fieldNames, expected, decimalsAt, className, sentence, shown}
 use Rattle.typed_line.specs.Line.{rowOfLine}
 use Rattle.account.specs.declared.Account.{Account}
@@ -68,7 +68,7 @@ rangeText k field xs =
 
 -- the values of a farm record of version 1, or of version 2
 abbrev pub eitherText : List ℕ
-eitherText = fieldNames 1 ++ (ascii ", or" ++ fieldNames 11)
+eitherText = fieldNames 1 ++ (ascii ", or" ++ fieldNames lastRow)
 
 -- refusal 4: the values that the kind has
 abbrev pub countText : ℕ → List ℕ → List ℕ

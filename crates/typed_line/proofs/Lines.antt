@@ -13,7 +13,7 @@ use lib.Seq.{take-all, take-append-le, set-at, append-snoc}
 use lib.Dec.{eqb, ltb}
 use Rattle.base.specs.Choice.{pick}
 use Rattle.base.proofs.Tests.{lt-or-ge}
-use Rattle.codec.specs.Table.{lastKind}
+use Rattle.codec.specs.Table.{lastKind, lastRow}
 use Rattle.typed_words.specs.declared.Whole.{Whole}
 use Rattle.typed_words.specs.Words.{nthWord, sameText, lowered}
 use Rattle.typed_words.specs.Amounts.{amountOf}
@@ -68,7 +68,7 @@ module _ (kind : ℕ) (line : List ℕ) where
 
   -- w and x are its fourth and its fifth word behind the kind
   module _ (h : kind ≤ lastKind) {w x : List ℕ} (e : w ≡ nthWord 4 line) (f : x ≡ nthWord 5 line) where
-    pub row-second : eqb kind 1 && (not (eqb (length w) 0) && eqb (length x) 0) ≡ true → 11 ≡ rowOfLine kind line
+    pub row-second : eqb kind 1 && (not (eqb (length w) 0) && eqb (length x) 0) ≡ true → lastRow ≡ rowOfLine kind line
     unfolding rowOfLine
     row-second t = rw (le-ltb _ _ h, ← e, ← f, t)
 

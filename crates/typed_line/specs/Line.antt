@@ -6,7 +6,7 @@ use mathlib.Core.List.{List, [], _∷_, _++_}
 use lib.ListN.{length, take, replicate}
 use lib.Dec.{eqb, leb, ltb}
 use Rattle.base.specs.Choice.{pick}
-use Rattle.codec.specs.Table.{lastKind}
+use Rattle.codec.specs.Table.{lastKind, lastRow}
 use Rattle.typed_words.specs.declared.Whole.{Whole}
 use Rattle.typed_words.specs.Words.{nthWord, sameText, lowered}
 use Rattle.typed_words.specs.Amounts.{amountOf}
@@ -39,7 +39,7 @@ fourWords line = not (eqb (length (nthWord 4 line)) 0) && eqb (length (nthWord 5
 -- the row that a line of some kind is read by: a farm line with four words behind its kind is one of version 2. A number that is no kind has the row
 -- 0, which has no fields
 unfoldable pub rowOfLine : ℕ → List ℕ → ℕ
-rowOfLine kind line = pick (ltb lastKind kind) 0 (pick (eqb kind 1 && fourWords line) 11 kind)
+rowOfLine kind line = pick (ltb lastKind kind) 0 (pick (eqb kind 1 && fourWords line) lastRow kind)
 
 -- ---- the values
 

@@ -65,7 +65,7 @@ answered-spec =
     let next = rw (e .before .before .row-for .ensures) at (c .before .before .before .before .before .weighed .ensures .account) in
     c .refused2 .ensures ∙ ap writtenOf (sym (by-reader _ _ _ _ _ (open-state (e .before .before .before .before)) (valued e) _ next
     (c .before .before .if6 .taken))))
-    (λ c κs. let e = c .before .before .before .before in let o = of-row _ _ (e .before .before .row-for .ensures) (values e) in (o .least, o .most))
+    (λ c κs. let e = c .before .before .before .before in let o = of-row _ _ (e .before .before .row-for .ensures) (values e) in o .most)
     (λ c κs. search needs)
     (λ c.
     let e = c .before .before .before .before .before .before .before in

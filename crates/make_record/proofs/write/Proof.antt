@@ -23,9 +23,9 @@ write-spec =
     (tie.spec
     (λ c κs. search needs)
     (λ c κs. search needs)
-    (λ c κs. let w = some-bytes (c .before .before) in rw (c .row-for .ensures) (w .fits, w .ranges, of-row _ _ refl (w .of)))
+    (λ c κs. let w = some-bytes (c .before .before) in rw (c .row-for .ensures) (omega (arith, w .fits), of-row _ _ refl (w .of)))
     (λ c. omega arith)
     (λ c. meets-wrote _ _ _ _ _ (c .before .before .before .before .before .before .before .answered .ensures)
     (some-bytes (c .before .before .before .before .before)) (rw (c .before .before .before .row-for .ensures) at
-    (c .before .before .put .ensures)))
+    (c .before .before .write .ensures)))
     (λ c. meets-none _ _ _ _ _ (c .before .before .answered .ensures) (c .if1 .left)))

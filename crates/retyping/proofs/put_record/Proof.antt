@@ -7,7 +7,7 @@ use lib.Seq.{length-take-le}
 use Rattle.account.specs.Judge.{kindOf}
 use Rattle.printing.proofs.Puts.{put-length}
 use Rattle.retyping.proofs.Tables.{name-short}
-use Rattle.retyping.proofs.Steps.{kind-byte, name-put, count-most, values-first, line-put}
+use Rattle.retyping.proofs.Steps.{values-there, name-put, count-most, values-first, line-put}
 use Rattle.retyping.proofs.put_record.Statement.{statement}
 use Rattle.retyping.proofs.put_record.Tie as tie
 
@@ -16,7 +16,7 @@ put-record-spec =
     tie.close
     (tie.spec
     (λ c κs. omega (arith, c .before .before .pre .0 .long))
-    (λ c κs. let s = c .before .before .before in (s .pre .0, kind-byte (s .args .bytes .now) (s .pre .0) (c .row-at .ensures)))
+    (λ c κs. let s = c .before .before .before in values-there (s .args .bytes .now) (s .pre .0) (c .row-at .ensures))
     (λ c κs. search needs)
     (λ c κs.
     let c6 = c .before .before .before .before .before .before in
@@ -35,13 +35,13 @@ put-record-spec =
     let c11 = c9 .before .before in
     let c14 = c11 .before .before .before in
     let s = c14 in
-    let m = count-most (s .args .bytes .now) (s .pre .0) (c11 .row-at .ensures) (c9 .values-of2 .ensures) in search needs)
+    let m = count-most (s .args .bytes .now) (s .pre .0) (c11 .row-at .ensures) (c9 .values-of .ensures) in search needs)
     (λ c.
     let c10 = c .before .before .before .before .before .before .before .before .before .before in
     let c12 = c10 .before .before in
     let c15 = c12 .before .before .before in
     let s = c15 in
-    let m = count-most (s .args .bytes .now) (s .pre .0) (c12 .row-at .ensures) (c10 .values-of2 .ensures) in sym (length-take-le _ _ (search needs)))
+    let m = count-most (s .args .bytes .now) (s .pre .0) (c12 .row-at .ensures) (c10 .values-of .ensures) in sym (length-take-le _ _ (search needs)))
     (λ c κs.
     let c4 = c .before .before .before .before in
     let c8 = c4 .before .before .before .before in
@@ -54,10 +54,10 @@ put-record-spec =
     let e = c8 .say-kind .ensures in
     let p = name-put (s .args .bytes .now) t (c12 .row-at .ensures) (s .pre .1) e in
     let q = c4 .put-byte .ensures in
-    let m = count-most (s .args .bytes .now) t (c12 .row-at .ensures) (c10 .values-of2 .ensures) in
+    let m = count-most (s .args .bytes .now) t (c12 .row-at .ensures) (c10 .values-of .ensures) in
     omega (
       arith,
-      length-take (c10 .values-of2 .result) (c11 .values-of .result),
+      length-take (c10 .values-of .result) (c11 .read .result),
       m,
       q .next,
       put-length q,
@@ -78,15 +78,15 @@ put-record-spec =
     let s = c18 in
     let t = s .pre .0 in
     let k = c15 .row-at .ensures in
-    let n = c13 .values-of2 .ensures in
+    let n = c13 .values-of .ensures in
     let p = name-put (s .args .bytes .now) t k (s .pre .1) (c11 .say-kind .ensures) in
     let q = c7 .put-byte .ensures in
     let w = c2 .put-numbers .ensures in (
-      line-put (s .args .bytes .now) t k p q (values-first (s .args .bytes .now) t k n (c14 .values-of .ensures)) (w .0),
+      line-put (s .args .bytes .now) t k p q (values-first (s .args .bytes .now) t k n (c14 .read .ensures)) (w .0),
       omega (
         arith,
         w .1,
-        length-take (c13 .values-of2 .result) (c14 .values-of .result),
+        length-take (c13 .values-of .result) (c14 .read .result),
         count-most (s .args .bytes .now) t k n,
         q .next,
         p .next,

@@ -9,13 +9,7 @@ use Rattle.rules.proofs.by_kind.Tie as tie
 
 -- there is no kind behind the last
 none : (c : tie.At-match-rest) → ⊥
-none c =
-    let r = c .match .rest in
-    let p = c .before .before .pre in
-    let s = r .0 .0 .0 .0 .0 in
-    no-bool
-    (sym (no-kind _ (s .0 .0 .0 .0 .1) (s .0 .0 .0 .1) (s .0 .0 .1) (s .0 .1) (s .1) (r .0 .0 .0 .0 .1) (r .0 .0 .0 .1) (r .0 .0 .1) (r .0 .1) (r .1))
-    ∙ rw (p .3) (p .2 .kinds))
+none c = let p = c .before .before .pre in no-bool (sym (no-kind _ (c .match .rest)) ∙ rw (p .3) (p .2 .kinds))
 
 pub by-kind-spec : {M : Type 1} → statement M
 unfolding table size

@@ -1,7 +1,7 @@
 -- A farm record of version 2, or no version that there is. Assumes nothing.
 use mathlib.Core.Path.{refl}
 use native.Mathlib.Omega.{arith}
-use Rattle.codec.specs.Table.{table, size}
+use Rattle.codec.specs.Table.{table, size, lastRow}
 use Rattle.account.specs.Told.{Kind}
 use Rattle.account.proofs.Told.{wrong-version, wrong-length, right-length}
 use Rattle.rules.proofs.ByVersion.{no-version, second-version}
@@ -12,18 +12,18 @@ returns : tie.Need-returns
 returns c = let s = c .before .before .before .before .before in
     wrong-version _ _ _ _ (no-version (s .args .r .now) (s .pre .3) (c .before .if1 .taken)) (c .wrong .ensures)
 
-eleven : (c : tie.Else1) → Kind 11 (c .before .before .before .before .args .r .now)
+eleven : (c : tie.Else1) → Kind lastRow (c .before .before .before .before .args .r .now)
 eleven c = second-version (c .before .before .before .before .args .r .now) (c .before .before .before .before .pre .2) (c .if1 .left)
 
 returns-2 : tie.Need-returns-2
 unfolding table size
-returns-2 c = wrong-length _ 11 _ 14 (eleven (c .before .before)) refl _ _ (c .before .if2 .taken) (c .wrong2 .ensures)
+returns-2 c = wrong-length _ lastRow _ 14 (eleven (c .before .before)) refl _ _ (c .before .if2 .taken) (c .wrong2 .ensures)
 
 returns-3 : tie.Need-returns-3
 unfolding table size
 returns-3 c =
     let e = c .before .before .before in
-    rw (right-length _ 11 _ 14 (eleven e) refl (c .before .before .if2 .left), ← c .before .read .ensures) (c .weigh .ensures)
+    rw (right-length _ lastRow _ 14 (eleven e) refl (c .before .before .if2 .left), ← c .before .read .ensures) (c .weigh .ensures)
 
 pub by-version-spec : {M : Type 1} → statement M
 by-version-spec =

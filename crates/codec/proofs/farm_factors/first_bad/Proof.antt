@@ -1,7 +1,7 @@
 -- `codec::farm_factors::first_bad` meets its contract: what each test has found out.
 -- Assumes nothing.
 use lib.Dec.{lit<, lit≤}
-use Rattle.codec.specs.Table.{table, fields}
+use Rattle.codec.specs.Table.{table, fields, lastRow}
 use Rattle.codec.proofs.Within.{too-low, too-high, none-bad}
 use native.Mathlib.Omega.{arith}
 use Rattle.codec.proofs.farm_factors.first_bad.Statement.{statement}
@@ -13,17 +13,17 @@ first-bad-spec =
     tie.close
     (tie.spec
     (λ c. omega arith)
-    (λ c. too-high 0 (fields 11) _ 0 (omega arith) (lit< tt) (omega arith))
+    (λ c. too-high 0 (fields lastRow) _ 0 (omega arith) (lit< tt) (omega arith))
     (λ c. omega arith)
-    (λ c. too-low 1 (fields 11) _ 0 (omega arith) (lit< tt) (omega arith))
+    (λ c. too-low 1 (fields lastRow) _ 0 (omega arith) (lit< tt) (omega arith))
     (λ c. omega arith)
-    (λ c. too-high 1 (fields 11) _ 0 (omega arith) (lit< tt) (omega arith))
+    (λ c. too-high 1 (fields lastRow) _ 0 (omega arith) (lit< tt) (omega arith))
     (λ c. omega arith)
-    (λ c. too-low 2 (fields 11) _ 0 (omega arith) (lit< tt) (omega arith))
+    (λ c. too-low 2 (fields lastRow) _ 0 (omega arith) (lit< tt) (omega arith))
     (λ c. omega arith)
-    (λ c. too-high 2 (fields 11) _ 0 (omega arith) (lit< tt) (omega arith))
+    (λ c. too-high 2 (fields lastRow) _ 0 (omega arith) (lit< tt) (omega arith))
     (λ c. omega arith)
-    (λ c. too-low 3 (fields 11) _ 0 (omega arith) (lit< tt) (omega arith))
+    (λ c. too-low 3 (fields lastRow) _ 0 (omega arith) (lit< tt) (omega arith))
     (λ c. omega arith)
-    (λ c. too-high 3 (fields 11) _ 0 (omega arith) (lit< tt) (omega arith))
-    (λ c. none-bad 4 (fields 11) _ 0 (omega arith) (lit≤ tt)))
+    (λ c. too-high 3 (fields lastRow) _ 0 (omega arith) (lit< tt) (omega arith))
+    (λ c. none-bad 4 (fields lastRow) _ 0 (omega arith) (lit≤ tt)))

@@ -12,4 +12,5 @@ detail-spec =
     (λ c. search needs)
     (λ c. search needs)
     (λ c. search needs)
+    (λ c. search needs)
     (λ c. let r = c .before .before .before .before .args .r .now in detail-test (versionOf r) (kindByte r)))

@@ -1,54 +1,51 @@
--- What the kind's own function tells. Assumes nothing.
-use mathlib.Core.Path.{_≡_, refl}
-use Rattle.codec.proofs.EachKind.{last-row}
-use Rattle.codec.specs.Table.{table}
-use Rattle.make_record.proofs.ByKind.{counted, told}
+-- Refused for a value out of its range, or judged as its record. Assumes nothing.
+use Prim.Native.Nat.{ℕ, _+_, _≤_}
+use mathlib.Core.List.{List}
+use mathlib.Core.Path.{_≡_, sym, ap, _∙_}
+use native.Mathlib.Omega.{arith}
+use borrow.Author.Needs.{needs}
+use lib.ListN.{length, take, replicate}
+use lib.Seq.{length-sets}
+use Rattle.codec.specs.Table.{lengthOf}
+use Rattle.codec.specs.Codec.{recordBytes}
+use Rattle.codec.proofs.Rows.{length-most}
+use Rattle.codec.proofs.Round.{record-length}
+use Rattle.make_record.proofs.AsRecord.{at-start, whole, told}
 use Rattle.make_record.proofs.kinds.weighed.Statement.{statement}
 use Rattle.make_record.proofs.kinds.weighed.Tie as tie
 
-eleven : (c : tie.At-match-rest) → c .before .before .args .row ≡ 11
-eleven c =
-    let r = c .match .rest in
-    let o = c .before .before .pre .2 in
-    let s = r .0 .0 .0 .0 .0 in
-    last-row _ (o .least) (o .most) (s .0 .0 .0 .0 .1) (s .0 .0 .0 .1) (s .0 .0 .1) (s .0 .1) (s .1) (r .0 .0 .0 .0 .1) (r .0 .0 .0 .1) (r .0 .0 .1)
-    (r .0 .1) (r .1)
+abbrev row : tie.After-bytes-of → ℕ
+row c = c .before .before .before .before .before .before .before .args .row
+
+abbrev values : tie.After-bytes-of → List ℕ
+values c = c .before .before .before .before .before .before .before .args .v .now
+
+fits : (c : tie.After-bytes-of) → 2 + lengthOf (row c) ≤ 28
+fits c = omega (arith, length-most (row c))
+
+as-long : (c : tie.After-bytes-of) → length (c .before .before .write .last .0) ≡ 28
+as-long c = ap length (c .before .before .write .ensures) ∙ length-sets {A = ℕ} (replicate 28 0) 0 (recordBytes (row c) (values c))
+
+-- what is lent to the reader is the record of the values
+record-lent : (c : tie.After-bytes-of)
+    → take (c .bytes-of .result) (c .before .before .write .last .0) ≡ recordBytes (row c) (values c)
+record-lent c = at-start (row c) (values c) (replicate 28 0) (fits c) (c .before .before .write .ensures) (c .bytes-of .ensures)
 
 pub weighed-spec : {M : Type 1} → statement M
-unfolding table
 weighed-spec =
     tie.close
     (tie.spec
-    (λ c κs. counted 1 (c .match .keys1) 3 refl (c .before .before .pre .2))
-    (λ c κs. (c .before .before .before .pre .0, c .before .before .before .pre .1))
-    (λ c κs. counted 2 (c .match .keys2) 3 refl (c .before .before .pre .2))
-    (λ c κs. (c .before .before .before .pre .0, c .before .before .before .pre .1))
-    (λ c κs. counted 3 (c .match .keys3) 3 refl (c .before .before .pre .2))
-    (λ c κs. (c .before .before .before .pre .0, c .before .before .before .pre .1))
-    (λ c κs. counted 4 (c .match .keys4) 9 refl (c .before .before .pre .2))
-    (λ c κs. (c .before .before .before .pre .0, c .before .before .before .pre .1))
-    (λ c κs. counted 5 (c .match .keys5) 12 refl (c .before .before .pre .2))
-    (λ c κs. (c .before .before .before .pre .0, c .before .before .before .pre .1))
-    (λ c κs. counted 6 (c .match .keys6) 3 refl (c .before .before .pre .2))
-    (λ c κs. (c .before .before .before .pre .0, c .before .before .before .pre .1))
-    (λ c κs. counted 7 (c .match .keys7) 1 refl (c .before .before .pre .2))
-    (λ c κs. (c .before .before .before .pre .0, c .before .before .before .pre .1))
-    (λ c κs. counted 8 (c .match .keys8) 1 refl (c .before .before .pre .2))
-    (λ c κs. (c .before .before .before .pre .0, c .before .before .before .pre .1))
-    (λ c κs. counted 9 (c .match .keys9) 5 refl (c .before .before .pre .2))
-    (λ c κs. (c .before .before .before .pre .0, c .before .before .before .pre .1))
-    (λ c κs. counted 10 (c .match .keys10) 4 refl (c .before .before .pre .2))
-    (λ c κs. (c .before .before .before .pre .0, c .before .before .before .pre .1))
-    (λ c κs. counted 11 (eleven c) 4 refl (c .before .before .pre .2))
-    (λ c κs. (c .before .before .before .pre .0, c .before .before .before .pre .1))
-    (λ c. told 1 (c .before .before .match .keys1) (c .before .three-values .ensures) _ (c .weigh .ensures))
-    (λ c. told 2 (c .before .before .match .keys2) (c .before .three-values2 .ensures) _ (c .weigh2 .ensures))
-    (λ c. told 3 (c .before .before .match .keys3) (c .before .three-values3 .ensures) _ (c .weigh3 .ensures))
-    (λ c. told 4 (c .before .before .match .keys4) (c .before .nine-values .ensures) _ (c .weigh4 .ensures))
-    (λ c. told 5 (c .before .before .match .keys5) (c .before .twelve-values .ensures) _ (c .weigh5 .ensures))
-    (λ c. told 6 (c .before .before .match .keys6) (c .before .three-values4 .ensures) _ (c .weigh6 .ensures))
-    (λ c. told 7 (c .before .before .match .keys7) (c .before .one-value .ensures) _ (c .weigh7 .ensures))
-    (λ c. told 8 (c .before .before .match .keys8) (c .before .one-value2 .ensures) _ (c .weigh8 .ensures))
-    (λ c. told 9 (c .before .before .match .keys9) (c .before .five-values .ensures) _ (c .weigh9 .ensures))
-    (λ c. told 10 (c .before .before .match .keys10) (c .before .four-values .ensures) _ (c .weigh10 .ensures))
-    (λ c. told 11 (eleven (c .before .before)) (c .before .four-values2 .ensures) _ (c .weigh11 .ensures)))
+    (λ c κs. search needs)
+    (λ c κs. search needs)
+    (λ c. c .weigh .ensures _ (c .before .before .first-bad .ensures))
+    (λ c. search needs)
+    (λ c κs. let s = c .before .before .before .before in (omega (arith, length-most (s .args .row)), s .pre .2))
+    (λ c κs. search needs)
+    (λ c. omega (arith, fits c, as-long c, c .bytes-of .ensures))
+    (λ c. c .before .bytes-of .ensures ∙ sym (record-length (row (c .before)) (values (c .before))) ∙ sym (ap length (record-lent (c .before))))
+    (λ c κs. let p = c .before .before .before .before .before .before .before .before .pre in (p .0, p .1, whole _ _ (p .2) (record-lent (c .before))))
+    (λ c.
+    let b = c .before .before in
+    let e = b .before .before .before .before in
+    let p = e .before .before .before .pre in
+    told _ _ (p .2) (record-lent b) _ (sym (e .before .first-bad .ensures) ∙ e .if1 .left) (c .judge .ensures)))

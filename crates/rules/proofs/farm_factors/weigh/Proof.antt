@@ -2,6 +2,7 @@
 use mathlib.Core.Path.{refl}
 use native.Mathlib.Omega.{arith}
 use borrow.Author.Needs.{needs}
+use Rattle.codec.specs.Table.{lastRow}
 use Rattle.account.specs.Sorts.{sortOf}
 use Rattle.account.specs.Judge.{inPlace, first, accepted}
 use Rattle.account.proofs.Ranges.{factors-in}
@@ -12,19 +13,19 @@ use Rattle.rules.proofs.farm_factors.weigh.Tie as tie
 returns : tie.Need-returns
 unfolding inPlace
 returns c =
-    stops _ 11 _ _ _ _ refl (c .before .before .before .before .first-bad .ensures) (c .before .before .barred .ensures) _ _ (c .before .if1 .taken)
+    stops _ lastRow _ _ _ _ refl (c .before .before .before .before .first-bad .ensures) (c .before .before .barred .ensures) _ _ (c .before .if1 .taken)
     (c .stopped .ensures)
 
-passed : (c : tie.Else1) → Passes (c .before .before .before .before .args .a) 11 (c .before .before .before .before .args .t2)
+passed : (c : tie.Else1) → Passes (c .before .before .before .before .args .a) lastRow (c .before .before .before .before .args .t2)
 unfolding inPlace
-passed c = passes _ 11 _ _ _ _ refl (c .before .before .before .first-bad .ensures) (c .before .barred .ensures) (c .if1 .left)
+passed c = passes _ lastRow _ _ _ _ refl (c .before .before .before .first-bad .ensures) (c .before .barred .ensures) (c .if1 .left)
 
 returns-2 : tie.Need-returns-2
 unfolding first accepted sortOf
 returns-2 c =
     quiet-in _ _ _ _ _ (c .silent .ensures)
     (rw (
-      accepts _ 11 _ (passed (c .before .before .before .before .before)) refl,
+      accepts _ lastRow _ (passed (c .before .before .before .before .before)) refl,
       c .silent .ensures,
       c .before .before .before .before .by-fields .ensures,
     ) (tells-quiet _))

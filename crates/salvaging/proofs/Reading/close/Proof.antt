@@ -1,13 +1,14 @@
+-- The record of kind 8 with the count. Assumes nothing.
+use mathlib.Core.Path.{refl}
+use native.Mathlib.Omega.{arith}
 use borrow.Author.Needs.{needs}
-use Rattle.salvaging.proofs.CloseLaws.{any-count}
+use Rattle.codec.specs.Table.{table, size}
 use Rattle.salvaging.proofs.Reading.close.Statement.{statement}
 use Rattle.salvaging.proofs.Reading.close.Tie as tie
 
+write-requires : tie.Need-write-requires
+unfolding table size
+write-requires c κs = (omega arith, record { least = omega arith; most = omega arith; count = refl })
+
 pub close-spec : {M : Type 1} → statement M
-close-spec =
-    tie.close
-    (tie.spec
-    (λ c. search needs)
-    (λ c κs. let p = c .before .before .before .before .pre in (p .1, any-count _ (p .0 .range .counted .records-most)))
-    (λ c. search needs)
-    (λ c. search needs))
+close-spec = tie.close (tie.spec (λ c. search needs) (λ c. search needs) write-requires (λ c. search needs) (λ c. search needs))

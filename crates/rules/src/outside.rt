@@ -1,0 +1,45 @@
+// A record of any row with a value out of its range: 5, 6 or 7 refuses it, and no kind's own function is asked.
+use crate::refusals::barred;
+use crate::refusals::stopped;
+use account::Account;
+use account::Judged;
+ghost use mathlib.Core.Path.{_≡_};
+ghost use mathlib.Core.List.{List};
+ghost use Prim.Native.Nat.{ℕ};
+ghost use Rattle.codec.specs.Table.{fields};
+ghost use Rattle.codec.specs.Codec.{firstBad};
+ghost use Rattle.account.specs.Judge.{headingServes, inPlace, weigh};
+ghost use Rattle.account.specs.Told.{Tells};
+
+// A heading of the class serves a record of the row.
+fn serves(class: u8, row: u64) -> bool
+    ensures { λ r. ⌜ r ≡ headingServes class row ⌝ }
+{
+    if (row == 3) | ((row == 4) | (row == 10)) {
+        return (1 <= class) & (class <= 3);
+    }
+    if row == 5 {
+        return class == 4;
+    }
+    true
+}
+
+// A record of the row stands in its place.
+fn placed(a: Account, row: u64) -> bool
+    ensures { λ r. ⌜ r ≡ inPlace a row ⌝ }
+{
+    let h = a.heading;
+    if (row == 1) | (row == codec::LAST_ROW) {
+        return a.records == 0;
+    }
+    serves(h.class, row) & !(a.records == 0)
+}
+
+// What values of the row do whose first out of its range stands at that position.
+pub fn weigh(a: Account, row: u64, position: u8) -> Judged
+    requires { ⌜ (position ≡ 0 → ⊥) ⌝ }
+    ensures { λ j. ⌜ ((v : List ℕ) → position ≡ firstBad (fields row) v 0 → Tells (weigh a row v) j) ⌝ }
+{
+    let code = barred(a.records, placed(a, row), position);
+    stopped(a, code, position)
+}
