@@ -50,17 +50,28 @@ unfolding sortOf
 figures-small h v m =
     each-row (λ (k : ℕ). DetailKind k → firstBad (fields k) v 0 ≡ 0 → partsWrong k v ≡ false → Small (figuresOf h k v)) (
       (λ d. no-bool d),
-      (λ d. no-bool d),
-      (λ d e p. enteric-figures h v m e),
-      (λ d e p. cattle-figures h v m e),
-      (λ d e p. pig-figures h v m e (ltb-false _ _ p)),
-      (λ d e p. energy-figures h v e),
-      (λ d e p. soil-figures h v e),
-      (λ d. no-bool d),
-      (λ d e p. tillage-figures h v e),
-      (λ d e p. grazing-figures h v m e),
-      (λ d. no-bool d),
-      tt,
+      (
+        (λ d. no-bool d),
+        (
+          (λ d e p. enteric-figures h v m e),
+          (
+            (λ d e p. cattle-figures h v m e),
+            (
+              (λ d e p. pig-figures h v m e (ltb-false _ _ p)),
+              (
+                (λ d e p. energy-figures h v e),
+                (
+                  (λ d e p. soil-figures h v e),
+                  (
+                    (λ d. no-bool d),
+                    ((λ d e p. tillage-figures h v e), ((λ d e p. grazing-figures h v m e), ((λ d. no-bool d), tt))),
+                  ),
+                ),
+              ),
+            ),
+          ),
+        ),
+      ),
     )
 
 -- a detail of the farm gives CO2 alone

@@ -13,7 +13,7 @@ use Rattle.base.specs.Choice.{pick}
 use Rattle.base.proofs.Tests.{no-bool, and-l, and-r, or-l, or-r, not-false, not-true, of-choice}
 use Rattle.codec.proofs.EachKind.{row-of-kind}
 use Rattle.codec.specs.declared.Field.{Field}
-use Rattle.codec.specs.Table.{table, fields, isRow}
+use Rattle.codec.specs.Table.{table, fields, lastRow, isRow}
 use Rattle.codec.specs.Codec.{firstBad}
 use Rattle.codec.proofs.Within.{bad-position}
 use Rattle.line_bytes.specs.Lines.{lineSize, totalSize, linesMost}
@@ -326,8 +326,8 @@ module _ (a : Account) (f : AccountInRange a) (early : a .stage < 2) where
   unfolding inPlace
   kept-opens k v c e =
       let empty = eqb-true _ _ (rw e at (passed a k v c .place)) in
-      of-choice (λ (w : Factors). AccountInRange (opened a w)) (eqb k 11)
-      (λ q. let i = factors-in v (rw (eqb-true k 11 q) at (passed a k v c .ranges)) in
+      of-choice (λ (w : Factors). AccountInRange (opened a w)) (eqb k lastRow)
+      (λ q. let i = factors-in v (rw (eqb-true k lastRow q) at (passed a k v c .ranges)) in
       in-range-opened _ (i .ch4-least) (i .ch4-most) (i .n2o-least) (i .n2o-most) empty)
       (λ q. of-choice (λ (w : Factors). AccountInRange (opened a w)) (eqb (getD v 2 0) 1)
       (λ e. in-range-opened _ (omega arith) (omega arith) (omega arith) (omega arith) empty)

@@ -27,7 +27,9 @@ pub record FactorsIn (v : List ℕ) : Type 0 where
 
 pub factors-in : (v : List ℕ) → firstBad (fields lastRow) v 0 ≡ 0 → FactorsIn v
 unfolding table
-factors-in v e = let g = good lastRow v e in record { ch4-least = omega arith; ch4-most = omega arith; n2o-least = omega arith; n2o-most = omega arith }
+factors-in v e =
+    let g = good lastRow v e in
+    record { ch4-least = omega arith; ch4-most = omega arith; n2o-least = omega arith; n2o-most = omega arith }
 
 pub record HeadingIn (v : List ℕ) : Type 0 where
   pub group-least : 1 ≤ getD v 0 0

@@ -14,7 +14,7 @@ use Rattle.base.proofs.Tests.{not-false}
 use Rattle.codec.specs.Table.{fields, lengthOf}
 use Rattle.codec.specs.Codec.{valAt, valuesAt, firstBad}
 use Rattle.line_bytes.specs.Lines.{lineSize, totalSize, linesMost}
-use Rattle.line_bytes.proofs.LineLaws.{line-length, total-length}
+use Rattle.line_bytes.proofs.Rows.{line-length, total-length}
 use Rattle.grams.specs.Cattle.{belowZero, manureOf, CattleSmall, Nitrogen}
 use Rattle.grams.specs.Pig.{Manure}
 use Rattle.grams.specs.Units.{noCo2, co2Word, Co2Within}

@@ -17,7 +17,7 @@ use Rattle.codec.specs.Codec.{valAt}
 use Rattle.book.specs.Front.{unfinished, need, front}
 use Rattle.book.specs.State.{zeros}
 use Rattle.book.specs.Inner.{Filled, Gathered}
-use Rattle.book.proofs.FrontLaws.{meaning, unfinished-short, length-take-two, held-whole}
+use Rattle.book.proofs.Fronts.{meaning, unfinished-short, length-take-two, held-whole}
 
 -- one byte more is kept
 pub keep-on : (held s : List ℕ) (j : ℕ) → held ≡ take j s ++ replicate (27 - j) 0 → j < length s → j < 27

@@ -8,7 +8,7 @@ use lib.Seq.{take-add}
 use Rattle.account.specs.Line.{joined}
 use Rattle.book.specs.declared.State.{State}
 use Rattle.book.specs.Run.{Outcome, outcome, run}
-use Rattle.book.proofs.RunLaws.{run-append}
+use Rattle.book.proofs.Runs.{run-append}
 
 joined-append : (ls ms : List (List ℕ)) → joined (ls ++ ms) ≡ joined ls ++ joined ms
 joined-append [] ms = refl

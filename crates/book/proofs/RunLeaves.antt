@@ -15,9 +15,9 @@ use Rattle.book.specs.declared.State.{State}
 use Rattle.book.specs.Front.{Front, unfinished, badLength, whole, need, front}
 use Rattle.book.specs.State.{heldOf, InRange}
 use Rattle.book.specs.Run.{Run, book, run}
-use Rattle.book.proofs.FrontLaws.{meaning, held-bad, held-whole}
-use Rattle.book.proofs.RangeLaws.{range-holding, range-idle}
-use Rattle.book.proofs.RunLaws.{book-ended, book-unfinished, book-bad, book-whole, run-ended}
+use Rattle.book.proofs.Fronts.{meaning, held-bad, held-whole}
+use Rattle.book.proofs.Ranges.{range-holding, range-idle}
+use Rattle.book.proofs.Runs.{book-ended, book-unfinished, book-bad, book-whole, run-ended}
 
 -- l is an end of xs
 pub record Tail (l xs : List ℕ) : Type 0 where

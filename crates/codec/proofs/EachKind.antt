@@ -5,7 +5,7 @@ use mathlib.Core.Path.{_≡_, refl}
 use mathlib.Core.Bool.{Bool, true, false, _&&_}
 use mathlib.Core.List.{[]}
 use native.Mathlib.Omega.{arith}
-use borrow.Author.Tests.{eqb-true, eqb-false, leb-true, le-leb}
+use borrow.Author.Tests.{eqb-true, eqb-false, leb-true, leb-false, le-leb}
 use lib.Dec.{leb, eqb}
 use lib.ListN.{List·getD-eq-default}
 use Rattle.base.specs.Choice.{pick}
@@ -49,6 +49,11 @@ past (suc n) k l h = let m = past n k l (h .0) in let other = h .1 in omega arit
 -- a number that is none of the kinds is no kind
 pub no-kind : (k : ℕ) → NoneOf lastKind k → isKind k ≡ false
 no-kind k h = by-test (isKind k) (λ e. absurd (omega (arith, past lastKind k (kind-least k e) h, kind-most k e))) (λ e. e)
+
+-- a row that is none of those from 1 on is 0
+pub row-zero : (k : ℕ) → k ≤ lastRow → NoneOf lastRow k → k ≡ 0
+row-zero k m h =
+    by-test (leb 1 k) (λ e. absurd (omega (arith, past lastRow k (leb-true 1 k e) h))) (λ e. let l = leb-false 1 k e in omega arith)
 
 -- P of each of n numbers, from i on
 abbrev pub EachFrom : (ℕ → Type 0) → ℕ → ℕ → Type 0

@@ -1,4 +1,4 @@
-// A record of any row, field by field as the table says: for what has time. The reader goes by the functions of each kind.
+// A record of any row, field by field as the table says: for the tools. The reader goes by the functions of each kind, which are faster.
 use crate::kinds::bytes_of;
 use crate::kinds::highest;
 use crate::kinds::kind_of;

@@ -1,4 +1,4 @@
-// What the table says of each row: a kind, or behind them the farm record of version 2. A new kind is a row more of each table here, and an arm of bytes_of.
+// What the table says of each row: a kind, or behind them the farm record of version 2. A new kind is a row more of each table here.
 use crate::LAST_ROW;
 ghost use mathlib.Core.Path.{_≡_};
 ghost use Prim.Native.Nat.{_+_, _<_, _≤_};
@@ -114,14 +114,13 @@ pub fn values_of(row: u64) -> usize
     VALUES[row as usize]
 }
 
-// How many bytes a record of the row has, the two of its length among them. No table, since the reader asks for it at each record: the compiler
-// would lay the table on the stack each time.
+// How many bytes a record of the row has, the two of its length among them. The reader asks for each record: a constant array would be stored anew
+// each time, of a `match` the compiler makes a table.
 pub fn bytes_of(row: u64) -> usize
     requires { ⌜ row ≤ lastRow ⌝ }
     ensures { λ r. ⌜ r ≡ 2 + lengthOf row ⌝ }
 {
     match row {
-        0 => 4,
         1 => 11,
         2 => 9,
         3 => 12,
@@ -132,7 +131,8 @@ pub fn bytes_of(row: u64) -> usize
         8 => 6,
         9 => 13,
         10 => 10,
-        _ => 14,
+        11 => 14,
+        _ => 4,
     }
 }
 

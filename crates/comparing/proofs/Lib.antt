@@ -1,10 +1,10 @@
-pub mod EntryLaws
-pub mod SameLaws
-pub mod WalkLaws
-pub mod PairLaws
-pub mod TellLaws
-pub mod TextLaws
-pub mod MovedLaws
+pub mod Entries
+pub mod SameBytes
+pub mod Walks
+pub mod Pairs
+pub mod Tellings
+pub mod Texts
+pub mod MovedRecords
 pub mod Truths
 pub mod SameDetails
 pub mod MovedTruth

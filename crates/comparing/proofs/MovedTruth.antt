@@ -25,15 +25,15 @@ use Rattle.account.proofs.Details.{judge-accepted, within-range}
 use Rattle.book.specs.Front.{whole, need, front}
 use Rattle.book.specs.State.{noRecordYet}
 use Rattle.book.specs.Run.{Run, book, run}
-use Rattle.book.proofs.FrontLaws.{meaning}
-use Rattle.book.proofs.RecordLaws.{record-whole}
-use Rattle.book.proofs.RunLaws.{book-ended, book-whole}
+use Rattle.book.proofs.Fronts.{meaning}
+use Rattle.book.proofs.RecordRuns.{record-whole}
+use Rattle.book.proofs.Runs.{book-ended, book-whole}
 use Rattle.promises.specs.WholeLines.{headingFrom}
 use Rattle.promises.specs.Subtotals.{subtotalLines}
 use Rattle.promises.specs.SameLine.{headingBefore, lineUnder}
 use Rattle.promises.proofs.Headings.{group-most}
 use Rattle.promises.proofs.SameLine.{heading-is}
-use Rattle.reasons.proofs.FaultLaws.{refused-is}
+use Rattle.reasons.proofs.Faults.{refused-is}
 use Rattle.orders.specs.InOrder.{inOrder}
 use Rattle.orders.specs.AnyOrder.{Details}
 use Rattle.orders.proofs.Runs.{Takes, Taken, reached, given, taken-first, taken-last, reached-append, given-append}
@@ -44,7 +44,7 @@ use Rattle.orders.proofs.Orders.{InTurn, withRecords, lineIn, Same, in-turn, re
 use Rattle.comparing.specs.Entries.{Entry, recordsIn, entriesAfter, entriesOf}
 use Rattle.comparing.specs.Moved.{sameDetails, LinesMoved}
 use Rattle.comparing.specs.Compare.{shapeOf, frontOf, backMost, backOf, between, planOf}
-use Rattle.comparing.proofs.PairLaws.{leading-left, leading-right, trailing-left}
+use Rattle.comparing.proofs.Pairs.{leading-left, leading-right, trailing-left}
 use Rattle.comparing.proofs.Truths.{shapesIn, front-same, back-same, First, Cases, none, some, cases, records-both}
 use Rattle.comparing.proofs.SameDetails.{same-are-details, some-order}
 

@@ -14,7 +14,7 @@ use Rattle.orders.specs.InOrder.{behindFirst, toFront, keepFirst, inOrder}
 use Rattle.orders.specs.AnyOrder.{Details}
 use Rattle.comparing.specs.Same.{same}
 use Rattle.comparing.specs.Moved.{timesIn, asOften, allAsOften, sameDetails}
-use Rattle.comparing.proofs.SameLaws.{same-self, same-true}
+use Rattle.comparing.proofs.SameBytes.{same-self, same-true}
 
 -- ---- as often in the one as in the other
 

@@ -25,13 +25,13 @@ use Rattle.book.specs.WholeRecords.{recordsOf}
 use Rattle.book.specs.State.{holding, noRecordYet}
 use Rattle.book.specs.Run.{Outcome, outcome, book, run}
 use Rattle.book.specs.Call.{Call, fits, answerOf}
-use Rattle.book.proofs.FrontLaws.{meaning}
-use Rattle.book.proofs.RangeLaws.{range-idle}
-use Rattle.book.proofs.WholeRecordLaws.{records-whole}
-use Rattle.book.proofs.RunLaws.{book-ended, book-unfinished, book-bad, book-whole}
+use Rattle.book.proofs.Fronts.{meaning}
+use Rattle.book.proofs.Ranges.{range-idle}
+use Rattle.book.proofs.WholeRecords.{records-whole}
+use Rattle.book.proofs.Runs.{book-ended, book-unfinished, book-bad, book-whole}
 use Rattle.book.proofs.Longest.{longest-top}
-use Rattle.book.proofs.CallLaws.{call-at}
-use Rattle.book.proofs.RecordLaws.{book-one}
+use Rattle.book.proofs.Calls.{call-at}
+use Rattle.book.proofs.RecordRuns.{book-one}
 use Rattle.promises.specs.Headings.{acceptedRecords}
 use Rattle.promises.specs.Subtotals.{headingAfter}
 use Rattle.promises.specs.WholeLines.{isDetail, lastHeading}
@@ -39,15 +39,15 @@ use Rattle.promises.specs.SameLine.{headingBefore, Accepts, lineUnder}
 use Rattle.promises.proofs.Headings.{Grown, Stopped, judged}
 use Rattle.promises.proofs.WholeLines.{shaped, bookRecords}
 use Rattle.promises.proofs.SameLine.{heading-is, gives-line, same-line}
-use Rattle.reasons.proofs.FaultLaws.{refused-is}
+use Rattle.reasons.proofs.Faults.{refused-is}
 use Rattle.comparing.specs.declared.runs.Counts.{Counts}
 use Rattle.comparing.specs.Entries.{read, after, linesOf, Entry, recordsIn, entriesFrom, entriesAfter, entriesOf}
 use Rattle.comparing.specs.Same.{same}
 use Rattle.comparing.specs.Compare.{shapeOf, noRuns, oneMore, runsFrom, runsOf, frontOf}
 use Rattle.comparing.specs.Remarks.{otherText}
-use Rattle.comparing.proofs.EntryLaws.{shut, entries-none}
-use Rattle.comparing.proofs.SameLaws.{same-true, same-self}
-use Rattle.comparing.proofs.PairLaws.{runs-most}
+use Rattle.comparing.proofs.Entries.{shut, entries-none}
+use Rattle.comparing.proofs.SameBytes.{same-true, same-self}
+use Rattle.comparing.proofs.Pairs.{runs-most}
 
 -- the same, but for the count of a close
 unfoldable pub shapesIn : List Entry → List (List ℕ)

@@ -17,11 +17,11 @@ use Rattle.book.specs.Front.{Front, unfinished, badLength, whole, need, front}
 use Rattle.book.specs.State.{heldOf, noRecordYet, InRange}
 use Rattle.book.specs.Run.{Run, outcome, book, run}
 use Rattle.book.specs.Call.{longest, fits, call}
-use Rattle.book.proofs.FrontLaws.{meaning}
-use Rattle.book.proofs.RangeLaws.{range-idle}
-use Rattle.book.proofs.RunLaws.{book-ended, book-unfinished, book-bad, book-whole}
+use Rattle.book.proofs.Fronts.{meaning}
+use Rattle.book.proofs.Ranges.{range-idle}
+use Rattle.book.proofs.Runs.{book-ended, book-unfinished, book-bad, book-whole}
 use Rattle.book.proofs.RunLeaves.{run-leaves}
-use Rattle.book.proofs.CallLaws.{call-at}
+use Rattle.book.proofs.Calls.{call-at}
 
 joined-length : (ls ms : List (List ℕ)) → length (joined (ls ++ ms)) ≡ length (joined ls) + length (joined ms)
 joined-length [] ms = omega arith

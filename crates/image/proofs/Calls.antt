@@ -17,9 +17,9 @@ use Rattle.book.specs.declared.Answer.{Answer}
 use Rattle.book.specs.State.{noRecordYet, InRange, inRange}
 use Rattle.book.specs.Run.{outcome, run}
 use Rattle.book.specs.Call.{Call, longest, fits, answerOf, call, outside, fedOf, laid}
-use Rattle.book.proofs.RangeLaws.{range-parts}
+use Rattle.book.proofs.Ranges.{range-parts}
 use Rattle.book.proofs.RunLeaves.{run-leaves}
-use Rattle.book.proofs.CallLaws.{call-at}
+use Rattle.book.proofs.Calls.{call-at}
 use Rattle.image.specs.declared.Called.{Called}
 use Rattle.image.specs.Image.{imageSize, imageOf, stateIn, Possible, isImage}
 use Rattle.image.specs.Calls.{started, callOn, imageAfter, calledOf, codeOf, noImage}

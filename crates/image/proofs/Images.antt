@@ -19,7 +19,7 @@ use Rattle.account.specs.declared.Account.{Account}
 use Rattle.account.specs.Range.{Headed, Unheaded, AccountInRange}
 use Rattle.book.specs.declared.State.{State}
 use Rattle.book.specs.State.{noRecordYet, InRange, inRange}
-use Rattle.book.proofs.RangeLaws.{range-parts, range-test}
+use Rattle.book.proofs.Ranges.{range-parts, range-test}
 use Rattle.image.specs.Image.{imageSize, imageFields, numbersOf, imageOf, stateIn, Possible, isImage}
 use Rattle.image.specs.Image.{frontFields, factorsFields, headingFields, daysFields, subtotalFields, sumsFields, refusalFields}
 use Rattle.image.proofs.Stored.{fields-count, fields-size, image-length}

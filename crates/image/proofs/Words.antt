@@ -22,10 +22,10 @@ use Rattle.book.specs.Front.{Front, unfinished, badLength, whole, need, front}
 use Rattle.book.specs.State.{heldOf}
 use Rattle.book.specs.Run.{outcome, book, run}
 use Rattle.book.specs.Call.{longest, fits, call}
-use Rattle.book.proofs.FrontLaws.{meaning}
-use Rattle.book.proofs.RunLaws.{book-ended, book-unfinished, book-bad, book-whole}
+use Rattle.book.proofs.Fronts.{meaning}
+use Rattle.book.proofs.Runs.{book-ended, book-unfinished, book-bad, book-whole}
 use Rattle.book.proofs.RunLeaves.{run-leaves}
-use Rattle.book.proofs.CallLaws.{call-at}
+use Rattle.book.proofs.Calls.{call-at}
 use Rattle.image.specs.Image.{Possible}
 
 abbrev Word : Account → Type 0

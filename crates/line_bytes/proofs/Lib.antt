@@ -1,3 +1,3 @@
-pub mod LineLaws
+pub mod Rows
 pub mod Laid
 pub mod Sample

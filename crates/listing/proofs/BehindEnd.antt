@@ -8,7 +8,7 @@ use native.Mathlib.Omega.{arith}
 use Rattle.book.specs.declared.State.{State}
 use Rattle.book.specs.State.{InRange, noRecordYet}
 use Rattle.book.specs.Run.{then, run}
-use Rattle.book.proofs.RunLaws.{run-ended}
+use Rattle.book.proofs.Runs.{run-ended}
 use Rattle.book.proofs.RunLeaves.{run-leaves}
 use Rattle.promises.proofs.RuleThree.{broken-anywhere}
 use Rattle.promises.proofs.StaysInRange.{new-in-range}

@@ -15,7 +15,7 @@ use Rattle.base.proofs.Tests.{of-choice}
 use Rattle.codec.specs.Table.{size, isRow}
 use Rattle.codec.specs.Codec.{be, bytesOf, valuesAt}
 use Rattle.line_bytes.specs.Lines.{lineFields, totalFields, lineSize, totalSize, isTotal, lineBytes, totalBytes, frontSize, frontFields}
-use Rattle.line_bytes.proofs.LineLaws.{sizes}
+use Rattle.line_bytes.proofs.Rows.{sizes}
 use Rattle.codec.proofs.Values.{values-same}
 use Rattle.grams.specs.declared.units.Co2.{Co2}
 use Rattle.account.specs.declared.Account.{Account}

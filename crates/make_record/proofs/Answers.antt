@@ -22,7 +22,7 @@ use Rattle.account.proofs.Keeps.{stage-most}
 use Rattle.account.proofs.Refusals.{passed, weighed-passes}
 use Rattle.book.specs.declared.State.{State}
 use Rattle.book.specs.State.{inRange, holding}
-use Rattle.book.proofs.RangeLaws.{range-parts, range-test}
+use Rattle.book.proofs.Ranges.{range-parts, range-test}
 use Rattle.make_record.specs.declared.Answer.{Answer}
 use Rattle.make_record.specs.declared.Answer.the-variants.{Wrote, Refused}
 use Rattle.make_record.specs.declared.Written.{Written}

@@ -22,16 +22,16 @@ use Rattle.book.specs.declared.State.{State}
 use Rattle.book.specs.State.{InRange, inRange}
 use Rattle.book.specs.Run.{run}
 use Rattle.book.specs.Call as reader
-use Rattle.book.proofs.RangeLaws.{range-parts}
+use Rattle.book.proofs.Ranges.{range-parts}
 use Rattle.book.proofs.RunLeaves.{run-leaves}
-use Rattle.book.proofs.ReadingLaws.{reading-none}
-use Rattle.book.proofs.CallLaws.{done-ended}
+use Rattle.book.proofs.Readings.{reading-none}
+use Rattle.book.proofs.Calls.{done-ended}
 use Rattle.make_record.specs.declared.Answer.{Answer}
 use Rattle.make_record.specs.declared.Answer.the-variants.{Wrote, Refused}
 use Rattle.make_record.specs.Write.{numbers, rowFor, next, refusals, answerOf, byAnswer, writeRow, write, Ready, OfKind, saying}
-use Rattle.make_record.proofs.RowLaws.{of-row}
+use Rattle.make_record.proofs.Rows.{of-row}
 use Rattle.make_record.proofs.Answers.{written-so, by-13, by-own, by-3, by-4, by-reader, wrote}
-use Rattle.make_record.proofs.ReaderLaws.{run-one, call-one, is-kind, judge-is}
+use Rattle.make_record.proofs.OneRecord.{run-one, call-one, is-kind, judge-is}
 
 -- ---- a record that is written
 

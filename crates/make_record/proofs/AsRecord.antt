@@ -6,16 +6,17 @@ use mathlib.Core.List.{List}
 use native.Mathlib.Omega.{arith}
 use lib.ListN.{length, take, drop}
 use lib.Seq.{sets, sets-eq, take-at}
-use Rattle.codec.specs.Table.{fields, lengthOf, linesMost, Of}
+use Rattle.codec.specs.Table.{fields, lengthOf, Of}
 use Rattle.codec.specs.Codec.{firstBad, recordBytes}
 use Rattle.codec.proofs.Rows.{fit-kind}
 use Rattle.codec.proofs.Round.{record-length}
+use Rattle.line_bytes.specs.Lines.{linesMost}
 use Rattle.account.specs.declared.Account.{Account}
 use Rattle.account.specs.declared.Judged.{Judged}
 use Rattle.account.specs.Judge.{WholeRecord, weigh, judge}
 use Rattle.account.specs.Told.{Tells, TellsIn}
 use Rattle.account.proofs.Told.{tells-fit, lines-short}
-use Rattle.make_record.proofs.ReaderLaws.{is-kind, judge-is}
+use Rattle.make_record.proofs.OneRecord.{is-kind, judge-is}
 
 -- a record stored at the start of a slice is its first n bytes
 pub at-start : (row : ℕ) (v out : List ℕ) {out′ : List ℕ} {n : ℕ} → 2 + lengthOf row ≤ length out → out′ ≡ sets out 0 (recordBytes row v)

@@ -1,6 +1,6 @@
-pub mod RowLaws
+pub mod Rows
 pub mod Answers
-pub mod ReaderLaws
+pub mod OneRecord
 mod AsRecord
 pub mod RoundTrip
 pub mod AsReader

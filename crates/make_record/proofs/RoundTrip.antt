@@ -25,8 +25,8 @@ use Rattle.book.specs.State.{holding}
 use Rattle.make_record.specs.declared.Answer.the-variants.{Wrote}
 use Rattle.make_record.specs.Write.{rowFor, writeRow, write, Ready, OfKind}
 use Rattle.make_record.proofs.Answers.{written-so, wrote}
-use Rattle.make_record.proofs.ReaderLaws.{is-kind, version-written, kind-written, values-read}
-use Rattle.make_record.proofs.RowLaws.{version-of-row, kind-of-row, of-row, row-again, version-again, kind-again}
+use Rattle.make_record.proofs.OneRecord.{is-kind, version-written, kind-written, values-read}
+use Rattle.make_record.proofs.Rows.{version-of-row, kind-of-row, of-row, row-again, version-again, kind-again}
 
 -- What it writes is a record of the kind, of version 2 where it is a farm record of four values and else of version 1, and its fields are the
 -- values.

@@ -1,4 +1,4 @@
-// Values of any row of the table: what their record does.
+// Values of any row of the table: what their record does to the account.
 use account::Account;
 use account::Judged;
 use codec::by_row::first_bad;

@@ -15,7 +15,7 @@ use Rattle.book.specs.declared.State.{State}
 use Rattle.book.specs.WholeRecords.{recordsOf}
 use Rattle.book.specs.State.{noRecordYet}
 use Rattle.book.specs.Run.{Run, then, book, run}
-use Rattle.book.proofs.RunLaws.{book-none}
+use Rattle.book.proofs.Runs.{book-none}
 use Rattle.promises.specs.SameLine.{headingBefore, lineUnder}
 use Rattle.promises.specs.Totals.{lastOf}
 use Rattle.promises.proofs.StaysInRange.{new-in-range}

@@ -19,10 +19,10 @@ use Rattle.book.specs.Front.{Front, unfinished, badLength, whole, need, front}
 use Rattle.book.specs.WholeRecords.{recordsBy, recordsOf}
 use Rattle.book.specs.State.{noRecordYet, holding}
 use Rattle.book.specs.Run.{Run, then, book, run}
-use Rattle.book.proofs.FrontLaws.{meaning}
-use Rattle.book.proofs.WholeRecordLaws.{records-whole}
-use Rattle.book.proofs.RecordLaws.{record-whole}
-use Rattle.book.proofs.RunLaws.{book-ended, book-unfinished, book-bad, book-whole, book-none}
+use Rattle.book.proofs.Fronts.{meaning}
+use Rattle.book.proofs.WholeRecords.{records-whole}
+use Rattle.book.proofs.RecordRuns.{record-whole}
+use Rattle.book.proofs.Runs.{book-ended, book-unfinished, book-bad, book-whole, book-none}
 use Rattle.promises.specs.WholeLines.{lastHeading}
 use Rattle.promises.proofs.WholeLines.{shaped}
 use Rattle.promises.proofs.SameLine.{book-record}

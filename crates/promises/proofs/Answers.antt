@@ -22,10 +22,10 @@ use Rattle.book.specs.Front.{Front, unfinished, badLength, whole, need, front}
 use Rattle.book.specs.State.{heldOf, InRange}
 use Rattle.book.specs.Run.{Outcome, outcome, run}
 use Rattle.book.specs.Call.{numbers, longest, fits, answerOf, call}
-use Rattle.book.proofs.FrontLaws.{meaning, held-whole}
-use Rattle.book.proofs.RunLaws.{book-unfinished, book-bad, book-whole, book-none, run-none}
+use Rattle.book.proofs.Fronts.{meaning, held-whole}
+use Rattle.book.proofs.Runs.{book-unfinished, book-bad, book-whole, book-none, run-none}
 use Rattle.book.proofs.Outcomes.{join, outcome-append}
-use Rattle.book.proofs.CallLaws.{call-at}
+use Rattle.book.proofs.Calls.{call-at}
 use Rattle.book.proofs.RunLeaves.{run-leaves}
 use Rattle.promises.specs.Answers.{NextTooLong}
 use Rattle.promises.proofs.Fitting.{longest-most, longest-ok, longest-next}

@@ -12,7 +12,7 @@ use Rattle.book.specs.Run.{outcome, run}
 use Rattle.book.specs.Call.{longest, fits, answerOf, call}
 use Rattle.book.specs.Way.{after}
 use Rattle.book.proofs.Outcomes.{outcome-append}
-use Rattle.book.proofs.CallLaws.{call-at}
+use Rattle.book.proofs.Calls.{call-at}
 use Rattle.book.proofs.RunLeaves.{Tail, run-leaves}
 use Rattle.promises.proofs.Fitting.{longest-most}
 

@@ -22,8 +22,8 @@ use Rattle.book.specs.declared.State.{State}
 use Rattle.book.specs.Front.{Front, unfinished, badLength, whole, need, bad, front}
 use Rattle.book.specs.State.{heldOf, holding, InRange}
 use Rattle.book.specs.Run.{Run, then, run}
-use Rattle.book.proofs.FrontLaws.{meaning, held-bad, held-whole, good-length}
-use Rattle.book.proofs.RunLaws.{book-unfinished, book-bad, book-whole, book-none, run-none, run-ended, run-append}
+use Rattle.book.proofs.Fronts.{meaning, held-bad, held-whole, good-length}
+use Rattle.book.proofs.Runs.{book-unfinished, book-bad, book-whole, book-none, run-none, run-ended, run-append}
 use Rattle.book.proofs.RunLeaves.{run-leaves}
 use Rattle.promises.specs.Endings.{accountAfter, refusedFor, refusing, closing, EndsBy, KeepsRest}
 

@@ -30,9 +30,9 @@ use Rattle.book.specs.Front.{Front, unfinished, badLength, whole, need, front}
 use Rattle.book.specs.WholeRecords.{recordsOf}
 use Rattle.book.specs.State.{heldOf, InRange}
 use Rattle.book.specs.Run.{Run, book, run}
-use Rattle.book.proofs.FrontLaws.{meaning}
-use Rattle.book.proofs.WholeRecordLaws.{records-whole}
-use Rattle.book.proofs.RunLaws.{book-ended, book-unfinished, book-bad, book-whole}
+use Rattle.book.proofs.Fronts.{meaning}
+use Rattle.book.proofs.WholeRecords.{records-whole}
+use Rattle.book.proofs.Runs.{book-ended, book-unfinished, book-bad, book-whole}
 use Rattle.promises.specs.Headings.{acceptedRecords, groupBy, lastGroup, Mark, markOf, subtotalMark, ownMark, marksOf}
 
 -- ---- what a line bears

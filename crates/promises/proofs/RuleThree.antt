@@ -9,7 +9,7 @@ use Rattle.book.specs.State.{InRange}
 use Rattle.book.specs.Run.{then, Outcome, outcome, run}
 use Rattle.book.specs.Call.{call}
 use Rattle.book.specs.Way.{Part, after, way, Ended}
-use Rattle.book.proofs.RunLaws.{run-append, run-none, run-ended}
+use Rattle.book.proofs.Runs.{run-append, run-none, run-ended}
 use Rattle.book.proofs.Outcomes.{join}
 use Rattle.promises.proofs.Calls.{call-range, call-goes}
 

@@ -29,8 +29,8 @@ use Rattle.book.specs.Front.{need, front}
 use Rattle.book.specs.WholeRecords.{recordsBy, recordsOf}
 use Rattle.book.specs.State.{noRecordYet}
 use Rattle.book.specs.Run.{then, bookBy, book, run}
-use Rattle.book.proofs.FrontLaws.{is-whole, length-append-two, whole-append}
-use Rattle.book.proofs.RunLaws.{book-whole, book-none}
+use Rattle.book.proofs.Fronts.{is-whole, length-append-two, whole-append}
+use Rattle.book.proofs.Runs.{book-whole, book-none}
 use Rattle.promises.specs.EveryKind.{everyKind}
 use Rattle.promises.specs.WholeLines.{isDetail, lastHeading, headingFrom}
 use Rattle.promises.specs.SameLine.{lastHeadingFrom, headingBefore, Accepts, Gives, lineUnder, sharedHeading, sharedPig, everyKindBefore}

@@ -17,10 +17,10 @@ use Rattle.book.specs.State.{InRange}
 use Rattle.book.specs.Run.{Run, then, Outcome, outcome, run}
 use Rattle.book.specs.Call.{longest, fits, call}
 use Rattle.book.specs.Way.{Part, way, Ended}
-use Rattle.book.proofs.RunLaws.{run-append, run-none, run-ended}
+use Rattle.book.proofs.Runs.{run-append, run-none, run-ended}
 use Rattle.book.proofs.RunLeaves.{run-leaves}
 use Rattle.book.proofs.Outcomes.{join, outcome-append}
-use Rattle.book.proofs.CallLaws.{call-at}
+use Rattle.book.proofs.Calls.{call-at}
 use Rattle.promises.specs.Taken.{takenBy}
 use Rattle.promises.specs.Headings.{marksOf, Bears, acceptedRecords}
 use Rattle.promises.proofs.Fitting.{longest-most, longest-least}

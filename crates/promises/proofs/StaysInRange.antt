@@ -11,9 +11,9 @@ use Rattle.account.proofs.Keeps.{in-range-none}
 use Rattle.book.specs.declared.State.{State}
 use Rattle.book.specs.State.{noRecordYet, InRange, inRange}
 use Rattle.book.specs.Call.{numbers, answerOf, outside, call}
-use Rattle.book.proofs.RangeLaws.{range-idle, range-parts, range-test}
-use Rattle.book.proofs.ReadingLaws.{reading-none}
-use Rattle.book.proofs.CallLaws.{done-ended}
+use Rattle.book.proofs.Ranges.{range-idle, range-parts, range-test}
+use Rattle.book.proofs.Readings.{reading-none}
+use Rattle.book.proofs.Calls.{done-ended}
 use Rattle.promises.proofs.Calls.{call-range}
 
 -- The test that the code makes decides the range.

@@ -32,10 +32,10 @@ use Rattle.book.specs.Front.{Front, unfinished, badLength, whole, need, front}
 use Rattle.book.specs.WholeRecords.{recordsOf}
 use Rattle.book.specs.State.{heldOf, noRecordYet, InRange}
 use Rattle.book.specs.Run.{Run, book, run}
-use Rattle.book.proofs.FrontLaws.{meaning}
-use Rattle.book.proofs.WholeRecordLaws.{records-whole}
+use Rattle.book.proofs.Fronts.{meaning}
+use Rattle.book.proofs.WholeRecords.{records-whole}
 use Rattle.promises.proofs.StaysInRange.{new-in-range}
-use Rattle.book.proofs.RunLaws.{book-ended, book-unfinished, book-bad, book-whole}
+use Rattle.book.proofs.Runs.{book-ended, book-unfinished, book-bad, book-whole}
 use Rattle.promises.specs.Headings.{Mark, acceptedRecords}
 use Rattle.promises.specs.Subtotals.{detailOf, headingAfter, groupAfter, farmAfter, Group, groupUnder, ends, groupsOf, farmOf, farm, groups}
 use Rattle.promises.specs.Subtotals.{addedUp, lineOfGroup, subtotalLines}

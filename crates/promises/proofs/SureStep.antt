@@ -15,9 +15,9 @@ use Rattle.book.specs.Front.{Front, unfinished, badLength, whole, need, front}
 use Rattle.book.specs.State.{heldOf, InRange}
 use Rattle.book.specs.Run.{outcome, book, run}
 use Rattle.book.specs.Call.{longest, fits, call}
-use Rattle.book.proofs.FrontLaws.{held-bad, held-whole}
-use Rattle.book.proofs.RunLaws.{book-unfinished, book-bad, book-whole, book-none}
-use Rattle.book.proofs.CallLaws.{call-at}
+use Rattle.book.proofs.Fronts.{held-bad, held-whole}
+use Rattle.book.proofs.Runs.{book-unfinished, book-bad, book-whole, book-none}
+use Rattle.book.proofs.Calls.{call-at}
 use Rattle.book.proofs.RunLeaves.{book-leaves, over-held}
 use Rattle.promises.proofs.Fitting.{longest-most, longest-least}
 

@@ -12,7 +12,7 @@ use Rattle.book.specs.State.{InRange}
 use Rattle.book.specs.Run.{run, Outcome, outcome}
 use Rattle.book.specs.Call.{longest, fits, call}
 use Rattle.book.specs.Way.{Part, way, Ended}
-use Rattle.book.proofs.CallLaws.{call-at}
+use Rattle.book.proofs.Calls.{call-at}
 use Rattle.promises.specs.Taken.{takenBy}
 use Rattle.promises.proofs.Fitting.{longest-most}
 use Rattle.promises.proofs.RuleThree.{rule-three}

@@ -27,8 +27,8 @@ use Rattle.book.specs.declared.State.{State}
 use Rattle.book.specs.Front.{Front, unfinished, badLength, whole, need, front}
 use Rattle.book.specs.State.{heldOf, noRecordYet, InRange}
 use Rattle.book.specs.Run.{Run, book, run}
-use Rattle.book.proofs.FrontLaws.{meaning}
-use Rattle.book.proofs.RunLaws.{book-ended, book-unfinished, book-bad, book-whole}
+use Rattle.book.proofs.Fronts.{meaning}
+use Rattle.book.proofs.Runs.{book-ended, book-unfinished, book-bad, book-whole}
 use Rattle.book.proofs.RunLeaves.{run-leaves}
 use Rattle.promises.specs.Headings.{acceptedRecords}
 use Rattle.promises.specs.Subtotals.{Group, groupsOf, addedUp, lineOfGroup, subtotalLines}

@@ -22,9 +22,9 @@ use Rattle.book.specs.Front.{Front, unfinished, badLength, whole, need, front}
 use Rattle.book.specs.WholeRecords.{recordsOf}
 use Rattle.book.specs.State.{heldOf, InRange}
 use Rattle.book.specs.Run.{book, run}
-use Rattle.book.proofs.WholeRecordLaws.{records-whole}
-use Rattle.book.proofs.RecordLaws.{record-whole}
-use Rattle.book.proofs.RunLaws.{book-ended, book-unfinished, book-bad, book-whole}
+use Rattle.book.proofs.WholeRecords.{records-whole}
+use Rattle.book.proofs.RecordRuns.{record-whole}
+use Rattle.book.proofs.Runs.{book-ended, book-unfinished, book-bad, book-whole}
 use Rattle.promises.specs.Headings.{lastGroup, marksOf, acceptedRecords}
 use Rattle.promises.specs.Subtotals.{headingAfter}
 use Rattle.promises.specs.WholeLines.{isDetail, lastHeading, isHeading, headingFrom, noHeading, Among}

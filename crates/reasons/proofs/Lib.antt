@@ -1,7 +1,7 @@
-pub mod FaultLaws
-pub mod ValueLaws
+pub mod Faults
+pub mod ValuesFound
 pub mod RecordLists
-pub mod WayLaws
+pub mod Ways
 pub mod Truths
 pub mod OneAnswer
 mod Witnesses

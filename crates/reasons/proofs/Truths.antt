@@ -25,18 +25,18 @@ use Rattle.book.specs.Front.{Front, unfinished, badLength, whole, need, front}
 use Rattle.book.specs.WholeRecords.{recordsOf}
 use Rattle.book.specs.State.{heldOf, noRecordYet}
 use Rattle.book.specs.Run.{run}
-use Rattle.book.proofs.FrontLaws.{meaning, is-whole, is-unfinished, length-append-two, length-take-two}
-use Rattle.book.proofs.RangeLaws.{range-idle}
+use Rattle.book.proofs.Fronts.{meaning, is-whole, is-unfinished, length-append-two, length-take-two}
+use Rattle.book.proofs.Ranges.{range-idle}
 use Rattle.book.proofs.RunLeaves.{run-leaves}
-use Rattle.book.proofs.RecordLaws.{record-in, record-whole}
+use Rattle.book.proofs.RecordRuns.{record-in, record-whole}
 use Rattle.reasons.specs.declared.Reason.{Reason}
 use Rattle.reasons.specs.declared.Verdict.the-variants.{Accepted, Missing, NextLength, Refused}
 use Rattle.reasons.specs.Why.{reason, reasonOf, unfinishedBy, whyBy, whyOf}
 use Rattle.reasons.specs.Promised.{bytesTold, accountBefore, numbersTold, BrokenRecord, Truth, begun}
 use Rattle.reasons.specs.Promised.{MissingExact, Unfinished}
 use Rattle.reasons.specs.Inner.{unread, ended}
-use Rattle.reasons.proofs.FaultLaws.{faulty, refused-is}
-use Rattle.reasons.proofs.WayLaws.{Way, Ends, at-record, at-rest, every-end, before-is, next-record, some-bytes, why-ended, why-unread}
+use Rattle.reasons.proofs.Faults.{faulty, refused-is}
+use Rattle.reasons.proofs.Ways.{Way, Ends, at-record, at-rest, every-end, before-is, next-record, some-bytes, why-ended, why-unread}
 
 -- ---- by rule 2's stage
 

@@ -19,9 +19,9 @@ use Rattle.account.specs.Range.{AccountInRange}
 use Rattle.account.proofs.Keeps.{in-range-none, in-range-judge}
 use Rattle.book.specs.declared.State.{State}
 use Rattle.book.specs.State.{inRange, holding, noRecordYet}
-use Rattle.book.proofs.RangeLaws.{range-test, range-idle}
+use Rattle.book.proofs.Ranges.{range-test, range-idle}
 use Rattle.book.specs.Front.{Front, unfinished, badLength, whole, need, front}
-use Rattle.book.proofs.RecordLaws.{record-whole}
+use Rattle.book.proofs.RecordRuns.{record-whole}
 use Rattle.book.specs.WholeRecords.{beginsWith, recordsBy, recordsOf}
 use Rattle.typed_book.specs.Text.{typedText, bytesTyped}
 use Rattle.retyping.specs.Typed.{lineTyped, textTyped, Accepted, AllAccepted, SameBytes}

@@ -25,7 +25,7 @@ use Rattle.book.specs.declared.State.{State}
 use Rattle.book.specs.State.{holding}
 use Rattle.make_record.specs.Write.{write, Ready}
 use Rattle.make_record.specs.declared.Answer.the-variants as answers
-use Rattle.make_record.proofs.RowLaws.{kind-again}
+use Rattle.make_record.proofs.Rows.{kind-again}
 use Rattle.account.proofs.Refusals.{judged-passes}
 use Rattle.make_record.proofs.RoundTrip.{written-again}
 use Rattle.typed_line.specs.declared.Entry.{Entry}

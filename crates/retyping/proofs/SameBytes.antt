@@ -16,7 +16,7 @@ use Rattle.account.specs.Judge.{noRecord, kindByte, kindOf, valuesOf, judge}
 use Rattle.account.specs.Range.{AccountInRange}
 use Rattle.account.proofs.Keeps.{in-range-none, in-range-judge}
 use Rattle.book.specs.State.{holding, noRecordYet}
-use Rattle.book.proofs.RangeLaws.{range-idle}
+use Rattle.book.proofs.Ranges.{range-idle}
 use Rattle.typed_line.specs.Line.{entry, lineOf}
 use Rattle.typed_book.specs.declared.Typist.{Typist}
 use Rattle.typed_book.specs.declared.Fate.the-variants.{Nothing, Wrote}

@@ -29,10 +29,10 @@ use Rattle.book.specs.declared.Fed.{Fed}
 use Rattle.book.specs.Front.{Front, unfinished, badLength, whole, need, front}
 use Rattle.book.specs.State.{inRange, holding}
 use Rattle.book.specs.Call.{Call, call, fedOf}
-use Rattle.book.proofs.FrontLaws.{good-length}
-use Rattle.book.proofs.RangeLaws.{range-parts}
-use Rattle.book.proofs.RecordLaws.{record-whole, record-in}
-use Rattle.make_record.proofs.ReaderLaws.{call-one}
+use Rattle.book.proofs.Fronts.{good-length}
+use Rattle.book.proofs.Ranges.{range-parts}
+use Rattle.book.proofs.RecordRuns.{record-whole, record-in}
+use Rattle.make_record.proofs.OneRecord.{call-one}
 use Rattle.retyping.specs.declared.Retyped.{Retyped}
 use Rattle.retyping.specs.Typed.{lineTyped}
 use Rattle.make_record.specs.Write.{Ready}

@@ -16,17 +16,17 @@ use Rattle.account.specs.Sorts.{sortOf}
 use Rattle.account.specs.Judge.{WholeRecord, versionOf, kindByte, first}
 use Rattle.account.specs.Line.{joined}
 use Rattle.book.specs.Front.{whole, need}
-use Rattle.book.proofs.FrontLaws.{front-none, length-append-two}
+use Rattle.book.proofs.Fronts.{front-none, length-append-two}
 use Rattle.book.specs.WholeRecords.{recordsBy, recordsOf}
-use Rattle.book.proofs.WholeRecordLaws.{records-whole}
+use Rattle.book.proofs.WholeRecords.{records-whole}
 use Rattle.salvaging.specs.declared.Reading.{Reading}
 use Rattle.salvaging.specs.declared.Lengths.{Lengths}
 use Rattle.salvaging.specs.declared.Salvaged.the-variants.{Saved}
 use Rattle.salvaging.specs.Salvage.{wouldGet, oneOf, ofGroupKind, drops, droppedBy, after, start, Found, found, bookOf, salvageOf, foundIn}
 use Rattle.salvaging.specs.Promised.{readBy, unlisted, Under, underHeadings, details}
-use Rattle.salvaging.proofs.KindLaws.{row-eight}
-use Rattle.salvaging.proofs.TurnLaws.{by-records}
-use Rattle.salvaging.proofs.CloseLaws.{close-kind}
+use Rattle.salvaging.proofs.GroupKinds.{row-eight}
+use Rattle.salvaging.proofs.OneTurn.{by-records}
+use Rattle.salvaging.proofs.Closes.{close-kind}
 use Rattle.salvaging.proofs.SalvagedAccepted.{AllWhole, all-whole, record-front, saved-so}
 use Rattle.salvaging.proofs.KeptOrListed.{From, from-less, unlisted-kept, unlisted-listed}
 

@@ -16,8 +16,8 @@ use Rattle.book.specs.WholeRecords.{recordsOf}
 use Rattle.salvaging.specs.declared.Reading.{Reading}
 use Rattle.salvaging.specs.Salvage.{wouldGet, oneOf, ofGroupKind, droppedBy, ends, after, start, Entry, Found, found, foundIn}
 use Rattle.salvaging.specs.Promised.{readBy, unlisted, Reason, Reasons}
-use Rattle.salvaging.proofs.FateLaws.{kept-account, dropped-account}
-use Rattle.salvaging.proofs.TurnLaws.{by-records}
+use Rattle.salvaging.proofs.Fates.{kept-account, dropped-account}
+use Rattle.salvaging.proofs.OneTurn.{by-records}
 
 -- ---- the numbers of a list rise
 

@@ -1,10 +1,10 @@
-pub mod KindLaws
-pub mod FateLaws
-pub mod TurnLaws
-pub mod PassLaws
-pub mod CloseLaws
-pub mod AnswerLaws
-pub mod RemarkLaws
+pub mod GroupKinds
+pub mod Fates
+pub mod OneTurn
+pub mod OnePass
+pub mod Closes
+pub mod Answers
+pub mod RemarkTexts
 pub mod SalvagedAccepted
 pub mod Untouched
 pub mod KeptOrListed

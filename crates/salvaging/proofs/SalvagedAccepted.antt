@@ -18,9 +18,9 @@ use Rattle.account.specs.Judge.{WholeRecord, closed, judge}
 use Rattle.book.specs.Front.{Front, unfinished, badLength, whole, need, front}
 use Rattle.book.specs.State.{noRecordYet}
 use Rattle.book.specs.Run.{Run, then, book, run}
-use Rattle.book.proofs.FrontLaws.{is-whole, length-append-two, whole-append}
-use Rattle.book.proofs.RunLaws.{book-ended, book-whole}
-use Rattle.book.proofs.RecordLaws.{record-whole}
+use Rattle.book.proofs.Fronts.{is-whole, length-append-two, whole-append}
+use Rattle.book.proofs.Runs.{book-ended, book-whole}
+use Rattle.book.proofs.RecordRuns.{record-whole}
 use Rattle.book.specs.WholeRecords.{beginsWith, recordsBy, recordsOf}
 use Rattle.salvaging.specs.declared.Reading.{Reading}
 use Rattle.salvaging.specs.declared.Lengths.{Lengths}
@@ -28,11 +28,11 @@ use Rattle.salvaging.specs.declared.Salvaged.the-variants.{Saved}
 use Rattle.salvaging.specs.Salvage.{Found, nothing, droppedBy, ends, after, start, found, bookOf, listOf, farmAmong, refusing, saving}
 use Rattle.salvaging.specs.Salvage.{answering, salvageOf}
 use Rattle.salvaging.specs.Inner.{Open, bookFrom}
-use Rattle.salvaging.proofs.FateLaws.{few, kept-account, dropped-account, kept-records, open-after}
-use Rattle.salvaging.proofs.TurnLaws.{by-records}
-use Rattle.salvaging.proofs.PassLaws.{open-start}
-use Rattle.salvaging.proofs.CloseLaws.{close-kind, close-closes}
-use Rattle.salvaging.proofs.AnswerLaws.{farmed}
+use Rattle.salvaging.proofs.Fates.{few, kept-account, dropped-account, kept-records, open-after}
+use Rattle.salvaging.proofs.OneTurn.{by-records}
+use Rattle.salvaging.proofs.OnePass.{open-start}
+use Rattle.salvaging.proofs.Closes.{close-kind, close-closes}
+use Rattle.salvaging.proofs.Answers.{farmed}
 
 -- ---- the records of some bytes are whole
 

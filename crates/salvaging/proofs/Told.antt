@@ -27,18 +27,18 @@ use Rattle.account.specs.Line.{joined}
 use Rattle.account.proofs.Refusals.{number-most}
 use Rattle.book.specs.Front.{Front, unfinished, badLength, whole, need, front}
 use Rattle.book.specs.WholeRecords.{beginsWith, recordsBy, recordsOf}
-use Rattle.book.proofs.FrontLaws.{meaning}
+use Rattle.book.proofs.Fronts.{meaning}
 use Rattle.salvaging.specs.declared.Reading.{Reading}
 use Rattle.salvaging.specs.declared.Lengths.{Lengths}
 use Rattle.salvaging.specs.declared.Salvaged.the-variants.{Saved}
 use Rattle.salvaging.specs.Salvage.{oneOf, ofGroupKind, wouldGet, drops, droppedBy, start, Entry, found, foundIn}
 use Rattle.salvaging.specs.Salvage.{entryBytes, listOf, salvageOf}
 use Rattle.salvaging.specs.Remarks.{droppedText, listTextBy, listText, entriesText, keptIn, savedText, endText}
-use Rattle.salvaging.proofs.FateLaws.{few, kept-records, dropped-account}
-use Rattle.salvaging.proofs.TurnLaws.{by-records}
-use Rattle.salvaging.proofs.AnswerLaws.{list-long}
+use Rattle.salvaging.proofs.Fates.{few, kept-records, dropped-account}
+use Rattle.salvaging.proofs.OneTurn.{by-records}
+use Rattle.salvaging.proofs.Answers.{list-long}
 use Rattle.salvaging.proofs.SalvagedAccepted.{saved-so}
-use Rattle.salvaging.proofs.RemarkLaws.{text-none, text-some}
+use Rattle.salvaging.proofs.RemarkTexts.{text-none, text-some}
 
 -- ---- the numbers of a list fit their bytes
 

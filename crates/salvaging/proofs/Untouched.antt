@@ -23,21 +23,21 @@ use Rattle.book.specs.Front.{Front, unfinished, badLength, whole, need, front}
 use Rattle.book.specs.State.{noRecordYet}
 use Rattle.book.specs.Run.{Run, run}
 use Rattle.book.specs.Run as reader
-use Rattle.book.proofs.FrontLaws.{meaning}
-use Rattle.book.proofs.RunLaws.{book-ended, book-unfinished, book-bad, book-whole}
-use Rattle.book.proofs.RecordLaws.{record-whole}
+use Rattle.book.proofs.Fronts.{meaning}
+use Rattle.book.proofs.Runs.{book-ended, book-unfinished, book-bad, book-whole}
+use Rattle.book.proofs.RecordRuns.{record-whole}
 use Rattle.book.specs.WholeRecords.{recordsOf}
-use Rattle.book.proofs.WholeRecordLaws.{records-whole}
+use Rattle.book.proofs.WholeRecords.{records-whole}
 use Rattle.salvaging.specs.declared.Reading.{Reading}
 use Rattle.salvaging.specs.Salvage.{Found, nothing, with, wouldGet, droppedBy, ends, after, start, bookOf, listOf, farmAmong, saving}
 use Rattle.salvaging.specs.Salvage.{answering, salvageOf, foundIn}
 use Rattle.salvaging.specs.Inner.{Open, bookFrom}
-use Rattle.salvaging.proofs.KindLaws.{row-eight, eight-row}
-use Rattle.salvaging.proofs.FateLaws.{grows, refuses, closes-book, below-4096, first-farm, right-count, right-version, right-size, right-kept}
-use Rattle.salvaging.proofs.FateLaws.{open-after, records-after}
-use Rattle.salvaging.proofs.TurnLaws.{found-ends, found-goes}
-use Rattle.salvaging.proofs.PassLaws.{open-start, kept-count, book-turn}
-use Rattle.salvaging.proofs.AnswerLaws.{farmed}
+use Rattle.salvaging.proofs.GroupKinds.{row-eight, eight-row}
+use Rattle.salvaging.proofs.Fates.{grows, refuses, closes-book, below-4096, first-farm, right-count, right-version, right-size, right-kept}
+use Rattle.salvaging.proofs.Fates.{open-after, records-after}
+use Rattle.salvaging.proofs.OneTurn.{found-ends, found-goes}
+use Rattle.salvaging.proofs.OnePass.{open-start, kept-count, book-turn}
+use Rattle.salvaging.proofs.Answers.{farmed}
 
 -- the book is closed, and nothing is left
 record Right (r : Run) : Type 0 where

@@ -6,7 +6,9 @@ use mathlib.Core.List.{List, [], _∷_, _++_}
 use lib.ListN.{length, getD, drop}
 use lib.Dec.{leb, eqb}
 use Rattle.base.specs.Choice.{pick}
+use Rattle.codec.specs.Table.{lastKind}
 use Rattle.codec.specs.Codec.{valAt, be}
+use Rattle.line_bytes.specs.Lines.{subtotalKind}
 use Rattle.printing.specs.Decimal.{decimal}
 use Rattle.sheets.specs.declared.rows.Column.{Column}
 use Rattle.sheets.specs.Numbers.{signedText, Cell, unsignedCell, signedCell, emptyCell}
@@ -44,7 +46,7 @@ columns kind =
 
 -- the kinds that a line has
 abbrev pub isKind : ℕ → Bool
-isKind k = (leb 3 k && leb k 10) || eqb k 16
+isKind k = (leb 3 k && leb k lastKind) || eqb k subtotalKind
 
 -- ---- a line record
 

@@ -36,7 +36,7 @@ pub fn add(t: Total, size: usize, room: usize) -> Total
 pub fn is_kind(kind: u64) -> bool
     ensures { λ r. ⌜ r ≡ isKind kind ⌝ }
 {
-    (3 <= kind) & (kind <= 10) | (kind == 16)
+    (3 <= kind) & (kind <= codec::LAST_KIND) | (kind == 16)
 }
 
 pub fn line_size(kind: u64) -> usize

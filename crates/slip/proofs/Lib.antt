@@ -1,4 +1,4 @@
-pub mod Laws
+pub mod Worked
 pub mod Positive
 pub mod Nearest
 mod Wrong

@@ -20,7 +20,7 @@ use Rattle.account.specs.declared.Refusal.{Refusal}
 use Rattle.account.specs.Judge.{noRecord}
 use Rattle.account.proofs.Keeps.{in-range-none}
 use Rattle.account.proofs.Refusals.{passed, weighed-none, weighed-passes}
-use Rattle.book.proofs.RangeLaws.{range-test, range-idle}
+use Rattle.book.proofs.Ranges.{range-test, range-idle}
 use Rattle.book.specs.declared.State.{State}
 use Rattle.book.specs.State.{InRange, inRange, noRecordYet}
 use Rattle.make_record.specs.declared.Answer.{Answer}

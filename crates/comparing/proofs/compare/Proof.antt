@@ -1,4 +1,4 @@
-use Rattle.comparing.proofs.PairLaws.{front-least, most-old, most-new, back-old, back-new, plan-is}
+use Rattle.comparing.proofs.Pairs.{front-least, most-old, most-new, back-old, back-new, plan-is}
 use Rattle.comparing.proofs.compare.Statement.{statement}
 use Rattle.comparing.proofs.compare.Tie as tie
 

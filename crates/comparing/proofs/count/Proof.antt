@@ -1,4 +1,4 @@
-use Rattle.comparing.proofs.WalkLaws.{all-counted}
+use Rattle.comparing.proofs.Walks.{all-counted}
 use Rattle.comparing.proofs.count.Statement.{statement}
 use Rattle.comparing.proofs.count.Tie as tie
 

@@ -6,7 +6,7 @@ use borrow.Author.Tests.{not-true, not-false}
 use lib.ListN.{length}
 use Rattle.book.specs.State.{inRange}
 use Rattle.make_record.specs.Write.{rowFor, writtenOf, Ready, OfKind}
-use Rattle.make_record.proofs.RowLaws.{of-row}
+use Rattle.make_record.proofs.Rows.{of-row}
 use Rattle.make_record.proofs.Answers.{ready, of-kind, by-13, by-own, by-22, by-3, by-4, by-reader, by-16, wrote-so}
 use Rattle.make_record.proofs.answered.Statement.{statement}
 use Rattle.make_record.proofs.answered.Tie as tie

@@ -5,7 +5,7 @@ use borrow.Author.Needs.{needs}
 use lib.ListN.{length}
 use Rattle.make_record.specs.declared.Written.{Written}
 use Rattle.make_record.specs.Write.{rowFor}
-use Rattle.make_record.proofs.RowLaws.{of-row}
+use Rattle.make_record.proofs.Rows.{of-row}
 use Rattle.make_record.proofs.Answers.{Written-so, bytes-so, meets-none, meets-wrote}
 use Rattle.make_record.proofs.write.Statement.{statement}
 use Rattle.make_record.proofs.write.Tie as tie

@@ -1,5 +1,5 @@
 use borrow.Author.Needs.{needs}
-use Rattle.reasons.proofs.ValueLaws.{broken-told}
+use Rattle.reasons.proofs.ValuesFound.{broken-told}
 use Rattle.reasons.proofs.broken_length.Statement.{statement}
 use Rattle.reasons.proofs.broken_length.Tie as tie
 

@@ -1,6 +1,6 @@
 use native.Mathlib.Omega.{arith}
 use borrow.Author.Needs.{needs}
-use Rattle.reasons.proofs.ValueLaws.{says-short, says-bad, says-missing, front-begun, good-small}
+use Rattle.reasons.proofs.ValuesFound.{says-short, says-bad, says-missing, front-begun, good-small}
 use Rattle.reasons.proofs.unread.Statement.{statement}
 use Rattle.reasons.proofs.unread.Tie as tie
 

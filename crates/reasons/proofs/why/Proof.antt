@@ -7,10 +7,10 @@ use lib.Seq.{length-take-le}
 use Rattle.account.specs.Judge.{WholeRecord, judge}
 use Rattle.book.specs.Front.{whole, need, front}
 use Rattle.book.specs.WholeRecords.{Ready}
-use Rattle.book.proofs.RecordLaws.{record-in, record-whole}
+use Rattle.book.proofs.RecordRuns.{record-in, record-whole}
 use Rattle.reasons.specs.Inner.{unread}
-use Rattle.reasons.proofs.FaultLaws.{told-account, faulty-told}
-use Rattle.reasons.proofs.WayLaws.{Way, way-none, inside, some-bytes, way-next, ended-next, stage-next, why-unread, why-none}
+use Rattle.reasons.proofs.Faults.{told-account, faulty-told}
+use Rattle.reasons.proofs.Ways.{Way, way-none, inside, some-bytes, way-next, ended-next, stage-next, why-unread, why-none}
 use Rattle.reasons.proofs.why.Statement.{statement}
 use Rattle.reasons.proofs.why.Tie as tie
 

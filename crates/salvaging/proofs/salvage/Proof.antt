@@ -2,7 +2,7 @@ use mathlib.Core.Path.{_∙_}
 use borrow.Author.Needs.{needs}
 use native.Mathlib.Omega.{arith}
 use Rattle.salvaging.specs.Salvage.{start, foundIn, bookOf, listOf, refusing, saving}
-use Rattle.salvaging.proofs.AnswerLaws.{salvage-19, salvage-16, salvage-saved, list-is, rooms, laid-so, gets, lengths-are, still-long}
+use Rattle.salvaging.proofs.Answers.{salvage-19, salvage-16, salvage-saved, list-is, rooms, laid-so, gets, lengths-are, still-long}
 use Rattle.salvaging.proofs.salvage.Statement.{statement}
 use Rattle.salvaging.proofs.salvage.Tie as tie
 

@@ -10,10 +10,10 @@ use Rattle.base.proofs.Tests.{no-bool}
 use Rattle.book.specs.Front.{unfinished, front}
 use Rattle.book.specs.State.{heldOf}
 use Rattle.book.specs.Inner.{Reading}
-use Rattle.book.proofs.FrontLaws.{unfinished-short}
-use Rattle.book.proofs.RangeLaws.{begins, range-parts, held-length}
-use Rattle.book.proofs.ReadingLaws.{reading-none, read-rest, taken-inside, written-inside, read-turn, full-inside, full-more}
-use Rattle.book.proofs.CallLaws.{done-full, done-end, done-ended, meets, meets-outside}
+use Rattle.book.proofs.Fronts.{unfinished-short}
+use Rattle.book.proofs.Ranges.{begins, range-parts, held-length}
+use Rattle.book.proofs.Readings.{reading-none, read-rest, taken-inside, written-inside, read-turn, full-inside, full-more}
+use Rattle.book.proofs.Calls.{done-full, done-end, done-ended, meets, meets-outside}
 use Rattle.book.proofs.State.feed.Statement.{statement}
 use Rattle.book.proofs.State.feed.Tie as tie
 

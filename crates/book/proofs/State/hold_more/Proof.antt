@@ -1,5 +1,5 @@
 use borrow.Author.Needs.{needs}
-use Rattle.book.proofs.RangeLaws.{holding-more}
+use Rattle.book.proofs.Ranges.{holding-more}
 use Rattle.book.proofs.State.hold_more.Statement.{statement}
 use Rattle.book.proofs.State.hold_more.Tie as tie
 

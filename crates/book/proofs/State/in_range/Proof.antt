@@ -6,8 +6,8 @@ use lib.ListN.{length}
 use Rattle.base.proofs.Tests.{not-false, not-true}
 use Rattle.book.specs.Front.{front}
 use Rattle.book.specs.State.{heldOf, inRange}
-use Rattle.book.proofs.FrontLaws.{code-some, code-unfinished}
-use Rattle.book.proofs.RangeLaws.{too-many}
+use Rattle.book.proofs.Fronts.{code-some, code-unfinished}
+use Rattle.book.proofs.Ranges.{too-many}
 use Rattle.book.proofs.State.in_range.Statement.{statement}
 use Rattle.book.proofs.State.in_range.Tie as tie
 

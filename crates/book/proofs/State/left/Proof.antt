@@ -3,8 +3,8 @@ use mathlib.Core.Bool.{false}
 use native.Mathlib.Omega.{arith}
 use borrow.Author.Needs.{needs}
 use Rattle.book.specs.Front.{whole, bad}
-use Rattle.book.proofs.FrontLaws.{Means, meaning, is-bad}
-use Rattle.book.proofs.TurnLaws.{has-length, is-record, bad-count, whole-count}
+use Rattle.book.proofs.Fronts.{Means, meaning, is-bad}
+use Rattle.book.proofs.OneTurn.{has-length, is-record, bad-count, whole-count}
 use Rattle.book.proofs.State.left.Statement.{statement}
 use Rattle.book.proofs.State.left.Tie as tie
 

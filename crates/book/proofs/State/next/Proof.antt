@@ -2,7 +2,7 @@ use mathlib.Core.Path.{refl, ap, sym}
 use native.Mathlib.Omega.{arith}
 use lib.ListN.{length, length-drop}
 use Rattle.book.proofs.MovedBytes.{gathered-first}
-use Rattle.book.proofs.TurnLaws.{begins-idle, turned-idle, begins-gathered, turned-gathered}
+use Rattle.book.proofs.OneTurn.{begins-idle, turned-idle, begins-gathered, turned-gathered}
 use Rattle.book.proofs.State.next.Statement.{statement}
 use Rattle.book.proofs.State.next.Tie as tie
 

@@ -1,5 +1,5 @@
 use native.Mathlib.Omega.{arith}
-use Rattle.book.proofs.TurnLaws.{whole-count, turned-left, turned-told}
+use Rattle.book.proofs.OneTurn.{whole-count, turned-left, turned-told}
 use Rattle.book.proofs.State.turn.Statement.{statement}
 use Rattle.book.proofs.State.turn.Tie as tie
 

@@ -1,6 +1,6 @@
 use borrow.Author.Needs.{needs}
 use borrow.Author.Tests.{lt-ltb, le-ltb}
-use Rattle.book.proofs.FrontLaws.{front-take}
+use Rattle.book.proofs.Fronts.{front-take}
 use Rattle.book.proofs.front.front_of.Statement.{statement}
 use Rattle.book.proofs.front.front_of.Tie as tie
 

@@ -2,7 +2,7 @@ use mathlib.Core.Path.{_≡_, sym, _∙_}
 use native.Mathlib.Omega.{arith}
 use borrow.Author.Needs.{needs}
 use lib.ListN.{length}
-use Rattle.book.proofs.FrontLaws.{length-held, length-cut}
+use Rattle.book.proofs.Fronts.{length-held, length-cut}
 use Rattle.book.proofs.front.length_of.Statement.{statement}
 use Rattle.book.proofs.front.length_of.Tie as tie
 

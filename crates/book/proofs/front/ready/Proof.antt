@@ -4,7 +4,7 @@ use borrow.Author.Needs.{needs}
 use lib.Seq.{take-length}
 use Rattle.book.specs.Front.{whole, front}
 use Rattle.book.specs.Inner.{codeOf}
-use Rattle.book.proofs.FrontLaws.{meaning, code-two}
+use Rattle.book.proofs.Fronts.{meaning, code-two}
 use Rattle.book.proofs.front.ready.Statement.{statement}
 use Rattle.book.proofs.front.ready.Tie as tie
 

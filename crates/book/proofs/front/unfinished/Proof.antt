@@ -6,7 +6,7 @@ use borrow.Author.Needs.{needs}
 use lib.ListN.{length, take, length-append}
 use lib.Seq.{length-take-le}
 use Rattle.book.specs.Inner.{byLength}
-use Rattle.book.proofs.FrontLaws.{too-long, too-short, front-long, code-none}
+use Rattle.book.proofs.Fronts.{too-long, too-short, front-long, code-none}
 use Rattle.book.proofs.front.unfinished.Statement.{statement}
 use Rattle.book.proofs.front.unfinished.Tie as tie
 

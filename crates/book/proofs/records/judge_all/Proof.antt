@@ -2,8 +2,8 @@ use Prim.Native.Nat.{_-_}
 use native.Mathlib.Omega.{arith}
 use lib.ListN.{length}
 use Rattle.account.proofs.Told.{tells-fit}
-use Rattle.book.proofs.RecordLaws.{record-in, record-whole, Running, running-none, ran-ended, ran-end, ran-out, Next, record-inside, ran-full}
-use Rattle.book.proofs.RecordLaws.{running-on}
+use Rattle.book.proofs.RecordRuns.{record-in, record-whole, Running, running-none, ran-ended, ran-end, ran-out, Next, record-inside, ran-full}
+use Rattle.book.proofs.RecordRuns.{running-on}
 use Rattle.book.proofs.records.judge_all.Statement.{statement}
 use Rattle.book.proofs.records.judge_all.Tie as tie
 

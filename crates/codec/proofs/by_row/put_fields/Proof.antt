@@ -27,7 +27,8 @@ field-there c = omega (arith, c .before .before .before .before .pre .1 .count)
 bytes-there : (c : tie.After-width Inv-loop μ-loop) → c .before .before .loop .p + c .width .result ≤ length (c .before .before .loop .out)
 bytes-there c =
     let k = c .before .before .loop in
-    omega (arith, c .width .ensures, size-left (fields (c .before .before .before .before .before .args .row)) (k .i) (field-there (c .before)), k .inv .2)
+    let left = size-left (fields (c .before .before .before .before .before .args .row)) (k .i) (field-there (c .before)) in
+    omega (arith, c .width .ensures, left, k .inv .2)
 
 put-requires : tie.Need-put-requires Inv-loop μ-loop
 put-requires c κs =

@@ -28,10 +28,12 @@ one-of-twelve : (c : tie.In-loop Inv-loop μ-loop) → c .before .loop .i < 12
 one-of-twelve c = omega (arith, field-there c, fields-few (c .before .before .before .before .args .row))
 
 -- its bytes are there
-bytes-there : (c : tie.After-width Inv-loop μ-loop) → c .before .before .loop .p + c .width .result ≤ length (c .before .before .before .before .before .args .s .now)
+bytes-there : (c : tie.After-width Inv-loop μ-loop)
+    → c .before .before .loop .p + c .width .result ≤ length (c .before .before .before .before .before .args .s .now)
 bytes-there c =
     let k = c .before .before .loop in
-    omega (arith, c .width .ensures, size-left (fields (c .before .before .before .before .before .args .row)) (k .i) (field-there (c .before)), k .inv .2)
+    let left = size-left (fields (c .before .before .before .before .before .args .row)) (k .i) (field-there (c .before)) in
+    omega (arith, c .width .ensures, left, k .inv .2)
 
 number-requires : tie.Need-number-requires Inv-loop μ-loop
 number-requires c κs =

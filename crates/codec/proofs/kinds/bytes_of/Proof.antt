@@ -1,22 +1,8 @@
--- Read off the table, row by row. Assumes nothing.
-use Prim.Native.Nat.{ℕ, zero, suc, _≤_}
-use mathlib.Core.Path.{_≡_}
-use native.Mathlib.Omega.{arith}
-use Rattle.codec.specs.Table.{table, size, lastRow}
+-- Read off the table, row by row; none of them is row 0, which has no fields. Assumes nothing.
+use Rattle.codec.specs.Table.{table, size}
+use Rattle.codec.proofs.EachKind.{row-zero}
 use Rattle.codec.proofs.kinds.bytes_of.Statement.{statement}
 use Rattle.codec.proofs.kinds.bytes_of.Tie as tie
-
--- k is none of the numbers below n: what the last arm knows
-abbrev NoneBelow : ℕ → ℕ → Type 0
-NoneBelow zero k = Unit {0}
-NoneBelow (suc n) k = NoneBelow n k × (k ≡ n → ⊥)
-
-from : (n k : ℕ) → NoneBelow n k → n ≤ k
-from zero k h = omega arith
-from (suc n) k h = let m = from n k (h .0) in let other = h .1 in omega arith
-
-last : (c : tie.At-match-rest) → c .before .args .row ≡ lastRow
-last c = let m = from lastRow (c .before .args .row) (c .match .rest) in let p = c .before .pre in omega arith
 
 pub bytes-of-spec : {M : Type 1} → statement M
 unfolding table size
@@ -34,4 +20,4 @@ bytes-of-spec =
     (λ c. rw (c .match .keys9))
     (λ c. rw (c .match .keys10))
     (λ c. rw (c .match .keys11))
-    (λ c. rw (last c)))
+    (λ c. rw (row-zero _ (c .before .pre) (c .match .rest))))

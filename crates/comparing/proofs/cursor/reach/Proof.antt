@@ -1,6 +1,6 @@
 use Prim.Native.Nat.{_-_}
 use native.Mathlib.Omega.{arith}
-use Rattle.comparing.proofs.WalkLaws.{Walked, walked-none, walked-inside, walked-out, walked-on, walked-far}
+use Rattle.comparing.proofs.Walks.{Walked, walked-none, walked-inside, walked-out, walked-on, walked-far}
 use Rattle.comparing.proofs.cursor.reach.Statement.{statement}
 use Rattle.comparing.proofs.cursor.reach.Tie as tie
 

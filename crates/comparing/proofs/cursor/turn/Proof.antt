@@ -1,5 +1,5 @@
 use borrow.Author.Needs.{needs}
-use Rattle.comparing.proofs.EntryLaws.{turned-none, none-written, record-inside, turned-refused, turned-on, fed-account, fed-lines, fed-inside}
+use Rattle.comparing.proofs.Entries.{turned-none, none-written, record-inside, turned-refused, turned-on, fed-account, fed-lines, fed-inside}
 use Rattle.comparing.proofs.cursor.turn.Statement.{statement}
 use Rattle.comparing.proofs.cursor.turn.Tie as tie
 

@@ -2,8 +2,8 @@ use Prim.Native.Nat.{_-_}
 use native.Mathlib.Omega.{arith}
 use lib.ListN.{take}
 use Rattle.book.specs.WholeRecords.{recordsOf}
-use Rattle.comparing.proofs.MovedLaws.{size-inside, kind-there, next-inside}
-use Rattle.comparing.proofs.MovedLaws.{Asking, asking-none, asking-far, asking-ends, asking-stops, asking-on}
+use Rattle.comparing.proofs.MovedRecords.{size-inside, kind-there, next-inside}
+use Rattle.comparing.proofs.MovedRecords.{Asking, asking-none, asking-far, asking-ends, asking-stops, asking-on}
 use Rattle.comparing.proofs.moved.all_as_often.Statement.{statement}
 use Rattle.comparing.proofs.moved.all_as_often.Tie as tie
 

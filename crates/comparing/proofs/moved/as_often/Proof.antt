@@ -1,5 +1,5 @@
 use borrow.Author.Needs.{needs}
-use Rattle.comparing.proofs.MovedLaws.{often-none, often-some}
+use Rattle.comparing.proofs.MovedRecords.{often-none, often-some}
 use Rattle.comparing.proofs.moved.as_often.Statement.{statement}
 use Rattle.comparing.proofs.moved.as_often.Tie as tie
 

@@ -1,6 +1,6 @@
 use borrow.Author.Needs.{needs}
 use Rattle.account.specs.Judge.{versionOf, kindByte}
-use Rattle.comparing.proofs.MovedLaws.{detail-test}
+use Rattle.comparing.proofs.MovedRecords.{detail-test}
 use Rattle.comparing.proofs.moved.detail.Statement.{statement}
 use Rattle.comparing.proofs.moved.detail.Tie as tie
 

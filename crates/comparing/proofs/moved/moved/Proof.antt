@@ -1,4 +1,4 @@
-use Rattle.comparing.proofs.MovedLaws.{records-at, moved-none, moved-some}
+use Rattle.comparing.proofs.MovedRecords.{records-at, moved-none, moved-some}
 use Rattle.comparing.proofs.moved.moved.Statement.{statement}
 use Rattle.comparing.proofs.moved.moved.Tie as tie
 

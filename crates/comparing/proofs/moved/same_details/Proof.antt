@@ -1,4 +1,4 @@
-use Rattle.comparing.proofs.MovedLaws.{details-none, details-some}
+use Rattle.comparing.proofs.MovedRecords.{details-none, details-some}
 use Rattle.comparing.proofs.moved.same_details.Statement.{statement}
 use Rattle.comparing.proofs.moved.same_details.Tie as tie
 

@@ -1,6 +1,6 @@
 use Prim.Native.Nat.{_-_}
 use native.Mathlib.Omega.{arith}
-use Rattle.comparing.proofs.MovedLaws.{Counting, size-inside, next-inside, counting-none, counting-far, counting-ends, counting-on}
+use Rattle.comparing.proofs.MovedRecords.{Counting, size-inside, next-inside, counting-none, counting-far, counting-ends, counting-on}
 use Rattle.comparing.proofs.moved.times.Statement.{statement}
 use Rattle.comparing.proofs.moved.times.Tie as tie
 

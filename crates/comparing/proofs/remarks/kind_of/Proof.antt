@@ -1,5 +1,5 @@
 use borrow.Author.Needs.{needs}
-use Rattle.comparing.proofs.EntryLaws.{kind-byte}
+use Rattle.comparing.proofs.Entries.{kind-byte}
 use Rattle.comparing.proofs.remarks.kind_of.Statement.{statement}
 use Rattle.comparing.proofs.remarks.kind_of.Tie as tie
 

@@ -1,7 +1,7 @@
 use native.Mathlib.Omega.{arith}
 use borrow.Author.Needs.{needs}
 use Rattle.printing.proofs.Sayings.{said-none}
-use Rattle.comparing.proofs.TextLaws.{changed-none, changed-added, changed-removed, changed-both}
+use Rattle.comparing.proofs.Texts.{changed-none, changed-added, changed-removed, changed-both}
 use Rattle.comparing.proofs.remarks.say_changed.Statement.{statement}
 use Rattle.comparing.proofs.remarks.say_changed.Tie as tie
 

@@ -1,6 +1,6 @@
 use borrow.Author.Needs.{needs}
 use Rattle.printing.proofs.Sayings.{_⟫_}
-use Rattle.comparing.proofs.TextLaws.{last-nothing, last-others}
+use Rattle.comparing.proofs.Texts.{last-nothing, last-others}
 use Rattle.comparing.proofs.remarks.say_last.Statement.{statement}
 use Rattle.comparing.proofs.remarks.say_last.Tie as tie
 

@@ -3,7 +3,7 @@ use native.Mathlib.Omega.{arith}
 use borrow.Author.Needs.{needs}
 use Rattle.printing.proofs.Sayings.{text-at-start}
 use Rattle.printing.proofs.Puts.{put-length}
-use Rattle.comparing.proofs.EntryLaws.{told-lines}
+use Rattle.comparing.proofs.Entries.{told-lines}
 use Rattle.comparing.proofs.remarks.say_lines.Statement.{statement}
 use Rattle.comparing.proofs.remarks.say_lines.Tie as tie
 

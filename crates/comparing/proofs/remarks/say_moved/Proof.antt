@@ -1,6 +1,6 @@
 use borrow.Author.Needs.{needs}
 use Rattle.printing.proofs.Sayings.{_⟫_}
-use Rattle.comparing.proofs.TextLaws.{moved-text}
+use Rattle.comparing.proofs.Texts.{moved-text}
 use Rattle.comparing.proofs.remarks.say_moved.Statement.{statement}
 use Rattle.comparing.proofs.remarks.say_moved.Tie as tie
 

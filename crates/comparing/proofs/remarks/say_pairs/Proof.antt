@@ -1,6 +1,6 @@
 use Prim.Native.Nat.{_-_}
 use native.Mathlib.Omega.{arith}
-use Rattle.comparing.proofs.TellLaws.{PairTelling, pairs-none, pairs-far, pairs-inside, pairs-inside′, pairs-end, pairs-on, long-enough}
+use Rattle.comparing.proofs.Tellings.{PairTelling, pairs-none, pairs-far, pairs-inside, pairs-inside′, pairs-end, pairs-on, long-enough}
 use Rattle.comparing.proofs.remarks.say_pairs.Statement.{statement}
 use Rattle.comparing.proofs.remarks.say_pairs.Tie as tie
 

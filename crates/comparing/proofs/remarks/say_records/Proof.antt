@@ -1,6 +1,6 @@
 use Prim.Native.Nat.{_-_}
 use native.Mathlib.Omega.{arith}
-use Rattle.comparing.proofs.TellLaws.{Telling, telling-none, telling-far, tell-inside, telling-ends, telling-on, long-enough}
+use Rattle.comparing.proofs.Tellings.{Telling, telling-none, telling-far, tell-inside, telling-ends, telling-on, long-enough}
 use Rattle.comparing.proofs.remarks.say_records.Statement.{statement}
 use Rattle.comparing.proofs.remarks.say_records.Tie as tie
 

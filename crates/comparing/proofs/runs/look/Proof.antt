@@ -1,7 +1,7 @@
 use mathlib.Core.Path.{_∙_}
 use native.Mathlib.Omega.{arith}
 use borrow.Author.Needs.{needs}
-use Rattle.comparing.proofs.PairLaws.{looked-none, left-some, right-some, looked-on, lines-same}
+use Rattle.comparing.proofs.Pairs.{looked-none, left-some, right-some, looked-on, lines-same}
 use Rattle.comparing.proofs.runs.look.Statement.{statement}
 use Rattle.comparing.proofs.runs.look.Tie as tie
 

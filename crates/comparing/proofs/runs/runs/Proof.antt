@@ -1,7 +1,7 @@
 use Prim.Native.Nat.{_-_}
 use native.Mathlib.Omega.{arith}
 use lib.ListN.{length}
-use Rattle.comparing.proofs.PairLaws.{Pairing, pairing-none, pair-inside, pair-inside′, pairing-ends, pairing-on, pairing-far}
+use Rattle.comparing.proofs.Pairs.{Pairing, pairing-none, pair-inside, pair-inside′, pairing-ends, pairing-on, pairing-far}
 use Rattle.comparing.proofs.runs.runs.Statement.{statement}
 use Rattle.comparing.proofs.runs.runs.Tie as tie
 

@@ -4,7 +4,7 @@ use native.Mathlib.Omega.{arith}
 use borrow.Author.Needs.{needs}
 use lib.ListN.{length, drop}
 use Rattle.comparing.specs.Same.{same}
-use Rattle.comparing.proofs.SameLaws.{same-lengths, same-on, same-stops, same-end}
+use Rattle.comparing.proofs.SameBytes.{same-lengths, same-on, same-stops, same-end}
 use Rattle.comparing.proofs.runs.same.Statement.{statement}
 use Rattle.comparing.proofs.runs.same.Tie as tie
 

@@ -1,6 +1,6 @@
 use mathlib.Core.Path.{_∙_}
 use borrow.Author.Needs.{needs}
-use Rattle.comparing.proofs.PairLaws.{shape-close, shape-other}
+use Rattle.comparing.proofs.Pairs.{shape-close, shape-other}
 use Rattle.comparing.proofs.runs.shape.Statement.{statement}
 use Rattle.comparing.proofs.runs.shape.Tie as tie
 

@@ -43,7 +43,9 @@ weighed-spec =
     (λ c κs. search needs)
     (λ c. omega (arith, fits c, as-long c, c .bytes-of .ensures))
     (λ c. c .before .bytes-of .ensures ∙ sym (record-length (row (c .before)) (values (c .before))) ∙ sym (ap length (record-lent (c .before))))
-    (λ c κs. let p = c .before .before .before .before .before .before .before .before .pre in (p .0, p .1, whole _ _ (p .2) (record-lent (c .before))))
+    (λ c κs.
+    let p = c .before .before .before .before .before .before .before .before .pre in
+    (p .0, p .1, whole _ _ (p .2) (record-lent (c .before))))
     (λ c.
     let b = c .before .before in
     let e = b .before .before .before .before in

@@ -1,7 +1,7 @@
 use native.Mathlib.Omega.{arith}
 use Rattle.codec.proofs.EachKind.{row-least, row-most}
-use Rattle.reasons.proofs.FaultLaws.{row-in}
-use Rattle.reasons.proofs.ValueLaws.{by-two, by-three, by-four, by-values, past-four}
+use Rattle.reasons.proofs.Faults.{row-in}
+use Rattle.reasons.proofs.ValuesFound.{by-two, by-three, by-four, by-values, past-four}
 use Rattle.reasons.proofs.compared.compared.Statement.{statement}
 use Rattle.reasons.proofs.compared.compared.Tie as tie
 

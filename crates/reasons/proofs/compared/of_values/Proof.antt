@@ -4,8 +4,8 @@ use borrow.Author.Tests.{eqb-true}
 use borrow.Author.Needs.{needs}
 use Rattle.base.proofs.Tests.{not-false}
 use Rattle.account.specs.Judge.{kindOf}
-use Rattle.reasons.proofs.FaultLaws.{sized, position-is, of-parts, days-small}
-use Rattle.reasons.proofs.ValueLaws.{by-seven, by-eight, by-nine, by-ten, by-twelve, by-other}
+use Rattle.reasons.proofs.Faults.{sized, position-is, of-parts, days-small}
+use Rattle.reasons.proofs.ValuesFound.{by-seven, by-eight, by-nine, by-ten, by-twelve, by-other}
 use Rattle.reasons.proofs.compared.of_values.Statement.{statement}
 use Rattle.reasons.proofs.compared.of_values.Tie as tie
 

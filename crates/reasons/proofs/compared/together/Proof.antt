@@ -1,7 +1,7 @@
 use native.Mathlib.Omega.{arith}
 use borrow.Author.Needs.{needs}
 use Rattle.account.specs.Judge.{valuesOf}
-use Rattle.reasons.proofs.ValueLaws.{shares-small, parts-small, fraction-small, shares-told, parts-told, fractions-told, last-part}
+use Rattle.reasons.proofs.ValuesFound.{shares-small, parts-small, fraction-small, shares-told, parts-told, fractions-told, last-part}
 use Rattle.reasons.proofs.compared.together.Statement.{statement}
 use Rattle.reasons.proofs.compared.together.Tie as tie
 

@@ -1,5 +1,5 @@
 use native.Mathlib.Omega.{arith}
-use Rattle.reasons.proofs.ValueLaws.{farm-version, other-version}
+use Rattle.reasons.proofs.ValuesFound.{farm-version, other-version}
 use Rattle.reasons.proofs.compared.version.Statement.{statement}
 use Rattle.reasons.proofs.compared.version.Tie as tie
 

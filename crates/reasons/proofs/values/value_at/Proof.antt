@@ -1,6 +1,6 @@
 -- One of the twelve, or none. Assumes nothing.
 use borrow.Author.Needs.{needs}
-use Rattle.reasons.proofs.ValueLaws.{values-there, value-is, no-value}
+use Rattle.reasons.proofs.ValuesFound.{values-there, value-is, no-value}
 use Rattle.reasons.proofs.values.value_at.Statement.{statement}
 use Rattle.reasons.proofs.values.value_at.Tie as tie
 

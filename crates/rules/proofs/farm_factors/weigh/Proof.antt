@@ -13,8 +13,8 @@ use Rattle.rules.proofs.farm_factors.weigh.Tie as tie
 returns : tie.Need-returns
 unfolding inPlace
 returns c =
-    stops _ lastRow _ _ _ _ refl (c .before .before .before .before .first-bad .ensures) (c .before .before .barred .ensures) _ _ (c .before .if1 .taken)
-    (c .stopped .ensures)
+    stops _ lastRow _ _ _ _ refl (c .before .before .before .before .first-bad .ensures) (c .before .before .barred .ensures)
+    _ _ (c .before .if1 .taken) (c .stopped .ensures)
 
 passed : (c : tie.Else1) → Passes (c .before .before .before .before .args .a) lastRow (c .before .before .before .before .args .t2)
 unfolding inPlace

@@ -8,9 +8,9 @@ use lib.ListN.{getD, take}
 use lib.Dec.{leb, eqb}
 use Rattle.base.proofs.Tests.{or-l, or-r}
 use Rattle.account.specs.Judge.{WholeRecord, kindByte}
-use Rattle.book.proofs.RecordLaws.{record-in, record-whole}
+use Rattle.book.proofs.RecordRuns.{record-in, record-whole}
 use Rattle.salvaging.specs.Salvage.{droppedBy, ends}
-use Rattle.salvaging.proofs.TurnLaws.{told-account, code-told, close-ends, other-goes, next-is, ends-at, ends-before, goes-on}
+use Rattle.salvaging.proofs.OneTurn.{told-account, code-told, close-ends, other-goes, next-is, ends-at, ends-before, goes-on}
 use Rattle.salvaging.proofs.Reading.turn.Statement.{statement}
 use Rattle.salvaging.proofs.Reading.turn.Tie as tie
 

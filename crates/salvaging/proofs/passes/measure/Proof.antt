@@ -2,7 +2,7 @@ use Prim.Native.Nat.{_+_, _-_, _<_}
 use native.Mathlib.Omega.{arith}
 use lib.ListN.{length, drop}
 use Rattle.salvaging.specs.Inner.{Turned}
-use Rattle.salvaging.proofs.PassLaws.{Measuring, measuring-none, measuring-on, measured, nothing-left}
+use Rattle.salvaging.proofs.OnePass.{Measuring, measuring-none, measuring-on, measured, nothing-left}
 use Rattle.salvaging.proofs.passes.measure.Statement.{statement}
 use Rattle.salvaging.proofs.passes.measure.Tie as tie
 

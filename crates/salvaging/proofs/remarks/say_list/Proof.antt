@@ -1,7 +1,7 @@
 use Prim.Native.Nat.{_-_}
 use native.Mathlib.Omega.{arith}
 use lib.ListN.{length, length-drop}
-use Rattle.salvaging.proofs.RemarkLaws.{Telling, telling-none, telling-on, telling-ends}
+use Rattle.salvaging.proofs.RemarkTexts.{Telling, telling-none, telling-on, telling-ends}
 use Rattle.salvaging.proofs.remarks.say_list.Statement.{statement}
 use Rattle.salvaging.proofs.remarks.say_list.Tie as tie
 

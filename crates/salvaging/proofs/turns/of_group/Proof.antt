@@ -1,4 +1,4 @@
-use Rattle.salvaging.proofs.KindLaws.{of-group-is}
+use Rattle.salvaging.proofs.GroupKinds.{of-group-is}
 use Rattle.salvaging.proofs.turns.of_group.Statement.{statement}
 use Rattle.salvaging.proofs.turns.of_group.Tie as tie
 

@@ -23,7 +23,7 @@ use Rattle.account.proofs.Keeps.{in-range-judge}
 use Rattle.salvaging.specs.declared.Reading.{Reading}
 use Rattle.salvaging.specs.Salvage.{wouldGet, oneOf, ofGroupKind, drops, droppedBy, ends, after}
 use Rattle.salvaging.specs.Inner.{Open}
-use Rattle.salvaging.proofs.KindLaws.{row-eight, farm-row}
+use Rattle.salvaging.proofs.GroupKinds.{row-eight, farm-row}
 
 -- ---- the number that a record would get
 

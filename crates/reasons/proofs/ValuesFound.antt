@@ -22,7 +22,7 @@ use Rattle.account.specs.declared.Account.{Account}
 use Rattle.account.specs.Judge.{versionOf, kindByte, kindOf, valuesOf}
 use Rattle.account.specs.Compared.{noNumbers, numbers, outside, badField, rangeOf, valueAt, daysWith, valuesCompared, compared}
 use Rattle.book.specs.Front.{unfinished, badLength, whole, front, bad}
-use Rattle.book.proofs.FrontLaws.{length-take-two}
+use Rattle.book.proofs.Fronts.{length-take-two}
 use Rattle.reasons.specs.declared.Reason.{Reason}
 use Rattle.reasons.specs.declared.compared.Numbers.{Numbers}
 use Rattle.reasons.specs.Why.{reason}

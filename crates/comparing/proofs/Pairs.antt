@@ -22,7 +22,7 @@ use Rattle.comparing.specs.Entries.{Entry, linesOf, entriesAfter, entrie
 use Rattle.comparing.specs.Same.{same}
 use Rattle.comparing.specs.Compare.{shapeOf, noRuns, oneMore, runsFrom, runsOf, movedOf, planOf}
 use Rattle.comparing.specs.Inner.{Turned, Written, Reached, Looked, CountsIn}
-use Rattle.comparing.proofs.WalkLaws.{entries-behind}
+use Rattle.comparing.proofs.Walks.{entries-behind}
 
 -- ---- the next pair
 

@@ -18,15 +18,15 @@ use Rattle.account.specs.Judge.{Step, kindByte, first, judge}
 use Rattle.account.specs.Told.{TellsIn}
 use Rattle.account.proofs.Told.{tells-fit, lines-short}
 use Rattle.book.specs.Front.{Front, unfinished, badLength, whole, front}
-use Rattle.book.proofs.FrontLaws.{meaning}
+use Rattle.book.proofs.Fronts.{meaning}
 use Rattle.book.specs.WholeRecords.{recordsBy, recordsOf}
-use Rattle.book.proofs.WholeRecordLaws.{records-whole}
+use Rattle.book.proofs.WholeRecords.{records-whole}
 use Rattle.salvaging.specs.declared.Reading.{Reading}
 use Rattle.salvaging.specs.declared.turns.Turn.{Turn}
 use Rattle.book.specs.WholeRecords.{Ready}
 use Rattle.salvaging.specs.Salvage.{Found, nothing, with, drops, droppedBy, ends, after, found, foundIn}
 use Rattle.salvaging.specs.Inner.{Open, Turned}
-use Rattle.salvaging.proofs.FateLaws.{code-is, open-after, records-after}
+use Rattle.salvaging.proofs.Fates.{code-is, open-after, records-after}
 
 -- ---- the number and the reading behind a record, as they are computed
 

@@ -20,9 +20,9 @@ use Rattle.book.specs.Front.{Front, unfinished, badLength, whole, need, front}
 use Rattle.book.specs.WholeRecords.{Ready, beginsWith, recordsBy, recordsOf}
 use Rattle.book.specs.State.{holding}
 use Rattle.book.specs.Call.{call, fedOf, laid}
-use Rattle.book.proofs.FrontLaws.{meaning}
-use Rattle.book.proofs.WholeRecordLaws.{records-whole}
-use Rattle.book.proofs.RecordLaws.{record-in}
+use Rattle.book.proofs.Fronts.{meaning}
+use Rattle.book.proofs.WholeRecords.{records-whole}
+use Rattle.book.proofs.RecordRuns.{record-in}
 use Rattle.listing.specs.Listing.{linesText, lineRoom}
 use Rattle.comparing.specs.declared.cursor.Taken.{Taken}
 use Rattle.comparing.specs.Entries.{after, linesOf, entriesFrom, entriesAfter}

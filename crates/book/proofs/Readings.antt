@@ -15,8 +15,8 @@ use Rattle.book.specs.Front.{unfinished, front}
 use Rattle.book.specs.State.{heldOf, holding, InRange}
 use Rattle.book.specs.Run.{Outcome, outcome, run}
 use Rattle.book.specs.Inner.{Reading, Turned}
-use Rattle.book.proofs.RangeLaws.{range-holding}
-use Rattle.book.proofs.RunLaws.{book-unfinished, run-none}
+use Rattle.book.proofs.Ranges.{range-holding}
+use Rattle.book.proofs.Runs.{book-unfinished, run-none}
 use Rattle.book.proofs.Outcomes.{outcome-append}
 
 pub reading-none : (input out : List ℕ) (s : State) → InRange s → Reading input out s out s 0 0

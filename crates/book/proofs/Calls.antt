@@ -15,11 +15,11 @@ use Rattle.book.specs.State.{InRange, inRange}
 use Rattle.book.specs.Run.{Outcome, outcome, run}
 use Rattle.book.specs.Call.{longest, fits, answerOf, outside, call, fedOf, laid}
 use Rattle.book.specs.Inner.{Reading, fed}
-use Rattle.book.proofs.RangeLaws.{range-test}
-use Rattle.book.proofs.RunLaws.{run-none, run-ended}
+use Rattle.book.proofs.Ranges.{range-test}
+use Rattle.book.proofs.Runs.{run-none, run-ended}
 use Rattle.book.proofs.Longest.{longest-is, longest-top}
 use Rattle.book.proofs.Outcomes.{more-lines}
-use Rattle.book.proofs.ReadingLaws.{reads-on}
+use Rattle.book.proofs.Readings.{reads-on}
 
 pub call-at : (s : State) (xs : List ℕ) (room n : ℕ) (o : Outcome) → InRange s → longest (fits s xs room) (length xs) ≡ n
     → outcome (run s (take n xs)) ≡ o

@@ -21,10 +21,10 @@ use Rattle.book.specs.State.{holding}
 use Rattle.book.specs.Run.{Outcome, outcome, book, run}
 use Rattle.book.specs.WholeRecords.{Ready}
 use Rattle.book.specs.Inner.{Reading, Ran}
-use Rattle.book.proofs.FrontLaws.{meaning, is-whole, length-take-two}
-use Rattle.book.proofs.RangeLaws.{range-idle}
-use Rattle.book.proofs.RunLaws.{book-whole, book-none, run-none}
-use Rattle.book.proofs.ReadingLaws.{reading-none, read-line}
+use Rattle.book.proofs.Fronts.{meaning, is-whole, length-take-two}
+use Rattle.book.proofs.Ranges.{range-idle}
+use Rattle.book.proofs.Runs.{book-whole, book-none, run-none}
+use Rattle.book.proofs.Readings.{reading-none, read-line}
 
 -- ---- one record: the first n of xs
 

@@ -7,7 +7,7 @@ use mathlib.Core.Logic.{⊎-elim}
 use native.Mathlib.Omega.{arith}
 use lib.ListN.{length, take, drop, length-drop, drop-of-length-le}
 use lib.Seq.{drop-drop}
-use Rattle.book.proofs.FrontLaws.{front-none}
+use Rattle.book.proofs.Fronts.{front-none}
 use Rattle.base.proofs.Tests.{lt-or-ge}
 use Rattle.account.specs.declared.Account.{Account}
 use Rattle.account.specs.Judge.{noRecord}
@@ -15,7 +15,7 @@ use Rattle.comparing.specs.declared.cursor.Cursor.{Cursor}
 use Rattle.comparing.specs.declared.cursor.Taken.{Taken}
 use Rattle.comparing.specs.Entries.{Entry, entriesAfter, entriesOf}
 use Rattle.comparing.specs.Inner.{entry, Turned, Reached}
-use Rattle.comparing.proofs.EntryLaws.{entries-none}
+use Rattle.comparing.proofs.Entries.{entries-none}
 
 -- the first i entries of the book xs are walked over, up to the byte at, and a is the account behind them
 pub record Walked (xs : List ℕ) (k : ℕ) (a : Account) (at i : ℕ) : Type 0 where

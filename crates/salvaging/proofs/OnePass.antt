@@ -17,12 +17,12 @@ use Rattle.codec.proofs.Round.{record-length}
 use Rattle.account.specs.Line.{joined}
 use Rattle.account.proofs.Keeps.{in-range-none}
 use Rattle.book.specs.Front.{whole}
-use Rattle.book.proofs.FrontLaws.{meaning}
+use Rattle.book.proofs.Fronts.{meaning}
 use Rattle.salvaging.specs.declared.Reading.{Reading}
 use Rattle.salvaging.specs.declared.turns.Turn.{Turn}
 use Rattle.salvaging.specs.Salvage.{Found, nothing, with, start, bookOf, entryBytes, listOf, foundIn}
 use Rattle.salvaging.specs.Inner.{Open, Turned, bookFrom, noteOf, Measured}
-use Rattle.salvaging.proofs.TurnLaws.{none-found}
+use Rattle.salvaging.proofs.OneTurn.{none-found}
 
 pub open-start : Open start
 open-start = record { range = in-range-none; early = omega arith }

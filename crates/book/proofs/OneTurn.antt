@@ -20,10 +20,10 @@ use Rattle.book.specs.State.{heldOf, holding}
 use Rattle.book.specs.Run.{outcome, book, run}
 use Rattle.book.specs.Inner.{Gathered, Ran, Offered, Begins, Turned, leftBy}
 use Rattle.book.proofs.MovedBytes.{gathered-held, gathered-more, gathered-all}
-use Rattle.book.proofs.FrontLaws.{meaning, good-length, is-unfinished, is-bad, length-take-two, held-bad, held-whole}
-use Rattle.book.proofs.RangeLaws.{held-length, range-holding, range-idle}
-use Rattle.book.proofs.RunLaws.{book-unfinished, book-bad}
-use Rattle.book.proofs.RecordLaws.{book-one, nothing-yet}
+use Rattle.book.proofs.Fronts.{meaning, good-length, is-unfinished, is-bad, length-take-two, held-bad, held-whole}
+use Rattle.book.proofs.Ranges.{held-length, range-holding, range-idle}
+use Rattle.book.proofs.Runs.{book-unfinished, book-bad}
+use Rattle.book.proofs.RecordRuns.{book-one, nothing-yet}
 
 -- ---- a turn over bytes that begin with those held
 

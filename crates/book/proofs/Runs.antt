@@ -17,9 +17,9 @@ use Rattle.book.specs.declared.State.{State}
 use Rattle.book.specs.Front.{Front, unfinished, badLength, whole, need, front}
 use Rattle.book.specs.State.{heldOf, InRange, holding}
 use Rattle.book.specs.Run.{Run, then, ended, byFront, bookBy, book, run}
-use Rattle.book.proofs.FrontLaws.{meaning, length-append-two, bad-append, whole-append}
-use Rattle.book.proofs.WholeRecordLaws.{rest-short}
-use Rattle.book.proofs.RangeLaws.{held-holding, holding-held, ended-held, ended-is, range-idle}
+use Rattle.book.proofs.Fronts.{meaning, length-append-two, bad-append, whole-append}
+use Rattle.book.proofs.WholeRecords.{rest-short}
+use Rattle.book.proofs.Ranges.{held-holding, holding-held, ended-held, ended-is, range-idle}
 
 -- ---- the count of records that bounds a book does not matter, as long as it is above the count of bytes
 

@@ -20,9 +20,9 @@ use Rattle.salvaging.specs.declared.Salvaged.the-variants.{Saved}
 use Rattle.salvaging.specs.Salvage.{Entry, Found, start, found, bookOf, entryBytes, listOf, farmAmong, refusing, saving, Salvage, answering}
 use Rattle.salvaging.specs.Salvage.{salvageOf, laid, answerFor, bookAfter, listAfter, foundIn}
 use Rattle.salvaging.specs.Inner.{Open, Measured}
-use Rattle.salvaging.proofs.FateLaws.{gets-none, first-farm, dropped-account, open-after}
-use Rattle.salvaging.proofs.TurnLaws.{by-records}
-use Rattle.salvaging.proofs.PassLaws.{open-start}
+use Rattle.salvaging.proofs.Fates.{gets-none, first-farm, dropped-account, open-after}
+use Rattle.salvaging.proofs.OneTurn.{by-records}
+use Rattle.salvaging.proofs.OnePass.{open-start}
 
 -- ---- a farm record is among the kept ones, unless there is none
 

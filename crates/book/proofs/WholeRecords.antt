@@ -7,7 +7,7 @@ use native.Mathlib.Omega.{arith}
 use lib.ListN.{length, take, drop, length-drop}
 use Rattle.book.specs.Front.{Front, unfinished, badLength, whole, need, front}
 use Rattle.book.specs.WholeRecords.{beginsWith, recordsBy, recordsOf}
-use Rattle.book.proofs.FrontLaws.{meaning}
+use Rattle.book.proofs.Fronts.{meaning}
 
 -- what stands behind the first record is shorter
 pub rest-short : (xs : List ℕ) (n : ℕ) → front xs ≡ whole → length xs < suc n → length (drop (need xs) xs) < n

@@ -15,7 +15,7 @@ use Rattle.account.proofs.Clauses.{in-range-parts, in-range-test}
 use Rattle.book.specs.declared.State.{State}
 use Rattle.book.specs.Front.{Front, unfinished, badLength, whole, front}
 use Rattle.book.specs.State.{heldOf, holding, zeros, isUnfinished, InRange, inRange}
-use Rattle.book.proofs.FrontLaws.{unfinished-short, front-none}
+use Rattle.book.proofs.Fronts.{unfinished-short, front-none}
 
 -- ---- the parts and the test
 

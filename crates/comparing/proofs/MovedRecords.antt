@@ -17,17 +17,17 @@ use Rattle.account.specs.declared.Account.{Account}
 use Rattle.account.specs.Sorts.{ofGroup, ofFarm, sortOf, bySort}
 use Rattle.book.specs.Front.{whole, need, front}
 use Rattle.book.specs.WholeRecords.{Ready, recordsOf}
-use Rattle.book.proofs.WholeRecordLaws.{records-whole}
-use Rattle.book.proofs.RecordLaws.{record-in}
-use Rattle.book.proofs.FrontLaws.{meaning}
+use Rattle.book.proofs.WholeRecords.{records-whole}
+use Rattle.book.proofs.RecordRuns.{record-in}
+use Rattle.book.proofs.Fronts.{meaning}
 use Rattle.comparing.specs.declared.cursor.Cursor.{Cursor}
 use Rattle.comparing.specs.Entries.{after, takes, Entry, recordsIn, entriesFrom, entriesAfter, entriesOf}
 use Rattle.comparing.specs.Same.{same}
 use Rattle.comparing.specs.Moved.{timesIn, asOften, allAsOften, sameDetails}
 use Rattle.comparing.specs.Compare.{movedOf}
 use Rattle.comparing.specs.Inner.{entry, Reached}
-use Rattle.comparing.proofs.EntryLaws.{records-none}
-use Rattle.comparing.proofs.TellLaws.{long-enough}
+use Rattle.comparing.proofs.Entries.{records-none}
+use Rattle.comparing.proofs.Tellings.{long-enough}
 
 take-none : (n : ℕ) → take {A = List ℕ} n [] ≡ []
 take-none zero = refl

@@ -19,16 +19,16 @@ use Rattle.book.specs.Front.{Front, unfinished, badLength, whole, need, front}
 use Rattle.book.specs.WholeRecords.{recordsOf}
 use Rattle.book.specs.State.{holding, noRecordYet}
 use Rattle.book.specs.Run.{book, run}
-use Rattle.book.proofs.FrontLaws.{meaning, front-none}
-use Rattle.book.proofs.WholeRecordLaws.{records-whole}
-use Rattle.book.proofs.RangeLaws.{held-holding, range-idle}
-use Rattle.book.proofs.RunLaws.{book-ended, book-unfinished, book-bad, book-whole, run-none, run-append}
-use Rattle.book.proofs.RecordLaws.{record-in, record-whole, book-one}
+use Rattle.book.proofs.Fronts.{meaning, front-none}
+use Rattle.book.proofs.WholeRecords.{records-whole}
+use Rattle.book.proofs.Ranges.{held-holding, range-idle}
+use Rattle.book.proofs.Runs.{book-ended, book-unfinished, book-bad, book-whole, run-none, run-append}
+use Rattle.book.proofs.RecordRuns.{record-in, record-whole, book-one}
 use Rattle.reasons.specs.declared.Verdict.the-variants.{NextLength, Refused}
 use Rattle.reasons.specs.Why.{reason, reasonOf, firstByte, whyBy, whyOf}
 use Rattle.reasons.specs.Promised.{behind, AllAccepted}
 use Rattle.reasons.specs.Inner.{unread, ended}
-use Rattle.reasons.proofs.FaultLaws.{passes, counted, refused-is, faulty}
+use Rattle.reasons.proofs.Faults.{passes, counted, refused-is, faulty}
 use Rattle.reasons.proofs.RecordLists.{one-more, one-less, joined-one, behind-one, accepted-one}
 
 -- at bytes of the book xs are read, whole records that are all accepted, and a is the account behind them

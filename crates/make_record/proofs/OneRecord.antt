@@ -29,12 +29,12 @@ use Rattle.book.specs.Front.{whole, need, front}
 use Rattle.book.specs.State.{heldOf, holding}
 use Rattle.book.specs.Run.{run}
 use Rattle.book.specs.Call as reader
-use Rattle.book.proofs.FrontLaws.{is-whole}
-use Rattle.book.proofs.RecordLaws.{book-one}
+use Rattle.book.proofs.Fronts.{is-whole}
+use Rattle.book.proofs.RecordRuns.{book-one}
 use Rattle.book.proofs.Longest.{longest-top}
-use Rattle.book.proofs.CallLaws.{call-at}
+use Rattle.book.proofs.Calls.{call-at}
 use Rattle.make_record.specs.Write.{Ready}
-use Rattle.make_record.proofs.RowLaws.{row-back, version-passes, kind-passes}
+use Rattle.make_record.proofs.Rows.{row-back, version-passes, kind-passes}
 
 -- ---- one whole record, read by a state that holds no bytes
 
