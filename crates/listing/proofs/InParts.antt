@@ -1,38 +1,29 @@
 -- Theorem: however a book is cut into parts and whatever room its lines have, what the calls print together is the listing of the whole book.
 -- Assumes nothing.
-use Prim.Native.Nat.{ℕ, zero, suc, _%_, _+_, _<_}
+use Prim.Native.Nat.{ℕ, _%_, _+_, _<_}
 use native.Mathlib.Omega.{arith}
 use mathlib.Core.Path.{_≡_, refl, sym, ap, _∙_}
 use mathlib.Core.Bool.{Bool, true, false}
-use mathlib.Core.Logic.{_⊎_, inl, inr, ⊎-elim}
 use mathlib.Core.List.{List, [], _∷_, _++_, append-assoc, append-nil}
-use borrow.Author.Tests.{eqb-true}
 use lib.ListN.{length, getD, take, drop, length-append, List·getD-append}
 use lib.Seq.{drop-append-seam}
-use lib.Dec.{eqb, ltb}
+use lib.Dec.{eqb}
 use Rattle.base.specs.Choice.{pick}
-use Rattle.base.proofs.Tests.{of-choice}
-use Rattle.codec.specs.Table.{size, isRow}
+use Rattle.codec.specs.Table.{size}
 use Rattle.codec.specs.Codec.{be, bytesOf, valuesAt}
 use Rattle.line_bytes.specs.Lines.{lineFields, totalFields, lineSize, totalSize, isTotal, lineBytes, totalBytes, frontSize, frontFields}
 use Rattle.line_bytes.proofs.Rows.{sizes}
 use Rattle.codec.proofs.Values.{values-same}
 use Rattle.grams.specs.declared.units.Co2.{Co2}
-use Rattle.account.specs.declared.Account.{Account}
 use Rattle.account.specs.declared.Figures.{Figures}
-use Rattle.account.specs.Sorts.{Sort, ofGroup, ofFarm, closes, sortOf}
-use Rattle.account.specs.Line.{lineWith, totalWith, subtotals, totalOf, joined}
-use Rattle.account.specs.Judge.{kindOf, valuesOf, first, refusals, Step, accepted, judge}
-use Rattle.codec.proofs.EachKind.{row-most}
-use Rattle.account.proofs.Sorts.{by-sort}
+use Rattle.account.specs.Line.{lineWith, totalWith, joined}
 use Rattle.account.proofs.Told.{line-long, total-long}
 use Rattle.book.specs.declared.State.{State}
-use Rattle.book.specs.Front.{Front, unfinished, badLength, whole, need, front}
-use Rattle.book.specs.State.{InRange, inRange, noRecordYet}
-use Rattle.book.specs.Run.{Run, byFront, bookBy, book, run, Outcome}
-use Rattle.book.specs.Call.{Call, call}
+use Rattle.book.specs.State.{InRange, noRecordYet}
+use Rattle.book.specs.Run.{run, Outcome}
+use Rattle.book.specs.Call.{call}
 use Rattle.book.specs.Way.{Part, way, Ended}
-use Rattle.promises.proofs.Headings.{kind-in}
+use Rattle.promises.proofs.EachLine.{LineKind, kind-small, Each, run-each, OfLines, call-each}
 use Rattle.promises.proofs.RuleThree.{rule-three}
 use Rattle.promises.proofs.StaysInRange.{new-in-range}
 use Rattle.listing.specs.Listing.{lineNumbers, lineText, linesText, endText, textOf, listingFrom, listingOf, printed}
@@ -44,12 +35,7 @@ abbrev Whole : List ℕ → Type 0
 Whole l = frontSize l ≡ length l
 
 abbrev Wholes : List (List ℕ) → Type 0
-Wholes [] = Unit {0}
-Wholes (l ∷ ls) = Whole l × Wholes ls
-
-wholes-append : (ls ms : List (List ℕ)) → Wholes ls → Wholes ms → Wholes (ls ++ ms)
-wholes-append [] ms v w = w
-wholes-append (l ∷ ls) ms v w = (v .0, wholes-append ls ms (v .1) w)
+Wholes = Each Whole
 
 line-kind : (k g : ℕ) (f : Figures) → getD (lineWith k g f) 3 0 ≡ k % 256
 unfolding lineBytes lineFields bytesOf be
@@ -59,57 +45,16 @@ total-kind : (f : Figures) (c : Co2) → getD (totalWith f c) 3 0 ≡ 8
 unfolding totalBytes totalFields bytesOf be
 total-kind f c = refl
 
-line-whole : (k g : ℕ) (f : Figures) → k < 256 → (k ≡ 8 → ⊥) → Whole (lineWith k g f)
-line-whole k g f h n = size-detail (lineWith k g f) (λ q. n (omega (arith, q, line-kind k g f))) ∙ sym (line-long k g f)
+line-whole : (k g : ℕ) (f : Figures) → LineKind k → Whole (lineWith k g f)
+line-whole k g f o =
+    let small = kind-small k o in
+    size-detail (lineWith k g f) (λ q. o .no-total (omega (arith, q, line-kind k g f))) ∙ sym (line-long k g f)
 
 total-whole : (f : Figures) (c : Co2) → Whole (totalWith f c)
 total-whole f c = size-total (totalWith f c) (total-kind f c) ∙ sym (total-long f c)
 
--- ---- the lines of a run are whole
-
-not-close : (k : ℕ) (s : Sort) → (s ≡ ofGroup) ⊎ (s ≡ ofFarm) → sortOf k ≡ s → k ≡ 8 → ⊥
-unfolding sortOf
-not-close k s e f q = ⊎-elim (λ (g : s ≡ ofGroup). no-sort (rw q at (f ∙ g))) (λ (g : s ≡ ofFarm). no-sort′ (rw q at (f ∙ g))) e
-  where
-    no-sort : closes ≡ ofGroup → ⊥
-    no-sort e = let z : _≡_ {A = ℕ} 0 1 = cc in absurd (omega arith)
-
-    no-sort′ : closes ≡ ofFarm → ⊥
-    no-sort′ e = let z : _≡_ {A = ℕ} 0 1 = cc in absurd (omega arith)
-
-subtotals-whole : (a : Account) → Wholes (subtotals a)
-subtotals-whole a =
-    of-choice Wholes (eqb (a .heading .group) 0) (λ e. tt) (λ e. (line-whole 16 _ _ (omega arith) (λ q. omega (arith, q)), tt))
-
-accepted-whole : (a : Account) (k : ℕ) (v : List ℕ) → isRow k ≡ true → Wholes (accepted a k v .lines)
-unfolding accepted
-accepted-whole a k v h =
-    by-sort (λ (j : Step). Wholes (j .lines)) (sortOf k) (λ e. tt) (λ e. subtotals-whole a)
-    (λ e. (line-whole k _ _ (omega (arith, row-most k h)) (not-close k ofGroup (inl refl) e), tt))
-    (λ e. (line-whole k _ _ (omega (arith, row-most k h)) (not-close k ofFarm (inr refl) e), tt))
-    (λ e. wholes-append (subtotals a) (totalOf a ∷ []) (subtotals-whole a) (total-whole _ _, tt))
-
-judge-whole : (a : Account) (r : List ℕ) → Wholes (judge a r .lines)
-unfolding judge
-judge-whole a r =
-    of-choice (λ (j : Step). Wholes (j .lines)) (eqb (first (refusals a r)) 0)
-    (λ e. accepted-whole a (kindOf r) (valuesOf r) (kind-in a r (eqb-true _ _ e))) (λ e. tt)
-
-front-whole : (f : Front) (a : Account) (xs : List ℕ) (behind : Run) → Wholes (behind .lines) → Wholes (byFront f a xs behind .lines)
-front-whole unfinished a xs behind w = tt
-front-whole badLength a xs behind w = tt
-front-whole whole a xs behind w = wholes-append (judge a (take (need xs) xs) .lines) (behind .lines) (judge-whole a (take (need xs) xs)) w
-
-book-whole : (n : ℕ) (a : Account) (xs : List ℕ) → Wholes (bookBy n a xs .lines)
-unfolding bookBy
-book-whole zero a xs = tt
-book-whole (suc n) a xs =
-    of-choice (λ (r : Run). Wholes (r .lines)) (ltb (a .stage) 2)
-    (λ e. front-whole (front xs) a xs _ (book-whole n (judge a (take (need xs) xs) .account) (drop (need xs) xs))) (λ e. tt)
-
 run-whole : (s : State) (xs : List ℕ) → Wholes (run s xs .lines)
-unfolding run book
-run-whole s xs = book-whole _ (s .account) _
+run-whole = run-each Whole line-whole total-whole
 
 -- ---- the text of whole lines, one behind the other
 
@@ -154,20 +99,15 @@ lines-all ls w =
 -- ---- calls
 
 -- the bytes of a call are whole lines
-record OfLines (xs : List ℕ) : Type 0 where
-  lines : List (List ℕ)
-  joins : xs ≡ joined lines
-  wholes : Wholes lines
+abbrev WholeLines : List ℕ → Type 0
+WholeLines = OfLines Whole line-whole total-whole
 
-call-lines : (s : State) (xs : List ℕ) (room : ℕ) → OfLines (call s xs room .bytes)
-unfolding call
-call-lines s xs room =
-    of-choice (λ (c : Call). OfLines (c .bytes)) (inRange s)
-    (λ e. record { lines = run s _ .lines; joins = refl; wholes = run-whole s _ }) (λ e. record { lines = []; joins = refl; wholes = tt })
+call-lines : (s : State) (xs : List ℕ) (room : ℕ) → WholeLines (call s xs room .bytes)
+call-lines = call-each Whole line-whole total-whole
 
-texts-on : (xs ys : List ℕ) → OfLines xs → linesText (xs ++ ys) ≡ linesText xs ++ linesText ys
+texts-on : (xs ys : List ℕ) → WholeLines xs → linesText (xs ++ ys) ≡ linesText xs ++ linesText ys
 texts-on xs ys o =
-    rw (o .joins) (lines-on (o .lines) ys (o .wholes) ∙ ap (λ (t : List ℕ). t ++ linesText ys) (sym (lines-all (o .lines) (o .wholes))))
+    rw (o .joins) (lines-on (o .lines) ys (o .each) ∙ ap (λ (t : List ℕ). t ++ linesText ys) (sym (lines-all (o .lines) (o .each))))
 
 -- what the calls print is the text of all their lines, and the last word
 printed-way : (s : State) (xs : List ℕ) (ps : List Part) → printed s xs ps ≡ linesText (way s xs ps .bytes) ++ endText (way s xs ps .state .account)

@@ -17,3 +17,4 @@ pub mod SoFar
 pub mod WholeLines
 pub mod SameLine
 pub mod Warming
+pub mod EachLine
