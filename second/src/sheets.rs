@@ -276,8 +276,10 @@ pub fn sheet(seed: u64, index: u64) -> Vec<u8> {
     }
     let mut bytes = text.into_bytes();
     for _ in 0..dice.below(3) {
-        if let Ok(text) = String::from_utf8(bytes.clone()) {
-            bytes = damaged(&mut dice, &text);
+        // no text is left of one that was cut at its beginning
+        match String::from_utf8(bytes.clone()) {
+            Ok(text) if !text.is_empty() => bytes = damaged(&mut dice, &text),
+            _ => {}
         }
     }
     bytes

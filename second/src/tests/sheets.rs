@@ -71,3 +71,8 @@ fn the_makers_meet_every_answer() {
         .collect();
     assert_eq!(answers.into_iter().collect::<Vec<_>>(), ["refused 20", "refused 21", "refused 23"]);
 }
+
+#[test]
+fn a_sheet_that_was_cut_to_nothing_is_not_damaged_again() {
+    assert!(sheet(1_478_361_860, 199).is_empty());
+}
