@@ -16,7 +16,7 @@ use Rattle.codec.specs.declared.Field.{Field}
 use Rattle.codec.specs.Table.{field, fields, lengthMost, lastKind, isKind}
 use Rattle.codec.specs.Codec.{firstBad}
 use Rattle.account.specs.declared.Account.{Account}
-use Rattle.account.specs.declared.Days.{Days}
+use Rattle.account.specs.declared.Used.{Used}
 use Rattle.account.specs.Judge.{versionOf, kindByte, kindOf, valuesOf, daysOver, partsWrong, grazedOver, RefusedBy}
 use Rattle.account.specs.Compared.{Compared, numbers, outside, rangeOf, valueAt, badField, daysWith, sharesOf, partsOf, grazedWith}
 use Rattle.account.specs.Compared.{valuesCompared, compared}
@@ -100,7 +100,7 @@ version-wrong v k h = go (eqb k 1) refl (eqb-false _ _ (or-l (eqb v 1) _ h)) (or
 
 -- ---- 9 and 10
 
-days-above : (d : Days) (k : ℕ) (v : List ℕ) → daysOver d k v ≡ true → 366 < daysWith d k (getD v 0 0)
+days-above : (d : Used) (k : ℕ) (v : List ℕ) → daysOver d k v ≡ true → 366 < daysWith d k (getD v 0 0)
 days-above d k v = go (eqb k 3) (eqb k 4) (eqb k 5)
   where
     go : (x y z : Bool)
@@ -116,19 +116,19 @@ or-none : (b : Bool) → b || false ≡ true → b ≡ true
 or-none true e = refl
 or-none false e = e
 
-abbrev Together : ℕ → ℕ → List ℕ → Compared → Type 0
-Together g k v x =
+abbrev Together : Used → ℕ → List ℕ → Compared → Type 0
+Together u k v x =
     ((k ≡ 4) × (x ≡ numbers (sharesOf v) 10000) × (x .value ≡ x .limit → ⊥))
-    ⊎ (((k ≡ 5) × (x ≡ numbers (partsOf v) 1000) × (x .limit < x .value)) ⊎ ((k ≡ 10) × (x ≡ numbers (grazedWith g v) 10000) × (x .limit < x .value)))
+    ⊎ (((k ≡ 5) × (x ≡ numbers (partsOf v) 1000) × (x .limit < x .value)) ⊎ ((k ≡ 10) × (x ≡ numbers (grazedWith (u .grazed) v) 10000) × (x .limit < x .value)))
 
 -- the shares, a pig's parts, or the grazed fractions: whichever of the two tests of 10 refuses
-together-wrong : (g k : ℕ) (v : List ℕ) → partsWrong k v || grazedOver g k v ≡ true
-    → Together g k v (pick (eqb k 4) (numbers (sharesOf v) 10000) (pick (eqb k 5) (numbers (partsOf v) 1000) (numbers (grazedWith g v) 10000)))
-together-wrong g k v e = go (eqb k 4) (eqb k 5) (eqb k 10) refl refl refl e
+together-wrong : (u : Used) (k : ℕ) (v : List ℕ) → partsWrong k v || grazedOver u k v ≡ true
+    → Together u k v (pick (eqb k 4) (numbers (sharesOf v) 10000) (pick (eqb k 5) (numbers (partsOf v) 1000) (numbers (grazedWith (u .grazed) v) 10000)))
+together-wrong u k v e = go (eqb k 4) (eqb k 5) (eqb k 10) refl refl refl e
   where
     go : (x y z : Bool) → eqb k 4 ≡ x → eqb k 5 ≡ y → eqb k 10 ≡ z
-        → pick x (not (eqb (sharesOf v) 10000)) (pick y (ltb 1000 (partsOf v)) false) || (z && ltb 10000 (grazedWith g v)) ≡ true
-        → Together g k v (pick x (numbers (sharesOf v) 10000) (pick y (numbers (partsOf v) 1000) (numbers (grazedWith g v) 10000)))
+        → pick x (not (eqb (sharesOf v) 10000)) (pick y (ltb 1000 (partsOf v)) false) || (z && ltb 10000 (grazedWith (u .grazed) v)) ≡ true
+        → Together u k v (pick x (numbers (sharesOf v) 10000) (pick y (numbers (partsOf v) 1000) (numbers (grazedWith (u .grazed) v) 10000)))
     go true y true p q r e = let four : k ≡ 4 = eqb-true _ _ p in let ten : k ≡ 10 = eqb-true _ _ r in absurd (omega arith)
     go true y false p q r e = inl (eqb-true _ _ p, refl, eqb-false _ _ (not-true _ (or-none _ e)))
     go false true true p q r e = let five : k ≡ 5 = eqb-true _ _ q in let ten : k ≡ 10 = eqb-true _ _ r in absurd (omega arith)
@@ -153,8 +153,8 @@ compares-wrongly c a r t =
       place = λ e. rw e refl;
       inRange = λ e. rw e (refl, refl, beyond _ _ _ (field-off k v (eqb-false _ _ (not-true _ (t .values .inRange .1 (sym e))))));
       rising = λ e. rw e (eqb-true _ _ (and-l (eqb k 2) _ (t8 (sym e))), refl, leb-true _ _ (and-r (eqb k 2) _ (t8 (sym e))));
-      days = λ e. rw e (refl, days-above (a .days) k v (t .values .days .1 (sym e)));
-      together = λ e. rw e (together-wrong (a .grazed) k v (t .values .together .1 (sym e)));
+      days = λ e. rw e (refl, days-above (a .used) k v (t .values .days .1 (sym e)));
+      together = λ e. rw e (together-wrong (a .used) k v (t .values .together .1 (sym e)));
       feed = λ e. rw e refl;
       count = λ e. rw e (eqb-true _ _ (and-l (eqb k 8) _ (t12 (sym e))), refl, eqb-false _ _ (not-true _ (and-r (eqb k 8) _ (t12 (sym e)))));
     }

@@ -1,4 +1,4 @@
--- Details: what a detail does only adds, and whether it is refused goes by its heading, the count of records and the running sums of its heading; so
+-- Details: what a detail does only adds, and whether it is refused goes by its heading, the count of records and what is used under it; so
 -- two neighbours may change places.
 -- Assumes nothing.
 use Prim.Native.Nat.{ℕ, _+_, _≤_, _<_}
@@ -16,19 +16,18 @@ use Rattle.grams.specs.Units.{gramsN2o, plusCo2, gramsGrazed}
 use Rattle.grams.specs.declared.units.Co2.{Co2}
 use Rattle.grams.proofs.Carbon.{plus-comm, plus-assoc}
 use Rattle.account.specs.declared.Account.{Account}
-use Rattle.account.specs.declared.Days.{Days}
 use Rattle.account.specs.declared.Figures.{Figures}
 use Rattle.account.specs.declared.Heading.{Heading}
 use Rattle.account.specs.declared.Subtotal.{Subtotal}
 use Rattle.account.specs.Sorts.{Sort, sortOf, bySort}
 use Rattle.account.specs.Figures.{added, grouped, figuresOf}
 use Rattle.account.specs.Line.{lineOf}
-use Rattle.account.specs.Range.{AccountInRange}
-use Rattle.account.specs.Judge.{kindOf, valuesOf, withDetail, headingServes, inPlace, daysAfter, grazedAfter, daysOver, grazedOver, partsWrong}
+use Rattle.account.specs.Range.{UsedMost}
+use Rattle.account.specs.Judge.{kindOf, valuesOf, withDetail, headingServes, inPlace, usedAfter, partsWrong}
 use Rattle.account.specs.Judge.{NotRefused, Step, accepted, judge}
 use Rattle.account.proofs.Sorts.{by-sort, other-kind}
 use Rattle.account.proofs.Refusals.{none-refuses}
-use Rattle.account.proofs.Told.{DaysMost, days-most}
+use Rattle.account.proofs.UsedUp.{Fits, used-swap, fits-within, within-fits, within-before}
 
 -- a kind of details, of the group or of the farm
 abbrev pub DetailKind : ℕ → Type 0
@@ -59,7 +58,7 @@ figuresIn h r = figuresOf h (kindOf r) (valuesOf r)
 -- the account with the detail r
 abbrev pub withRecord : Account → List ℕ → Account
 withRecord a r =
-    withDetail a (daysAfter (a .days) (kindOf r) (valuesOf r)) (grazedAfter (a .grazed) (kindOf r) (valuesOf r))
+    withDetail a (usedAfter (a .used) (kindOf r) (valuesOf r))
     (pick (counts (sortOf (kindOf r))) (grouped (a .subtotal) (figuresIn (a .heading) r)) (a .subtotal))
     (figuresIn (a .heading) r)
 
@@ -109,87 +108,19 @@ subtotal-swap true false s f g = refl
 subtotal-swap false true s f g = refl
 subtotal-swap false false s f g = refl
 
-column-swap : (b c : Bool) (x m n : ℕ) → pick c (pick b (x + m) x + n) (pick b (x + m) x) ≡ pick b (pick c (x + n) x + m) (pick c (x + n) x)
-column-swap true true x m n = plus-swap x m n
-column-swap true false x m n = refl
-column-swap false true x m n = refl
-column-swap false false x m n = refl
-
-days-same : {e e′ n n′ p p′ : ℕ} → e ≡ e′ → n ≡ n′ → p ≡ p′
-    → _≡_ {A = Days} (record { enteric = e; nitrogen = n; pig = p }) (record { enteric = e′; nitrogen = n′; pig = p′ })
-days-same p q r = rw (p, q, r) refl
-
-days-swap : (d : Days) (k l : ℕ) (v w : List ℕ) → daysAfter (daysAfter d k v) l w ≡ daysAfter (daysAfter d l w) k v
-days-swap d k l v w =
-    days-same (column-swap (eqb k 3) (eqb l 3) (d .enteric) (getD v 0 0) (getD w 0 0))
-    (column-swap (eqb k 4) (eqb l 4) (d .nitrogen) (getD v 0 0) (getD w 0 0))
-    (column-swap (eqb k 5) (eqb l 5) (d .pig) (getD v 0 0) (getD w 0 0))
-
 -- two details give the same account in either order
 pub same-account : (a : Account) (r s : List ℕ) → withRecord (withRecord a r) s ≡ withRecord (withRecord a s) r
 same-account a r s =
     rw (
-      days-swap (a .days) (kindOf r) (kindOf s) (valuesOf r) (valuesOf s),
-      column-swap (eqb (kindOf r) 10) (eqb (kindOf s) 10) (a .grazed) (getD (valuesOf r) 3 0) (getD (valuesOf s) 3 0),
+      used-swap (a .used) (kindOf r) (kindOf s) (valuesOf r) (valuesOf s),
       subtotal-swap (counts (sortOf (kindOf r))) (counts (sortOf (kindOf s))) (a .subtotal) (figuresIn (a .heading) r) (figuresIn (a .heading) s),
       added-swap (a .sums) (figuresIn (a .heading) r) (figuresIn (a .heading) s),
     ) refl
 
--- ---- the running sums of a heading, each within its bound
-
-pub record RunningMost (d : Days) (grazed : ℕ) : Type 0 where
-  pub days : DaysMost d
-  pub fraction : grazed ≤ 10000
+-- ---- what is used under a heading, each within its bound
 
 abbrev pub Within : Account → Type 0
-Within a = RunningMost (a .days) (a .grazed)
-
-pub within-range : (a : Account) → AccountInRange a → Within a
-within-range a f = record { days = days-most a f; fraction = f .grazed .most }
-
--- with the values v of kind k none is over
-pub record Fits (d : Days) (g k : ℕ) (v : List ℕ) : Type 0 where
-  pub days : daysOver d k v ≡ false
-  pub grazed : grazedOver g k v ≡ false
-
--- so it is exactly where the sums with them are within
-module _ (d : Days) (g k : ℕ) (v : List ℕ) where
-  pub fits-within : RunningMost d g → Fits d g k v → RunningMost (daysAfter d k v) (grazedAfter g k v)
-  fits-within w f =
-      record {
-        days = record {
-          enteric = of-choice (λ (n : ℕ). n ≤ 366) (eqb k 3) (λ q. ltb-false _ _ (rw (eqb-true k 3 q) at (f .days))) (λ q. w .days .enteric);
-          nitrogen = of-choice (λ (n : ℕ). n ≤ 366) (eqb k 4) (λ q. ltb-false _ _ (rw (eqb-true k 4 q) at (f .days))) (λ q. w .days .nitrogen);
-          pig = of-choice (λ (n : ℕ). n ≤ 366) (eqb k 5) (λ q. ltb-false _ _ (rw (eqb-true k 5 q) at (f .days))) (λ q. w .days .pig);
-        };
-        fraction = of-choice (λ (n : ℕ). n ≤ 10000) (eqb k 10) (λ q. ltb-false _ _ (rw (eqb-true k 10 q) at (f .grazed))) (λ q. w .fraction);
-      }
-
-  within-fits : RunningMost (daysAfter d k v) (grazedAfter g k v) → Fits d g k v
-  within-fits w =
-      record {
-        days =
-            of-choice (λ (b : Bool). b ≡ false) (eqb k 3) (λ q. le-ltb _ _ (rw q at (w .days .enteric)))
-            (λ q. of-choice (λ (b : Bool). b ≡ false) (eqb k 4) (λ q. le-ltb _ _ (rw q at (w .days .nitrogen)))
-            (λ q. of-choice (λ (b : Bool). b ≡ false) (eqb k 5) (λ q. le-ltb _ _ (rw q at (w .days .pig))) (λ q. refl)));
-        grazed = by-test (eqb k 10) (λ q. rw q (le-ltb _ _ (rw q at (w .fraction)))) (λ q. rw q refl);
-      }
-
-  -- and they were without them
-  within-before : RunningMost (daysAfter d k v) (grazedAfter g k v) → RunningMost d g
-  within-before w =
-      record {
-        days = record {
-          enteric = less (eqb k 3) _ _ 366 (w .days .enteric);
-          nitrogen = less (eqb k 4) _ _ 366 (w .days .nitrogen);
-          pig = less (eqb k 5) _ _ 366 (w .days .pig);
-        };
-        fraction = less (eqb k 10) _ _ 10000 (w .fraction);
-      }
-    where
-      less : (b : Bool) (x m most : ℕ) → pick b (x + m) x ≤ most → x ≤ most
-      less true x m most h = omega arith
-      less false x m most h = h
+Within a = UsedMost (a .used)
 
 -- ---- a detail that is accepted after some records is accepted after others
 
@@ -198,7 +129,7 @@ record Found (a : Account) (r : List ℕ) : Type 0 where
   room : a .records < 4096
   begun : 1 ≤ a .records
   serves : headingServes (a .heading .class) (kindOf r) ≡ true
-  fits : Fits (a .days) (a .grazed) (kindOf r) (valuesOf r)
+  fits : Fits (a .used) (kindOf r) (valuesOf r)
 
 -- in its place: the heading serves, and there is a record before it
 in-place : (a : Account) (k : ℕ) → DetailKind k → inPlace a k ≡ headingServes (a .heading .class) k && not (eqb (a .records) 0)
@@ -218,7 +149,7 @@ found a r d t =
 
 -- under the same heading, with room for one record more, where it fits
 accepted-too : (a b : Account) (r : List ℕ) → DetailKind (kindOf r) → b .heading ≡ a .heading → 1 ≤ b .records → b .records < 4096
-    → NotRefused a r → Fits (b .days) (b .grazed) (kindOf r) (valuesOf r) → NotRefused b r
+    → NotRefused a r → Fits (b .used) (kindOf r) (valuesOf r) → NotRefused b r
 unfolding sortOf
 accepted-too a b r d h begun room t f =
     let some : b .records ≡ 0 → ⊥ = λ z. omega (arith, z) in
@@ -238,26 +169,26 @@ accepted-too a b r d h begun room t f =
       };
     }
 
--- the running sums stay within
+-- what is used stays within
 pub within-after : (a : Account) (r : List ℕ) → DetailKind (kindOf r) → Within a → NotRefused a r → Within (withRecord a r)
-within-after a r d w t = fits-within (a .days) (a .grazed) (kindOf r) (valuesOf r) w (found a r d t .fits)
+within-after a r d w t = fits-within (a .used) (kindOf r) (valuesOf r) w (found a r d t .fits)
 
 -- ---- two neighbours change places
 
 module _ (a : Account) (r s : List ℕ) (dr : DetailKind (kindOf r)) (ds : DetailKind (kindOf s)) (w : Within a)
     (tr : NotRefused a r) (ts : NotRefused (withRecord a r) s) where
-  -- with both of them the sums are within, in either order
+  -- with both of them what is used is within, in either order
   within-both : Within (withRecord (withRecord a s) r)
   within-both = subst Within (same-account a r s) (within-after (withRecord a r) s ds (within-after a r dr w tr) ts)
 
   pub second-first : NotRefused a s
   second-first =
       let f = found a r dr tr in
-      let b = within-before (withRecord a s .days) (withRecord a s .grazed) (kindOf r) (valuesOf r) within-both in
-      accepted-too (withRecord a r) a s ds refl (f .begun) (f .room) ts (within-fits (a .days) (a .grazed) (kindOf s) (valuesOf s) b)
+      let b = within-before (withRecord a s .used) (kindOf r) (valuesOf r) within-both in
+      accepted-too (withRecord a r) a s ds refl (f .begun) (f .room) ts (within-fits (a .used) (kindOf s) (valuesOf s) b)
 
   pub first-second : NotRefused (withRecord a s) r
   first-second =
       let f = found (withRecord a r) s ds ts in
       accepted-too a (withRecord a s) r dr refl (f .begun) (f .room) tr
-      (within-fits (withRecord a s .days) (withRecord a s .grazed) (kindOf r) (valuesOf r) within-both)
+      (within-fits (withRecord a s .used) (kindOf r) (valuesOf r) within-both)

@@ -19,74 +19,46 @@ use Rattle.codec.proofs.Within.{bad-position}
 use Rattle.line_bytes.specs.Lines.{lineSize, totalSize, linesMost}
 use Rattle.grams.specs.declared.farm.Factors.{Factors}
 use Rattle.account.specs.declared.Account.{Account}
-use Rattle.account.specs.declared.Days.{Days}
 use Rattle.account.specs.declared.Figures.{Figures}
+use Rattle.account.specs.declared.Heading.{Heading}
 use Rattle.account.specs.declared.Subtotal.{Subtotal}
+use Rattle.account.specs.declared.Used.{Used}
 use Rattle.account.specs.Sorts.{isFarm, heads, ofGroup, ofFarm, sortOf}
 use Rattle.account.specs.Figures.{figuresOf, grouped, groupFigures}
 use Rattle.account.specs.Line.{joined, lineWith, lineOf, subtotals, totalOf}
-use Rattle.account.specs.Range.{FactorIn, Headed, Unheaded, Grouped, Ungrouped, Unrefused, GrazedIn, AccountInRange}
+use Rattle.account.specs.Range.{UsedMost, Under, AccountInRange}
 use Rattle.account.specs.Judge.{versionOf, kindByte, kindOf, valuesOf, noRecord, refused, opened, underHeading, withDetail, closed}
-use Rattle.account.specs.Judge.{farmFactors, headingServes, inPlace, daysAfter, grazedAfter, partsWrong, refusals, withLine}
+use Rattle.account.specs.Judge.{farmFactors, headingServes, inPlace, usedAfter, partsWrong, refusals, withLine}
 use Rattle.account.specs.Judge.{first, ValuesPass, Step, accepted, judge}
 use Rattle.account.specs.Told.{Small}
 use Rattle.account.proofs.Sorts.{by-sort, sort-farm, heads-two, of-group, not-of-group}
-use Rattle.account.proofs.Sums.{bounded-none, bounded-next, bounded-added, grouped-none}
-use Rattle.account.proofs.Sums.{ungrouped-none, grouped-next, grouped-added}
+use Rattle.account.proofs.Sums.{bounded-none, bounded-next, bounded-added, grouped-added}
+use Rattle.account.proofs.Started.{started-none, started-refused, started-opened, started-next, started-closed}
+use Rattle.account.proofs.UsedUp.{fits-within}
+use Rattle.account.proofs.Under.{under-nothing, under-next, under-headed, under-more}
+use Rattle.account.proofs.Ended.{ended-none, ended-refused, ended-on}
 use Rattle.account.proofs.Refusals.{passed, not-refused, refused-by, number-most}
 use Rattle.account.proofs.Ranges.{factors-in, heading-in}
-use Rattle.account.proofs.Details.{DetailKind, RunningMost, within-range, fits-within}
+use Rattle.account.proofs.Details.{DetailKind}
 use Rattle.account.proofs.EachFigure.{figures-small}
-use Rattle.account.proofs.Told.{head-most, line-long, total-long, both-long}
+use Rattle.account.proofs.Told.{head-most, used-most, line-long, total-long, both-long}
 
 -- ---- an account in range
 
 pub stage-most : (a : Account) → AccountInRange a → a .stage ≤ 3
-stage-most a f = f .counted .stage-most
+stage-most a f = f .started .counted .stage-most
 
 pub in-range-none : AccountInRange noRecord
-in-range-none =
-    record {
-      counted =
-          record {
-            stage-most = omega arith;
-            records-most = omega arith;
-            in-zero = λ e. refl;
-            in-one = λ e. absurd (omega arith);
-            in-two = λ e. absurd (omega arith);
-          };
-      ch4-factor = record { most = omega arith; none = λ e. refl; some = λ e. refl };
-      n2o-factor = record { most = omega arith; none = λ e. refl; some = λ e. refl };
-      heading = inr (record { group = refl; class = refl; head = refl; enteric = refl; nitrogen = refl; pig = refl });
-      sums = bounded-none 0;
-      grouped = grouped-none 0;
-      ungrouped = λ e. ungrouped-none;
-      refused = λ e. absurd (omega arith);
-      unrefused = λ e. record { code = refl; accepted = refl; field = refl };
-      grazed = record { most = omega arith; none = λ e. refl };
-    }
+in-range-none = record { started = started-none; sums = bounded-none 0; under = under-nothing; ended = ended-none }
 
 in-range-refused : (a : Account) (code field : ℕ) → AccountInRange a → 1 ≤ code → code ≤ 12 → field ≤ 12 → (code ≡ 7 → 1 ≤ field)
     → ((code ≡ 7 → ⊥) → field ≡ 0) → AccountInRange (refused a code field)
 in-range-refused a code field f low high most some none =
     record {
-      counted =
-          record {
-            stage-most = omega arith;
-            records-most = f .counted .records-most;
-            in-zero = λ e. absurd (omega arith);
-            in-one = λ e. absurd (omega arith);
-            in-two = λ e. absurd (omega arith);
-          };
-      ch4-factor = f .ch4-factor;
-      n2o-factor = f .n2o-factor;
-      heading = f .heading;
+      started = started-refused (f .started);
       sums = f .sums;
-      grouped = f .grouped;
-      ungrouped = f .ungrouped;
-      refused = λ e. record { code-least = low; code-most = high; accepted = refl; field-most = most; field-some = some; field-none = none };
-      unrefused = λ n. absurd (n refl);
-      grazed = f .grazed;
+      under = f .under;
+      ended = ended-refused code field (a .records) low high most some none;
     }
 
 -- a length outside 4..26
@@ -132,38 +104,13 @@ class-least k class e = go (eqb k 3) (eqb k 4) (eqb k 5) (eqb k 10) (of-group k 
     go false false false false g s = no-bool g
 
 module _ (a : Account) (f : AccountInRange a) (early : a .stage < 2) where
-  not-three : a .stage ≡ 3 → ⊥
-  not-three e = omega arith
-
-  zeros : Unrefused (a .refusal)
-  zeros = f .unrefused not-three
-
-  -- a farm record's factor, with one record
-  first-factor : (factor : ℕ) → 1 ≤ factor → factor ≤ 1000 → FactorIn factor (a .records + 1)
-  first-factor factor low high = record { most = high; none = λ e. absurd (omega arith); some = λ e. absurd (omega arith) }
-
   in-range-opened : (w : Factors) → 1 ≤ w .ch4 → w .ch4 ≤ 1000 → 1 ≤ w .n2o → w .n2o ≤ 1000 → a .records ≡ 0 → AccountInRange (opened a w)
   in-range-opened w c1 c2 n1 n2 none =
       record {
-        counted =
-            record {
-              stage-most = omega arith;
-              records-most = omega arith;
-              in-zero = λ e. absurd (omega arith);
-              in-one = λ e. omega arith;
-              in-two = λ e. absurd (omega arith);
-            };
-        ch4-factor = first-factor (w .ch4) c1 c2;
-        n2o-factor = first-factor (w .n2o) n1 n2;
-        heading =
-            ⊎-elim (λ (h : Headed (a .heading) (a .days) (a .records)). absurd (omega arith)) (λ (u : Unheaded (a .heading) (a .days)). inr u)
-            (f .heading);
+        started = started-opened (a .records) w c1 c2 n1 n2 none;
         sums = bounded-next (f .sums);
-        grouped = grouped-next (f .grouped);
-        ungrouped = f .ungrouped;
-        refused = λ e. absurd (omega arith);
-        unrefused = λ e. zeros;
-        grazed = f .grazed;
+        under = under-next (f .under);
+        ended = ended-on (f .ended) early _ _ (omega arith);
       }
 
   -- a record that is not the first: its heading serves, and there is a record before it
@@ -178,125 +125,33 @@ module _ (a : Account) (f : AccountInRange a) (early : a .stage < 2) where
 
   -- from the second record on
   module _ (begun : 1 ≤ a .records) (room : a .records < 4096) where
-    factor-on : (factor : ℕ) → FactorIn factor (a .records) → FactorIn factor (a .records + 1)
-    factor-on factor w = record { most = w .most; none = λ e. let z = w .none e in absurd (omega arith); some = λ e. absurd (omega arith) }
-
-    in-range-heading : (group class head : ℕ) → 1 ≤ group → group ≤ 65535 → 1 ≤ class → class ≤ 4 → head ≤ 20000
-        → AccountInRange (underHeading a group class head)
-    in-range-heading group class head g1 g2 c1 c2 h =
+    in-range-heading : (h : Heading) → 1 ≤ h .group → h .group ≤ 65535 → 1 ≤ h .class → h .class ≤ 4 → h .head ≤ 20000
+        → AccountInRange (underHeading a (h .group) (h .class) (h .head))
+    in-range-heading h g1 g2 c1 c2 most =
         record {
-          counted =
-              record {
-                stage-most = omega arith;
-                records-most = omega arith;
-                in-zero = λ e. let z = f .counted .in-zero e in absurd (omega arith);
-                in-one = λ e. omega arith;
-                in-two = λ e. absurd (omega arith);
-              };
-          ch4-factor = factor-on _ (f .ch4-factor);
-          n2o-factor = factor-on _ (f .n2o-factor);
-          heading = inl (record {
-            group-least = g1;
-            group-most = g2;
-            class-least = c1;
-            class-most = c2;
-            head-most = h;
-            enteric-most = omega arith;
-            nitrogen-most = omega arith;
-            pig-most = omega arith;
-            records-least = omega arith;
-          });
+          started = started-next (f .started) begun room early;
           sums = bounded-next (f .sums);
-          grouped = grouped-none _;
-          ungrouped = λ e. ungrouped-none;
-          refused = λ e. absurd (not-three e);
-          unrefused = λ e. zeros;
-          grazed = record { most = omega arith; none = λ e. refl };
+          under = under-headed h (a .records) g1 g2 c1 c2 most begun;
+          ended = ended-on (f .ended) early _ _ (omega arith);
         }
-
-    headed-on : Headed (a .heading) (a .days) (a .records) → (d : Days) → d .enteric ≤ 366 → d .nitrogen ≤ 366 → d .pig ≤ 366
-        → Headed (a .heading) d (a .records + 1)
-    headed-on h d e n p =
-        record {
-          group-least = h .group-least;
-          group-most = h .group-most;
-          class-least = h .class-least;
-          class-most = h .class-most;
-          head-most = h .head-most;
-          enteric-most = e;
-          nitrogen-most = n;
-          pig-most = p;
-          records-least = omega arith;
-        }
-
-    -- with the days as they were
-    heading-on : Headed (a .heading) (a .days) (a .records + 1) ⊎ Unheaded (a .heading) (a .days)
-    heading-on =
-        ⊎-elim (λ (h : Headed (a .heading) (a .days) (a .records)). inl (headed-on h (a .days) (h .enteric-most) (h .nitrogen-most) (h .pig-most)))
-        (λ (u : Unheaded (a .heading) (a .days)). inr u) (f .heading)
-
-    -- a class means a heading
-    headed-by : 1 ≤ a .heading .class → Headed (a .heading) (a .days) (a .records)
-    headed-by c =
-        ⊎-elim (λ (h : Headed (a .heading) (a .days) (a .records)). h) (λ (u : Unheaded (a .heading) (a .days)). absurd (omega arith)) (f .heading)
 
     in-range-closed : AccountInRange (closed a)
     in-range-closed =
         record {
-          counted =
-              record {
-                stage-most = omega arith;
-                records-most = omega arith;
-                in-zero = λ e. absurd (omega arith);
-                in-one = λ e. absurd (omega arith);
-                in-two = λ e. omega arith;
-              };
-          ch4-factor = factor-on _ (f .ch4-factor);
-          n2o-factor = factor-on _ (f .n2o-factor);
-          heading = heading-on;
+          started = started-closed (f .started) begun room;
           sums = bounded-next (f .sums);
-          grouped = grouped-next (f .grouped);
-          ungrouped = f .ungrouped;
-          refused = λ e. absurd (omega arith);
-          unrefused = λ e. zeros;
-          grazed = f .grazed;
+          under = under-next (f .under);
+          ended = ended-on (f .ended) early _ _ (omega arith);
         }
 
-    in-range-detail : (d : Days) (z : ℕ) (t : Subtotal) (g : Figures) → Small g → Headed (a .heading) d (a .records + 1) ⊎ Unheaded (a .heading) d
-        → Grouped t (a .records + 1)
-        → (a .heading .group ≡ 0 → Ungrouped t) → GrazedIn (a .heading .group) z → AccountInRange (withDetail a d z t g)
-    in-range-detail d z t g small h grouped ungrouped grazed-in =
+    in-range-detail : (u : Used) (t : Subtotal) (g : Figures) → Small g → Under (a .heading) u t (a .records + 1) → AccountInRange (withDetail a u t g)
+    in-range-detail u t g small under =
         record {
-          counted =
-              record {
-                stage-most = omega arith;
-                records-most = omega arith;
-                in-zero = λ e. let z = f .counted .in-zero e in absurd (omega arith);
-                in-one = λ e. omega arith;
-                in-two = λ e. absurd (omega arith);
-              };
-          ch4-factor = factor-on _ (f .ch4-factor);
-          n2o-factor = factor-on _ (f .n2o-factor);
-          heading = h;
+          started = started-next (f .started) begun room early;
           sums = bounded-added (f .sums) small;
-          grouped = grouped;
-          ungrouped = ungrouped;
-          refused = λ e. absurd (not-three e);
-          unrefused = λ e. zeros;
-          grazed = grazed-in;
+          under = under;
+          ended = ended-on (f .ended) early _ _ (omega arith);
         }
-
-    -- under a heading the subtotal takes the figures too
-    in-range-grouped : (d : Days) (z : ℕ) (g : Figures) → Small g → z ≤ 10000 → Headed (a .heading) d (a .records + 1)
-        → AccountInRange (withDetail a d z (grouped (a .subtotal) g) g)
-    in-range-grouped d z g small most h =
-        in-range-detail d z _ g small (inl h) (grouped-added (f .grouped) small) (λ e. let least = h .group-least in absurd (omega arith))
-        (record { most = most; none = λ e. let least = h .group-least in absurd (omega arith) })
-
-    -- without one it stays
-    in-range-farm : (g : Figures) → Small g → AccountInRange (withDetail a (a .days) (a .grazed) (a .subtotal) g)
-    in-range-farm g small =
-        in-range-detail (a .days) (a .grazed) (a .subtotal) g small heading-on (grouped-next (f .grouped)) (f .ungrouped) (f .grazed)
 
     -- ---- a detail, by its sort
 
@@ -304,21 +159,21 @@ module _ (a : Account) (f : AccountInRange a) (early : a .stage < 2) where
       detail-small : DetailKind k → Small (figuresOf (a .heading) k v)
       detail-small d = figures-small (a .heading) v (head-most a f) k row d (passed a k v c .ranges) (or-l _ _ (c .together))
 
-      -- the days and the grazed fraction with it
-      running : RunningMost (daysAfter (a .days) k v) (grazedAfter (a .grazed) k v)
-      running =
-          fits-within (a .days) (a .grazed) k v (within-range a f) (record { days = c .days; grazed = or-r (partsWrong k v) _ (c .together) })
+      used-with : UsedMost (usedAfter (a .used) k v)
+      used-with = fits-within (a .used) k v (used-most a f) (record { days = c .days; grazed = or-r (partsWrong k v) _ (c .together) })
 
+      -- under a heading the subtotal takes the figures too
       detail-of-group : sortOf k ≡ ofGroup → Kept (withLine a k v (grouped (a .subtotal) (figuresOf (a .heading) k v)))
       detail-of-group e =
-          let h = headed-by (class-least k _ e (and-l (headingServes (a .heading .class) k) _ (placed k v c (rw e at (sort-farm k))))) in
-          in-range-grouped _ _ _ (detail-small (rw e refl)) (running .fraction)
-          (headed-on h _ (running .days .enteric) (running .days .nitrogen) (running .days .pig))
+          let class = class-least k _ e (and-l (headingServes (a .heading .class) k) _ (placed k v c (rw e at (sort-farm k)))) in
+          let small = detail-small (rw e refl) in
+          in-range-detail _ _ _ small (under-more (f .under) _ _ class used-with (grouped-added (f .under .grouped) small))
 
+      -- without one it stays
       detail-of-farm : sortOf k ≡ ofFarm → Kept (withLine a k v (a .subtotal))
       detail-of-farm e =
           let q = not-of-group k e in
-          rw (q .0, q .1 .0, q .1 .1 .0, q .1 .1 .1) (in-range-farm (figuresOf (a .heading) k v) (detail-small (rw e refl)))
+          rw (q .0, q .1 .0, q .1 .1 .0, q .1 .1 .1) (in-range-detail _ _ _ (detail-small (rw e refl)) (under-next (f .under)))
 
   -- ---- by its sort
 
@@ -336,8 +191,9 @@ module _ (a : Account) (f : AccountInRange a) (early : a .stage < 2) where
   kept-heading : (k : ℕ) (v : List ℕ) → ValuesPass a k v → sortOf k ≡ heads → AccountInRange (underHeading a (getD v 0 0) (getD v 1 0) (getD v 2 0))
   kept-heading k v c e =
       let i = heading-in v (rw (heads-two k e) at (passed a k v c .ranges)) in
-      in-range-heading (after-first k v c (rw e at (sort-farm k))) (passed a k v c .room) _ _ _ (i .group-least) (i .group-most) (i .class-least)
-      (i .class-most) (i .head-most)
+      in-range-heading (after-first k v c (rw e at (sort-farm k))) (passed a k v c .room)
+      (record { group = getD v 0 0; class = getD v 1 0; head = getD v 2 0 }) (i .group-least) (i .group-most) (i .class-least) (i .class-most)
+      (i .head-most)
 
   pub in-range-accepted : (k : ℕ) (v : List ℕ) → ValuesPass a k v → isRow k ≡ true → Kept (accepted a k v)
   unfolding accepted

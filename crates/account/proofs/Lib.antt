@@ -6,8 +6,12 @@ pub mod Told
 pub mod Refusals
 pub mod Compares
 pub mod Written
+mod Started
+mod UsedUp
+pub mod Under
+mod Ended
 pub mod Clauses
-mod Shortcuts
+pub mod AsNumbers
 pub mod Details
 pub mod EachFigure
 pub mod Keeps

@@ -25,8 +25,8 @@ valuesByNumber a k v =
     ∷ (outOfPlace a k, 6)
     ∷ (outOfRange k v, 7)
     ∷ (notRising a k v, 8)
-    ∷ (daysOver (a .days) k v, 9)
-    ∷ (partsWrong k v || grazedOver (a .grazed) k v, 10)
+    ∷ (daysOver (a .used) k v, 9)
+    ∷ (partsWrong k v || grazedOver (a .used) k v, 10)
     ∷ (feedBelow k v, 11)
     ∷ (wrongCount a k v, 12)
     ∷ []
@@ -46,7 +46,7 @@ values-same-first a k v =
     (first-behind _ 7 _ _
     (first-behind _ 8 _ _
     (first-behind _ 9 _ _
-    (first-either (partsWrong k v) (grazedOver (a .grazed) k v) 10 _ _ refl)))))
+    (first-either (partsWrong k v) (grazedOver (a .used) k v) 10 _ _ refl)))))
 
 same-first : (a : Account) (r : List ℕ) → first (refusals a r) ≡ first (byNumber a r)
 same-first a r = first-behind _ 2 _ _ (first-behind _ 3 _ _ (first-behind _ 4 _ _ (values-same-first a (kindOf r) (valuesOf r))))

@@ -27,43 +27,34 @@ use Rattle.grams.specs.declared.cattle.CattleNitrogen.the-variants.{BelowZero, 
 use Rattle.grams.specs.declared.pig.PigRation.{PigRation}
 use Rattle.grams.specs.declared.pig.PigManure.{PigManure}
 use Rattle.account.specs.declared.Account.{Account}
-use Rattle.account.specs.declared.Days.{Days}
 use Rattle.account.specs.declared.Figures.{Figures}
 use Rattle.account.specs.declared.Subtotal.{Subtotal}
+use Rattle.account.specs.declared.Used.{Used}
 use Rattle.account.specs.declared.Judged.{Judged}
 use Rattle.account.specs.Figures.{listed, groupFigures, ch4Alone, co2Alone, grazingAlone, cattleFigures, pigFigures}
 use Rattle.account.specs.Line.{joined, bytesOf, lineWith, totalWith, co2eIn, subtotals, totalOf}
-use Rattle.account.specs.Range.{Headed, Unheaded, Bounded, Grouped, AccountInRange}
+use Rattle.account.specs.Range.{UsedMost, Bounded, Grouped, AccountInRange}
 use Rattle.account.specs.Judge.{wrongVersion, wrongKind, judge, first, inPlace, notRising, daysOver, partsWrong, grazedOver, feedBelow}
 use Rattle.account.specs.Judge.{wrongCount, valueRefusals}
 use Rattle.account.specs.Judge.{refused, underHeading, withDetail, closed, Step, accepted, weigh}
 use Rattle.account.specs.Told.{Tells, TellsIn, inRoom, Kind, Small, noLine, quiet, refusing, detailing, heading, closing}
 use Rattle.account.proofs.Sums.{ch4-small, co2-small, grazing-small, cattle-small, pig-small, bounded-more, grouped-more}
+use Rattle.account.proofs.Under.{head-in, used-in}
 use Rattle.account.proofs.First.{three-clear, three-first}
 
 -- ---- an account in range, in what the arithmetic asks
 
 pub head-most : (a : Account) → AccountInRange a → a .heading .head ≤ 20000
-head-most a f =
-    ⊎-elim (λ (h : Headed (a .heading) (a .days) (a .records)). h .head-most) (λ (u : Unheaded (a .heading) (a .days)). omega arith) (f .heading)
+head-most a f = head-in (f .under)
 
-pub record DaysMost (d : Days) : Type 0 where
-  pub enteric : d .enteric ≤ 366
-  pub nitrogen : d .nitrogen ≤ 366
-  pub pig : d .pig ≤ 366
-
-pub days-most : (a : Account) → AccountInRange a → DaysMost (a .days)
-days-most a f =
-    ⊎-elim
-    (λ (h : Headed (a .heading) (a .days) (a .records)). record { enteric = h .enteric-most; nitrogen = h .nitrogen-most; pig = h .pig-most })
-    (λ (u : Unheaded (a .heading) (a .days)). record { enteric = omega arith; nitrogen = omega arith; pig = omega arith })
-    (f .heading)
+pub used-most : (a : Account) → AccountInRange a → UsedMost (a .used)
+used-most a f = used-in (f .under)
 
 pub sums-most : (a : Account) → AccountInRange a → Bounded (a .sums) 4096
-sums-most a f = bounded-more (f .counted .records-most) (f .sums)
+sums-most a f = bounded-more (f .started .counted .records-most) (f .sums)
 
 pub subtotal-most : (a : Account) → AccountInRange a → Grouped (a .subtotal) 4096
-subtotal-most a f = grouped-more (f .counted .records-most) (f .grouped)
+subtotal-most a f = grouped-more (f .started .counted .records-most) (f .under .grouped)
 
 -- ---- figures of one line
 
@@ -123,10 +114,10 @@ pub tells-quiet : (a : Account) → Tells (step a []) (quiet a)
 unfolding bytesOf
 tells-quiet a = record { account = refl; bytes = refl; long = refl; short = omega arith }
 
-pub tells-detail : (a : Account) (kind group : ℕ) (days : Days) (grazed : ℕ) (s : Subtotal) (f : Figures)
-    → Tells (step (withDetail a days grazed s f) (lineWith kind group f ∷ [])) (detailing a kind group days grazed s f)
+pub tells-detail : (a : Account) (kind group : ℕ) (u : Used) (s : Subtotal) (f : Figures)
+    → Tells (step (withDetail a u s f) (lineWith kind group f ∷ [])) (detailing a kind group u s f)
 unfolding bytesOf
-tells-detail a kind group days grazed s f =
+tells-detail a kind group u s f =
     record { account = refl; bytes = sym (append-nil _); long = line-long _ _ _; short = omega arith }
 
 -- a new heading: the subtotal of the last one, where there was one
@@ -221,9 +212,9 @@ module _ {room : ℕ} {a : Account} {s : Step} {r : Judged} (t : TellsIn room a 
 abbrev pub laterRefusals : Account → ℕ → List ℕ → List (Bool × ℕ)
 laterRefusals a k v =
     (notRising a k v, 8)
-    ∷ (daysOver (a .days) k v, 9)
+    ∷ (daysOver (a .used) k v, 9)
     ∷ (partsWrong k v, 10)
-    ∷ (grazedOver (a .grazed) k v, 10)
+    ∷ (grazedOver (a .used) k v, 10)
     ∷ (feedBelow k v, 11)
     ∷ (wrongCount a k v, 12)
     ∷ []

@@ -13,7 +13,7 @@ use Rattle.codec.specs.declared.Field.{Field}
 use Rattle.codec.specs.Table.{field, fields, lengthOf, lengthMost, lastKind}
 use Rattle.codec.specs.Codec.{valAt, firstBad}
 use Rattle.account.specs.declared.Account.{Account}
-use Rattle.account.specs.declared.Days.{Days}
+use Rattle.account.specs.declared.Used.{Used}
 use Rattle.account.specs.Judge.{versionOf, kindByte, kindOf, valuesOf}
 
 -- two numbers that are compared, where there are any: the value and the limit
@@ -43,8 +43,8 @@ abbrev pub valueAt : List ℕ → ℕ → ℕ
 valueAt v position = getD v (position - 1) 0
 
 -- the days of kind k, 3, 4 or 5, with so many more
-abbrev pub daysWith : Days → ℕ → ℕ → ℕ
-daysWith d k more = pick (eqb k 3) (d .enteric + more) (pick (eqb k 4) (d .nitrogen + more) (d .pig + more))
+abbrev pub daysWith : Used → ℕ → ℕ → ℕ
+daysWith u k more = pick (eqb k 3) (u .enteric + more) (pick (eqb k 4) (u .nitrogen + more) (u .pig + more))
 
 -- cattle shares together; a pig's parts together
 abbrev pub sharesOf : List ℕ → ℕ
@@ -62,8 +62,8 @@ unfoldable pub valuesCompared : ℕ → Account → ℕ → List ℕ → Compare
 valuesCompared c a k v =
     pick (eqb c 7) (outside (rangeOf k (badField k v) .1) (rangeOf k (badField k v) .2) (valueAt v (badField k v)))
     (pick (eqb c 8) (numbers (getD v 0 0) (a .heading .group))
-    (pick (eqb c 9) (numbers (daysWith (a .days) k (getD v 0 0)) 366)
-    (pick (eqb c 10) (pick (eqb k 4) (numbers (sharesOf v) 10000) (pick (eqb k 5) (numbers (partsOf v) 1000) (numbers (grazedWith (a .grazed) v) 10000)))
+    (pick (eqb c 9) (numbers (daysWith (a .used) k (getD v 0 0)) 366)
+    (pick (eqb c 10) (pick (eqb k 4) (numbers (sharesOf v) 10000) (pick (eqb k 5) (numbers (partsOf v) 1000) (numbers (grazedWith (a .used .grazed) v) 10000)))
     (pick (eqb c 12) (numbers (getD v 0 0) (a .records)) noNumbers))))
 
 -- what the test with the number c compares, of the bytes r of a record; for 1 its length is enough
@@ -106,10 +106,10 @@ pub record ComparesWrongly (c : ℕ) (a : Account) (r : List ℕ) (x : Compared)
       × (x .value ≡ valueAt (valuesOf r) position)
       × BeyondEnd (rangeOf (kindOf r) position .1) (rangeOf (kindOf r) position .2) x
   pub rising : c ≡ 8 → (kindOf r ≡ 2) × (x ≡ numbers (getD (valuesOf r) 0 0) (a .heading .group)) × NotAbove x
-  pub days : c ≡ 9 → (x ≡ numbers (daysWith (a .days) (kindOf r) (getD (valuesOf r) 0 0)) 366) × Above x
+  pub days : c ≡ 9 → (x ≡ numbers (daysWith (a .used) (kindOf r) (getD (valuesOf r) 0 0)) 366) × Above x
   pub together : c ≡ 10
       → ((kindOf r ≡ 4) × (x ≡ numbers (sharesOf (valuesOf r)) 10000) × Unequal x)
       ⊎ (((kindOf r ≡ 5) × (x ≡ numbers (partsOf (valuesOf r)) 1000) × Above x)
-      ⊎ ((kindOf r ≡ 10) × (x ≡ numbers (grazedWith (a .grazed) (valuesOf r)) 10000) × Above x))
+      ⊎ ((kindOf r ≡ 10) × (x ≡ numbers (grazedWith (a .used .grazed) (valuesOf r)) 10000) × Above x))
   pub feed : c ≡ 11 → x ≡ noNumbers
   pub count : c ≡ 12 → (kindOf r ≡ 8) × (x ≡ numbers (getD (valuesOf r) 0 0) (a .records)) × Unequal x

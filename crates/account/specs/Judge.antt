@@ -13,9 +13,10 @@ use Rattle.grams.specs.Cattle.{belowZero}
 use Rattle.grams.specs.Farm.{setFactors}
 use Rattle.grams.specs.declared.farm.Factors.{Factors}
 use Rattle.account.specs.declared.Account.{Account}
-use Rattle.account.specs.declared.Days.{Days}
 use Rattle.account.specs.declared.Figures.{Figures}
+use Rattle.account.specs.declared.Refusal.{Refusal}
 use Rattle.account.specs.declared.Subtotal.{Subtotal}
+use Rattle.account.specs.declared.Used.{Used}
 use Rattle.account.specs.Sorts.{isFarm, sortOf, bySort}
 use Rattle.account.specs.Figures.{noFigures, noSubtotal, added, grouped, cattleRation, figuresOf}
 use Rattle.account.specs.Line.{lineOf, subtotals, totalOf}
@@ -43,9 +44,9 @@ valuesOf r = valuesAt (fields (kindOf r)) r 4
 
 -- ---- accounts made of accounts
 
--- no days yet
-abbrev pub noDays : Days
-noDays = record { enteric = 0; nitrogen = 0; pig = 0 }
+-- nothing used yet
+abbrev pub noneUsed : Used
+noneUsed = record { enteric = 0; nitrogen = 0; pig = 0; grazed = 0 }
 
 -- before any record
 abbrev pub noRecord : Account
@@ -55,27 +56,29 @@ noRecord =
       records = 0;
       factors = record { ch4 = 0; n2o = 0 };
       heading = record { group = 0; class = 0; head = 0 };
-      days = noDays;
       subtotal = noSubtotal;
+      used = noneUsed;
       sums = noFigures;
       refusal = record { code = 0; accepted = 0; field = 0 };
-      grazed = 0;
+    }
+
+-- at another stage, with so many records and this refusal; all the rest is kept
+abbrev pub standing : Account → ℕ → ℕ → Refusal → Account
+standing a stage records refusal =
+    record {
+      stage = stage;
+      records = records;
+      factors = a .factors;
+      heading = a .heading;
+      subtotal = a .subtotal;
+      used = a .used;
+      sums = a .sums;
+      refusal = refusal;
     }
 
 -- refused: code, records accepted so far and field are stored, all the rest is kept
 abbrev pub refused : Account → ℕ → ℕ → Account
-refused a code field =
-    record {
-      stage = 3;
-      records = a .records;
-      factors = a .factors;
-      heading = a .heading;
-      days = a .days;
-      subtotal = a .subtotal;
-      sums = a .sums;
-      refusal = record { code = code; accepted = a .records; field = field };
-      grazed = a .grazed;
-    }
+refused a code field = standing a 3 (a .records) (record { code = code; accepted = a .records; field = field })
 
 -- a farm record opens the book and sets its warming factors
 abbrev pub opened : Account → Factors → Account
@@ -85,14 +88,13 @@ opened a factors =
       records = a .records + 1;
       factors = factors;
       heading = a .heading;
-      days = a .days;
       subtotal = a .subtotal;
+      used = a .used;
       sums = a .sums;
       refusal = a .refusal;
-      grazed = a .grazed;
     }
 
--- a new heading sets the day sums, the grazed fraction and the subtotal to zero
+-- a new heading: nothing is used under it, and the subtotal is zero
 abbrev pub underHeading : Account → ℕ → ℕ → ℕ → Account
 underHeading a group class head =
     record {
@@ -100,42 +102,29 @@ underHeading a group class head =
       records = a .records + 1;
       factors = a .factors;
       heading = record { group = group; class = class; head = head };
-      days = noDays;
       subtotal = noSubtotal;
+      used = noneUsed;
       sums = a .sums;
       refusal = a .refusal;
-      grazed = 0;
     }
 
--- a detail adds its days, its grazed fraction and its figures; the heading stays
-abbrev pub withDetail : Account → Days → ℕ → Subtotal → Figures → Account
-withDetail a days grazed subtotal f =
+-- a detail adds what it uses and its figures; the heading stays
+abbrev pub withDetail : Account → Used → Subtotal → Figures → Account
+withDetail a used subtotal f =
     record {
       stage = a .stage;
       records = a .records + 1;
       factors = a .factors;
       heading = a .heading;
-      days = days;
       subtotal = subtotal;
+      used = used;
       sums = added (a .sums) f;
       refusal = a .refusal;
-      grazed = grazed;
     }
 
--- the close: heading, day sums, grazed fraction, subtotal and sums stay
+-- the close: one record more, and all the rest stays
 abbrev pub closed : Account → Account
-closed a =
-    record {
-      stage = 2;
-      records = a .records + 1;
-      factors = a .factors;
-      heading = a .heading;
-      days = a .days;
-      subtotal = a .subtotal;
-      sums = a .sums;
-      refusal = a .refusal;
-      grazed = a .grazed;
-    }
+closed a = standing a 2 (a .records + 1) (a .refusal)
 
 -- the warming factors of a farm record: those of its set, or with version 2 its own
 abbrev pub farmFactors : ℕ → List ℕ → Factors
@@ -153,18 +142,15 @@ headingServes class k =
 unfoldable pub inPlace : Account → ℕ → Bool
 inPlace a k = pick (isFarm k) (eqb (a .records) 0) (headingServes (a .heading .class) k && not (eqb (a .records) 0))
 
--- the days of kinds 3, 4 and 5 with those of the values v; other kinds have none
-abbrev pub daysAfter : Days → ℕ → List ℕ → Days
-daysAfter d k v =
+-- what is used with a record of kind k and the values v: the days of kinds 3, 4 and 5, the grazed fraction of kind 10; other kinds use nothing
+abbrev pub usedAfter : Used → ℕ → List ℕ → Used
+usedAfter u k v =
     record {
-      enteric = pick (eqb k 3) (d .enteric + getD v 0 0) (d .enteric);
-      nitrogen = pick (eqb k 4) (d .nitrogen + getD v 0 0) (d .nitrogen);
-      pig = pick (eqb k 5) (d .pig + getD v 0 0) (d .pig);
+      enteric = pick (eqb k 3) (u .enteric + getD v 0 0) (u .enteric);
+      nitrogen = pick (eqb k 4) (u .nitrogen + getD v 0 0) (u .nitrogen);
+      pig = pick (eqb k 5) (u .pig + getD v 0 0) (u .pig);
+      grazed = pick (eqb k 10) (u .grazed + getD v 3 0) (u .grazed);
     }
-
--- the grazed fraction with that of a grazing record
-abbrev pub grazedAfter : ℕ → ℕ → List ℕ → ℕ
-grazedAfter grazed k v = pick (eqb k 10) (grazed + getD v 3 0) grazed
 
 -- the tests, by name, each true where it refuses
 
@@ -197,11 +183,11 @@ abbrev pub notRising : Account → ℕ → List ℕ → Bool
 notRising a k v = eqb k 2 && leb (getD v 0 0) (a .heading .group)
 
 -- 9: days over 366 with this record, each of kinds 3, 4 and 5 for itself
-abbrev pub daysOver : Days → ℕ → List ℕ → Bool
-daysOver d k v =
-    pick (eqb k 3) (ltb 366 (d .enteric + getD v 0 0))
-    (pick (eqb k 4) (ltb 366 (d .nitrogen + getD v 0 0))
-    (pick (eqb k 5) (ltb 366 (d .pig + getD v 0 0)) false))
+abbrev pub daysOver : Used → ℕ → List ℕ → Bool
+daysOver u k v =
+    pick (eqb k 3) (ltb 366 (u .enteric + getD v 0 0))
+    (pick (eqb k 4) (ltb 366 (u .nitrogen + getD v 0 0))
+    (pick (eqb k 5) (ltb 366 (u .pig + getD v 0 0)) false))
 
 -- 10: cattle shares not 10000 together, or pig parts over 1000 together
 abbrev pub partsWrong : ℕ → List ℕ → Bool
@@ -210,8 +196,8 @@ partsWrong k v =
     (pick (eqb k 5) (ltb 1000 (getD v 8 0 + getD v 10 0)) false)
 
 -- 10 too: grazed fractions over 10000 under the heading with this record
-abbrev pub grazedOver : ℕ → ℕ → List ℕ → Bool
-grazedOver grazed k v = eqb k 10 && ltb 10000 (grazed + getD v 3 0)
+abbrev pub grazedOver : Used → ℕ → List ℕ → Bool
+grazedOver u k v = eqb k 10 && ltb 10000 (u .grazed + getD v 3 0)
 
 -- 11: X below zero
 abbrev pub feedBelow : ℕ → List ℕ → Bool
@@ -228,9 +214,9 @@ valueRefusals a k v =
     ∷ (outOfPlace a k, 6)
     ∷ (outOfRange k v, 7)
     ∷ (notRising a k v, 8)
-    ∷ (daysOver (a .days) k v, 9)
+    ∷ (daysOver (a .used) k v, 9)
     ∷ (partsWrong k v, 10)
-    ∷ (grazedOver (a .grazed) k v, 10)
+    ∷ (grazedOver (a .used) k v, 10)
     ∷ (feedBelow k v, 11)
     ∷ (wrongCount a k v, 12)
     ∷ []
@@ -252,8 +238,8 @@ pub record ValueTests (P : ℕ → Bool → Type 0) (a : Account) (k : ℕ) (v :
   pub place : P 6 (outOfPlace a k)
   pub inRange : P 7 (outOfRange k v)
   pub rising : P 8 (notRising a k v)
-  pub days : P 9 (daysOver (a .days) k v)
-  pub together : P 10 (partsWrong k v || grazedOver (a .grazed) k v)
+  pub days : P 9 (daysOver (a .used) k v)
+  pub together : P 10 (partsWrong k v || grazedOver (a .used) k v)
   pub feed : P 11 (feedBelow k v)
   pub count : P 12 (wrongCount a k v)
 
@@ -292,7 +278,7 @@ pub record Step : Type 0 where
 abbrev pub withLine : Account → ℕ → List ℕ → Subtotal → Step
 withLine a k v subtotal =
     record {
-      account = withDetail a (daysAfter (a .days) k v) (grazedAfter (a .grazed) k v) subtotal (figuresOf (a .heading) k v);
+      account = withDetail a (usedAfter (a .used) k v) subtotal (figuresOf (a .heading) k v);
       lines = lineOf (a .heading) k v ∷ [];
     }
 

@@ -6,12 +6,13 @@ use mathlib.Core.Bool.{Bool, _&&_, _||_, not}
 use mathlib.Core.Logic.{_⊎_}
 use lib.Dec.{leb, eqb}
 use Rattle.grams.specs.Units.{Co2Within, co2Within}
+use Rattle.grams.specs.declared.farm.Factors.{Factors}
 use Rattle.account.specs.declared.Account.{Account}
 use Rattle.account.specs.declared.Heading.{Heading}
-use Rattle.account.specs.declared.Days.{Days}
 use Rattle.account.specs.declared.Figures.{Figures}
 use Rattle.account.specs.declared.Subtotal.{Subtotal}
 use Rattle.account.specs.declared.Refusal.{Refusal}
+use Rattle.account.specs.declared.Used.{Used}
 
 -- ---- in parts
 
@@ -29,26 +30,42 @@ pub record FactorIn (factor records : ℕ) : Type 0 where
   pub none : factor ≡ 0 → records ≡ 0
   pub some : records ≡ 0 → factor ≡ 0
 
--- a heading, its three fields in their ranges, its three day sums 0..366; never with fewer than 2 records
-pub record Headed (h : Heading) (d : Days) (records : ℕ) : Type 0 where
+-- stage, records and warming factors together
+pub record Started (stage records : ℕ) (w : Factors) : Type 0 where
+  pub counted : Counted stage records
+  pub ch4-factor : FactorIn (w .ch4) records
+  pub n2o-factor : FactorIn (w .n2o) records
+
+-- what is used under a heading: three day sums of 0..366, a grazed fraction of 0..10000
+pub record UsedMost (u : Used) : Type 0 where
+  pub enteric : u .enteric ≤ 366
+  pub nitrogen : u .nitrogen ≤ 366
+  pub pig : u .pig ≤ 366
+  pub grazed : u .grazed ≤ 10000
+
+-- all zero
+pub record Unused (u : Used) : Type 0 where
+  pub enteric : u .enteric ≡ 0
+  pub nitrogen : u .nitrogen ≡ 0
+  pub pig : u .pig ≡ 0
+  pub grazed : u .grazed ≡ 0
+
+-- a heading, its three fields in their ranges; never with fewer than 2 records
+pub record Headed (h : Heading) (u : Used) (records : ℕ) : Type 0 where
   pub group-least : 1 ≤ h .group
   pub group-most : h .group ≤ 65535
   pub class-least : 1 ≤ h .class
   pub class-most : h .class ≤ 4
   pub head-most : h .head ≤ 20000
-  pub enteric-most : d .enteric ≤ 366
-  pub nitrogen-most : d .nitrogen ≤ 366
-  pub pig-most : d .pig ≤ 366
   pub records-least : 2 ≤ records
+  pub used : UsedMost u
 
--- no heading: all six zero
-pub record Unheaded (h : Heading) (d : Days) : Type 0 where
+-- no heading: all zero
+pub record Unheaded (h : Heading) (u : Used) : Type 0 where
   pub group : h .group ≡ 0
   pub class : h .class ≡ 0
   pub head : h .head ≡ 0
-  pub enteric : d .enteric ≡ 0
-  pub nitrogen : d .nitrogen ≡ 0
-  pub pig : d .pig ≡ 0
+  pub used : Unused u
 
 -- sums at most records times 10^11 for CH4, both nitrogens and grazing, 10^10 for N2O, 10^13 for CO2
 pub record Bounded (f : Figures) (records : ℕ) : Type 0 where
@@ -73,6 +90,12 @@ pub record Ungrouped (s : Subtotal) : Type 0 where
   pub excreted : s .excreted ≡ 0
   pub land : s .land ≡ 0
 
+-- heading, what is used under it and subtotal together
+pub record Under (h : Heading) (u : Used) (s : Subtotal) (records : ℕ) : Type 0 where
+  pub heading : Headed h u records ⊎ Unheaded h u
+  pub grouped : Grouped s records
+  pub ungrouped : h .group ≡ 0 → Ungrouped s
+
 -- the refusal of stage 3: code 1..12, record number equal to the records accepted, field 1..12 for code 7, else 0
 pub record Numbered (r : Refusal) (records : ℕ) : Type 0 where
   pub code-least : 1 ≤ r .code
@@ -88,23 +111,17 @@ pub record Unrefused (r : Refusal) : Type 0 where
   pub accepted : r .accepted ≡ 0
   pub field : r .field ≡ 0
 
--- the grazed fraction: 0..10000, zero without a heading
-pub record GrazedIn (group grazed : ℕ) : Type 0 where
-  pub most : grazed ≤ 10000
-  pub none : group ≡ 0 → grazed ≡ 0
+-- by the stage
+pub record Ended (stage : ℕ) (r : Refusal) (records : ℕ) : Type 0 where
+  pub refused : stage ≡ 3 → Numbered r records
+  pub unrefused : (stage ≡ 3 → ⊥) → Unrefused r
 
 -- all of it
 pub record AccountInRange (a : Account) : Type 0 where
-  pub counted : Counted (a .stage) (a .records)
-  pub ch4-factor : FactorIn (a .factors .ch4) (a .records)
-  pub n2o-factor : FactorIn (a .factors .n2o) (a .records)
-  pub heading : Headed (a .heading) (a .days) (a .records) ⊎ Unheaded (a .heading) (a .days)
+  pub started : Started (a .stage) (a .records) (a .factors)
   pub sums : Bounded (a .sums) (a .records)
-  pub grouped : Grouped (a .subtotal) (a .records)
-  pub ungrouped : a .heading .group ≡ 0 → Ungrouped (a .subtotal)
-  pub refused : a .stage ≡ 3 → Numbered (a .refusal) (a .records)
-  pub unrefused : (a .stage ≡ 3 → ⊥) → Unrefused (a .refusal)
-  pub grazed : GrazedIn (a .heading .group) (a .grazed)
+  pub under : Under (a .heading) (a .used) (a .subtotal) (a .records)
+  pub ended : Ended (a .stage) (a .refusal) (a .records)
 
 -- ---- as a test
 
@@ -119,26 +136,27 @@ countedTest stage records =
 abbrev pub factorTest : ℕ → ℕ → Bool
 factorTest factor records = leb factor 1000 && (not (eqb factor 0) || eqb records 0) && (not (eqb records 0) || eqb factor 0)
 
-abbrev pub headedTest : Heading → Days → ℕ → Bool
-headedTest h d records =
+abbrev pub startedTest : ℕ → ℕ → Factors → Bool
+startedTest stage records w = countedTest stage records && factorTest (w .ch4) records && factorTest (w .n2o) records
+
+abbrev pub usedTest : Used → Bool
+usedTest u = leb (u .enteric) 366 && leb (u .nitrogen) 366 && leb (u .pig) 366 && leb (u .grazed) 10000
+
+abbrev pub unusedTest : Used → Bool
+unusedTest u = eqb (u .enteric) 0 && eqb (u .nitrogen) 0 && eqb (u .pig) 0 && eqb (u .grazed) 0
+
+abbrev pub headedTest : Heading → Used → ℕ → Bool
+headedTest h u records =
     leb 1 (h .group)
     && leb (h .group) 65535
     && leb 1 (h .class)
     && leb (h .class) 4
     && leb (h .head) 20000
-    && leb (d .enteric) 366
-    && leb (d .nitrogen) 366
-    && leb (d .pig) 366
     && leb 2 records
+    && usedTest u
 
-abbrev pub unheadedTest : Heading → Days → Bool
-unheadedTest h d =
-    eqb (h .group) 0
-    && eqb (h .class) 0
-    && eqb (h .head) 0
-    && eqb (d .enteric) 0
-    && eqb (d .nitrogen) 0
-    && eqb (d .pig) 0
+abbrev pub unheadedTest : Heading → Used → Bool
+unheadedTest h u = eqb (h .group) 0 && eqb (h .class) 0 && eqb (h .head) 0 && unusedTest u
 
 abbrev pub boundedTest : Figures → ℕ → Bool
 boundedTest f records =
@@ -159,6 +177,10 @@ groupedTest s records =
 abbrev pub ungroupedTest : Subtotal → Bool
 ungroupedTest s = eqb (s .ch4) 0 && eqb (s .n2o .0) 0 && eqb (s .excreted) 0 && eqb (s .land) 0
 
+abbrev pub underTest : Heading → Used → Subtotal → ℕ → Bool
+underTest h u s records =
+    (headedTest h u records || unheadedTest h u) && (groupedTest s records && (not (eqb (h .group) 0) || ungroupedTest s))
+
 abbrev pub numberedTest : Refusal → ℕ → Bool
 numberedTest r records =
     leb 1 (r .code)
@@ -171,17 +193,12 @@ numberedTest r records =
 abbrev pub unrefusedTest : Refusal → Bool
 unrefusedTest r = eqb (r .code) 0 && eqb (r .accepted) 0 && eqb (r .field) 0
 
-abbrev pub grazedTest : ℕ → ℕ → Bool
-grazedTest group grazed = leb grazed 10000 && (not (eqb group 0) || eqb grazed 0)
+abbrev pub endedTest : ℕ → Refusal → ℕ → Bool
+endedTest stage r records = (not (eqb stage 3) || numberedTest r records) && (eqb stage 3 || unrefusedTest r)
 
 unfoldable pub accountInRange : Account → Bool
 accountInRange a =
-    countedTest (a .stage) (a .records)
-    && factorTest (a .factors .ch4) (a .records)
-    && factorTest (a .factors .n2o) (a .records)
-    && (headedTest (a .heading) (a .days) (a .records) || unheadedTest (a .heading) (a .days))
+    startedTest (a .stage) (a .records) (a .factors)
     && boundedTest (a .sums) (a .records)
-    && (groupedTest (a .subtotal) (a .records) && (not (eqb (a .heading .group) 0) || ungroupedTest (a .subtotal)))
-    && (not (eqb (a .stage) 3) || numberedTest (a .refusal) (a .records))
-    && (eqb (a .stage) 3 || unrefusedTest (a .refusal))
-    && grazedTest (a .heading .group) (a .grazed)
+    && underTest (a .heading) (a .used) (a .subtotal) (a .records)
+    && endedTest (a .stage) (a .refusal) (a .records)

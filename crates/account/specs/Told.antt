@@ -10,9 +10,9 @@ use Rattle.base.specs.Choice.{pick}
 use Rattle.line_bytes.specs.Lines.{lineSize, totalSize, linesMost}
 use Rattle.grams.specs.Units.{noCo2}
 use Rattle.account.specs.declared.Account.{Account}
-use Rattle.account.specs.declared.Days.{Days}
 use Rattle.account.specs.declared.Figures.{Figures}
 use Rattle.account.specs.declared.Subtotal.{Subtotal}
+use Rattle.account.specs.declared.Used.{Used}
 use Rattle.account.specs.declared.Judged.{Judged}
 use Rattle.account.specs.declared.line.Line.{Line}
 use Rattle.account.specs.Figures.{noFigures, groupFigures}
@@ -57,9 +57,9 @@ quiet a = record { account = a; line = noLine }
 abbrev pub refusing : Account → ℕ → ℕ → Judged
 refusing a code field = quiet (refused a code field)
 
-abbrev pub detailing : Account → ℕ → ℕ → Days → ℕ → Subtotal → Figures → Judged
-detailing a kind group days grazed subtotal f =
-    record { account = withDetail a days grazed subtotal f; line = record { given = lineSize; kind = kind; group = group; figures = f; co2e = noCo2 } }
+abbrev pub detailing : Account → ℕ → ℕ → Used → Subtotal → Figures → Judged
+detailing a kind group used subtotal f =
+    record { account = withDetail a used subtotal f; line = record { given = lineSize; kind = kind; group = group; figures = f; co2e = noCo2 } }
 
 abbrev pub groupLine : Account → Line
 groupLine a =

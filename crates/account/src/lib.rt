@@ -1,5 +1,6 @@
 // The account that a book's records have made so far. What a record does to it is said in specs/Judge and carried out by rules.
 pub mod line;
+pub mod numbers;
 mod range;
 
 use grams::farm::Factors;
@@ -24,12 +25,21 @@ pub struct Heading {
     pub head: u16,
 }
 
-// Days under the heading, for each of kinds 3, 4 and 5.
-pub struct Days {
-    pub enteric: u16,
-    pub nitrogen: u16,
-    pub pig: u16,
+// What the records under the heading have used up: the days of kinds 3, 4 and 5, and the fraction of the yearly intake that was grazed. In four bytes
+// each, since numbers of two bytes the compiler would move as one word, and take it apart at each record.
+pub struct Used {
+    pub enteric: u32,
+    pub nitrogen: u32,
+    pub pig: u32,
+    pub grazed: u32,
 }
+
+pub const NONE_USED: Used = Used {
+    enteric: 0,
+    nitrogen: 0,
+    pig: 0,
+    grazed: 0,
+};
 
 // Grams: a line's figures, and the sums over all lines.
 pub struct Figures {
@@ -49,6 +59,13 @@ pub struct Subtotal {
     pub land: u64,
 }
 
+pub const NO_SUBTOTAL: Subtotal = Subtotal {
+    ch4: 0,
+    n2o: NO_N2O,
+    excreted: 0,
+    land: 0,
+};
+
 // Why a book was refused: the number of the rule, the records accepted before, and the field for rule 7.
 pub struct Refusal {
     pub code: u8,
@@ -56,18 +73,16 @@ pub struct Refusal {
     pub field: u8,
 }
 
-// A state but for its held bytes. grazed is the fraction of the yearly intake under the heading; in four bytes and last, since beside the days the
-// compiler would move all four numbers as one word, and take it apart at each record.
+// A state but for its held bytes. Here, in specs/Judge and in specs/Numbers alone it is written out field by field.
 pub struct Account {
     pub stage: u8,
     pub records: u16,
     pub factors: Factors,
     pub heading: Heading,
-    pub days: Days,
     pub subtotal: Subtotal,
+    pub used: Used,
     pub sums: Figures,
     pub refusal: Refusal,
-    pub grazed: u32,
 }
 
 // What a whole record does: the account after it, and its lines.
@@ -136,24 +151,14 @@ impl Account {
                 class: 0,
                 head: 0,
             },
-            days: Days {
-                enteric: 0,
-                nitrogen: 0,
-                pig: 0,
-            },
-            subtotal: Subtotal {
-                ch4: 0,
-                n2o: NO_N2O,
-                excreted: 0,
-                land: 0,
-            },
+            subtotal: NO_SUBTOTAL,
+            used: NONE_USED,
             sums: NO_FIGURES,
             refusal: Refusal {
                 code: 0,
                 accepted: 0,
                 field: 0,
             },
-            grazed: 0,
         }
     }
 
@@ -177,16 +182,17 @@ impl Account {
                 class: self.heading.class,
                 head: self.heading.head,
             },
-            days: Days {
-                enteric: self.days.enteric,
-                nitrogen: self.days.nitrogen,
-                pig: self.days.pig,
-            },
             subtotal: Subtotal {
                 ch4: self.subtotal.ch4,
                 n2o: group_n2o,
                 excreted: self.subtotal.excreted,
                 land: self.subtotal.land,
+            },
+            used: Used {
+                enteric: self.used.enteric,
+                nitrogen: self.used.nitrogen,
+                pig: self.used.pig,
+                grazed: self.used.grazed,
             },
             sums: Figures {
                 ch4: self.sums.ch4,
@@ -201,7 +207,6 @@ impl Account {
                 accepted: self.refusal.accepted,
                 field: self.refusal.field,
             },
-            grazed: self.grazed,
         }
     }
 

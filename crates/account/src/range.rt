@@ -1,15 +1,13 @@
 // The test of an account's ranges, clause by clause.
 use crate::Account;
-use crate::Days;
 use crate::Figures;
 use crate::Heading;
 use crate::Refusal;
 use crate::Subtotal;
+use crate::Used;
 ghost use mathlib.Core.Path.{_≡_};
-ghost use mathlib.Core.Bool.{_&&_, _||_, not};
-ghost use lib.Dec.{eqb};
-ghost use Rattle.account.specs.Range.{countedTest, factorTest, headedTest, unheadedTest, boundedTest, grazedTest, groupedTest, ungroupedTest};
-ghost use Rattle.account.specs.Range.{numberedTest, unrefusedTest, accountInRange};
+ghost use Rattle.account.specs.Range.{countedTest, factorTest, startedTest, usedTest, unusedTest, headedTest, unheadedTest, groupedTest};
+ghost use Rattle.account.specs.Range.{ungroupedTest, underTest, boundedTest, numberedTest, unrefusedTest, endedTest, accountInRange};
 
 fn counted(stage: u8, records: u16) -> bool
     ensures { λ r. ⌜ r ≡ countedTest stage records ⌝ }
@@ -27,29 +25,34 @@ fn factor_in(factor: u16, records: u16) -> bool
     (factor <= 1000) & (!(factor == 0) | (records == 0)) & (!(records == 0) | (factor == 0))
 }
 
-fn headed(h: Heading, d: Days, records: u16) -> bool
-    ensures { λ r. ⌜ r ≡ headedTest h d records ⌝ }
+fn used_in(u: Used) -> bool
+    ensures { λ r. ⌜ r ≡ usedTest u ⌝ }
+{
+    (u.enteric <= 366) & (u.nitrogen <= 366) & (u.pig <= 366) & (u.grazed <= 10000)
+}
+
+fn unused(u: Used) -> bool
+    ensures { λ r. ⌜ r ≡ unusedTest u ⌝ }
+{
+    (u.enteric == 0) & (u.nitrogen == 0) & (u.pig == 0) & (u.grazed == 0)
+}
+
+fn headed(h: Heading, u: Used, records: u16) -> bool
+    ensures { λ r. ⌜ r ≡ headedTest h u records ⌝ }
 {
     (1 <= h.group)
         & (h.group <= 65535)
         & (1 <= h.class)
         & (h.class <= 4)
         & (h.head <= 20000)
-        & (d.enteric <= 366)
-        & (d.nitrogen <= 366)
-        & (d.pig <= 366)
         & (2 <= records)
+        & used_in(u)
 }
 
-fn unheaded(h: Heading, d: Days) -> bool
-    ensures { λ r. ⌜ r ≡ unheadedTest h d ⌝ }
+fn unheaded(h: Heading, u: Used) -> bool
+    ensures { λ r. ⌜ r ≡ unheadedTest h u ⌝ }
 {
-    (h.group == 0)
-        & (h.class == 0)
-        & (h.head == 0)
-        & (d.enteric == 0)
-        & (d.nitrogen == 0)
-        & (d.pig == 0)
+    (h.group == 0) & (h.class == 0) & (h.head == 0) & unused(u)
 }
 
 fn bounded(f: Figures, records: u16) -> bool
@@ -99,7 +102,7 @@ fn unrefused(r: Refusal) -> bool
 
 // Stage, records and warming factors; those of an open book first, since all calls but a book's first and last have one.
 fn started(stage: u8, records: u16, ch4: u16, n2o: u16) -> bool
-    ensures { λ r. ⌜ r ≡ (countedTest stage records && factorTest ch4 records && factorTest n2o records) ⌝ }
+    ensures { λ r. ⌜ r ≡ startedTest stage records (record { ch4 = ch4; n2o = n2o }) ⌝ }
 {
     if stage == 1 {
         return (1 <= records)
@@ -112,25 +115,19 @@ fn started(stage: u8, records: u16, ch4: u16, n2o: u16) -> bool
     counted(stage, records) & factor_in(ch4, records) & factor_in(n2o, records)
 }
 
-// Heading, day sums and subtotal: without a group all zero, with one in their ranges.
-fn under(h: Heading, d: Days, s: Subtotal, records: u16) -> bool
-    ensures { λ r. ⌜ r ≡ ((headedTest h d records || unheadedTest h d) && (groupedTest s records && (not (eqb (h .group) 0) || ungroupedTest s))) ⌝ }
+// Heading, what is used under it and subtotal: without a group all zero, with one in their ranges.
+fn under(h: Heading, u: Used, s: Subtotal, records: u16) -> bool
+    ensures { λ r. ⌜ r ≡ underTest h u s records ⌝ }
 {
     if h.group == 0 {
-        return unheaded(h, d) & ungrouped(s);
+        return unheaded(h, u) & ungrouped(s);
     }
-    headed(h, d, records) & grouped(s, records)
-}
-
-fn grazed_in(group: u16, grazed: u32) -> bool
-    ensures { λ r. ⌜ r ≡ grazedTest group grazed ⌝ }
-{
-    (grazed <= 10000) & (!(group == 0) | (grazed == 0))
+    headed(h, u, records) & grouped(s, records)
 }
 
 // The refusal of stage 3, or none.
 fn ended(stage: u8, r: Refusal, records: u16) -> bool
-    ensures { λ b. ⌜ b ≡ ((not (eqb stage 3) || numberedTest r records) && (eqb stage 3 || unrefusedTest r)) ⌝ }
+    ensures { λ b. ⌜ b ≡ endedTest stage r records ⌝ }
 {
     if stage == 3 {
         return numbered(r, records);
@@ -143,13 +140,12 @@ pub fn test(a: Account) -> bool
 {
     let w = a.factors;
     let h = a.heading;
-    let d = a.days;
+    let u = a.used;
     let s = a.subtotal;
     let f = a.sums;
     let r = a.refusal;
     started(a.stage, a.records, w.ch4, w.n2o)
         & bounded(f, a.records)
-        & under(h, d, s, a.records)
+        & under(h, u, s, a.records)
         & ended(a.stage, r, a.records)
-        & grazed_in(h.group, a.grazed)
 }

@@ -58,6 +58,20 @@ pub both : (a b : Bool) → a && b ≡ true → (a ≡ true) × (b ≡ true)
 both true b e = (refl, e)
 both false b e = no-bool e
 
+pub both-true : (a b : Bool) → a ≡ true → b ≡ true → a && b ≡ true
+both-true a b e f = rw (e, f)
+
+-- two tests that say each other are the same
+pub same-test : (a b : Bool) → (a ≡ true → b ≡ true) → (b ≡ true → a ≡ true) → a ≡ b
+same-test true true f g = refl
+same-test true false f g = sym (f refl)
+same-test false true f g = g refl
+same-test false false f g = refl
+
+pub and-true : (a : Bool) → a && true ≡ a
+and-true true = refl
+and-true false = refl
+
 pub and-false : (a : Bool) → a && false ≡ false
 and-false true = refl
 and-false false = refl

@@ -36,7 +36,7 @@ pub twelve-at : (v : List ℕ) (i : ℕ) → getD (inTwelve v) i 0 ≡ getD v i 
 twelve-at v i = zeros-behind v (12 - length v) i
 
 module _ (g : Field → ℕ) (z : 0 ≡ g none) where
-  of-field : (fs : List Field) (i : ℕ) → getD (map g fs) i 0 ≡ g (getD fs i none)
+  pub of-field : (fs : List Field) (i : ℕ) → getD (map g fs) i 0 ≡ g (getD fs i none)
   of-field [] i = z
   of-field (f ∷ fs) zero = refl
   of-field (f ∷ fs) (suc i) = of-field fs i

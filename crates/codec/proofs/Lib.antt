@@ -5,7 +5,7 @@ pub mod Within
 mod AllIn
 pub mod Rows
 pub mod Columns
-mod FieldByField
+pub mod FieldByField
 pub mod EachKind
 pub mod Round
 pub mod Sample

@@ -12,7 +12,7 @@ use Rattle.codec.specs.declared.Field.{Field}
 use Rattle.codec.specs.Table.{fields, lastRow, rowVersion, rowKind, size, lengthOf}
 use Rattle.codec.specs.Codec.{bytesHold, valAt, be, valuesAt, bytesOf, firstBad, recordBytes}
 use Rattle.codec.specs.Codec.{Bytes, Fit}
-use Rattle.codec.proofs.BigEndian.{bytes-append, be-bytes, be-length, valAt-be, be-valAt}
+use Rattle.codec.proofs.BigEndian.{valAt-lt, bytes-append, be-bytes, be-length, valAt-be, be-valAt}
 use Rattle.codec.proofs.Stores.{sets-at}
 use Rattle.codec.proofs.Values.{bytes-length, bytes-bytes}
 use Rattle.codec.proofs.Rows.{fit-kind, length-most}
@@ -57,6 +57,25 @@ shift : (fs : List Field) (v : ℕ) (vs : List ℕ) (i : ℕ) → bytesOf fs (v 
 unfolding bytesOf
 shift [] v vs i = refl
 shift (f ∷ fs) v vs i = ap (λ k. be (f .0) (getD vs i 0) ++ k) (shift fs v vs (suc i))
+
+-- the bytes of some values and of others behind them
+pub bytes-join : (fs : List Field) (u v : List ℕ) → length u ≤ length fs
+    → bytesOf fs (u ++ v) 0 ≡ bytesOf (take (length u) fs) u 0 ++ bytesOf (drop (length u) fs) v 0
+unfolding bytesOf
+bytes-join fs [] v h = refl
+bytes-join [] (x ∷ u) v h = absurd (omega arith)
+bytes-join (f ∷ fs) (x ∷ u) v h =
+    rw (shift fs x (u ++ v) 0, shift (take (length u) fs) x u 0, bytes-join fs u v (omega arith), append-assoc) refl
+
+fit-shift : (fs : List Field) (v : ℕ) (vs : List ℕ) (i : ℕ) → Fit fs vs i → Fit fs (v ∷ vs) (suc i)
+fit-shift [] v vs i f = tt
+fit-shift (g ∷ fs) v vs i f = (f .0, fit-shift fs v vs (suc i) (f .1))
+
+-- what bytes tell fits the bytes
+pub values-fit : (fs : List Field) (s : List ℕ) → Bytes s → (at : ℕ) → Fit fs (valuesAt fs s at) 0
+unfolding valuesAt
+values-fit [] s b at = tt
+values-fit (g ∷ fs) s b at = (valAt-lt s b at (g .0), fit-shift fs _ _ 0 (values-fit fs s b (at + g .0)))
 
 pub encode-decode : (fs : List Field) (s : List ℕ) → Bytes s → (at : ℕ) → at + size fs ≤ length s
     → bytesOf fs (valuesAt fs s at) 0 ≡ take (size fs) (drop at s)

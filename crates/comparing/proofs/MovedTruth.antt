@@ -21,7 +21,8 @@ use Rattle.account.specs.Range.{AccountInRange}
 use Rattle.account.specs.Judge.{versionOf, kindByte, kindOf, valuesOf, noRecord, NotRefused, Step, accepted, judge}
 use Rattle.account.proofs.Refusals.{judged-passes}
 use Rattle.account.proofs.Keeps.{in-range-none, in-range-judge}
-use Rattle.account.proofs.Details.{judge-accepted, within-range}
+use Rattle.account.proofs.Details.{judge-accepted}
+use Rattle.account.proofs.Told.{used-most}
 use Rattle.book.specs.Front.{whole, need, front}
 use Rattle.book.specs.State.{noRecordYet}
 use Rattle.book.specs.Run.{Run, book, run}
@@ -201,7 +202,7 @@ module _ (fs fs′ bs bs′ : List Entry) (rs ss : List (List ℕ))
   heading-here = reached-heading x noRecord taken-before ∙ heading-is x
 
   swap : Same a rs (inOrder order rs)
-  swap = in-order order rs a (within-range a (reached-range x noRecord in-range-none taken-before)) turn
+  swap = in-order order rs a (used-most a (reached-range x noRecord in-range-none taken-before)) turn
 
   turn′ : InTurn a ss
   turn′ = subst (InTurn a) (some-order rs ss e .is) (swap .turn)

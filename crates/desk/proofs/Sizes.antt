@@ -60,7 +60,7 @@ run-paid s xs = paid-by (suc (length (heldOf s ++ xs))) (s .account) (heldOf s +
 
 -- a book has at most 4,096 records
 pub run-small : (s : State) (xs : List ℕ) → InRange s → length (joined (run s xs .lines)) ≤ linesMost * 4096
-run-small s xs v = omega (arith, run-paid s xs, run-leaves s xs v .range .account .counted .records-most)
+run-small s xs v = omega (arith, run-paid s xs, run-leaves s xs v .range .account .started .counted .records-most)
 
 -- the lines of a call from a state in range
 pub call-few : (s : State) (xs : List ℕ) (room : ℕ) → InRange s → length (call s xs room .bytes) ≤ linesMost * 4096

@@ -28,7 +28,7 @@ pub extern "C" fn herd_desk(book: &[u8], lines: &mut [u8]) -> u64
     ensures lines { λ r. ⌜ now (lines .exit) ≡ laid (deskCall (now (book .entry)) (length (now (lines .entry)))) (now (lines .entry)) ⌝ }
 {
     // No record yet is an image of zeros. With herd_call there is one caller of the reader, so that the compiler makes both of them one function.
-    let mut image = [0u8; 132];
+    let mut image = [0u8; image::SIZE];
     let whole = call(&mut image, book, lines);
     let answer = whole.answer;
     let code = code_of(answer, book.len() - whole.taken);

@@ -74,7 +74,7 @@ not-thirteen a taken n v =
     (λ f h.
     let late : 2 ≤ a .stage = ltb-false _ _ e in
     let no : a .stage ≡ 2 → ⊥ = eqb-false _ _ f in
-    let r = v .refused (omega (arith, no, v .counted .stage-most)) in
+    let r = v .ended .refused (omega (arith, no, v .started .counted .stage-most)) in
     omega (arith, h, r .code-most)))
 
 in-range-answer : (s : State) (xs : List ℕ) (room : ℕ) → InRange s → codeOf (call s xs room .answer) ≡ 13 → ⊥

@@ -4,3 +4,4 @@ pub mod Words
 pub mod Calls
 pub mod Ways
 pub mod OneAnswer
+pub mod Offsets

@@ -16,6 +16,9 @@ ghost use Rattle.book.specs.Call.{laid};
 ghost use Rattle.image.specs.Image.{imageSize};
 ghost use Rattle.image.specs.Calls.{callOn, calledOf, codeOf, imageAfter, noImage, started};
 
+// The one length of an image: 27 held bytes, one of their count, and the account's numbers.
+pub const SIZE: usize = 28 + account::numbers::BYTES;
+
 // What a call hands back beside the image: the bytes taken and written, and the answer.
 pub struct Called {
     pub taken: usize,
@@ -56,7 +59,7 @@ pub fn start(image: &mut [u8]) -> bool
     ensures long { λ r. ⌜ r ≡ eqb (length (now (image .entry))) imageSize ⌝ }
     ensures image { λ r. ⌜ now (image .exit) ≡ started (now (image .entry)) ⌝ }
 {
-    if image.len() != 132 {
+    if image.len() != SIZE {
         return false;
     }
     let state = State::new();
@@ -73,7 +76,7 @@ pub fn call(image: &mut [u8], part: &[u8], lines: &mut [u8]) -> Called
     ensures counts { λ r. ⌜ (r .taken ≤ length (now (part .entry))) × (r .written ≤ length (now (lines .entry))) ⌝ }
 {
     let size = image.len();
-    if size != 132 {
+    if size != SIZE {
         return no_image();
     }
     let state = state_in(image);

@@ -1,21 +1,27 @@
-// The image of a state, part by part: a store for each number.
-use account::Days;
-use account::Figures;
-use account::Heading;
-use account::Refusal;
-use account::Subtotal;
+// The image of a state: a store for each number.
+use crate::numbers::put;
+use account::Account;
+use account::numbers::HEADING;
+use account::numbers::REFUSAL;
+use account::numbers::SUBTOTAL;
+use account::numbers::SUMS;
+use account::numbers::USED;
+use account::numbers::of_heading;
+use account::numbers::of_refusal;
+use account::numbers::of_start;
+use account::numbers::of_subtotal;
+use account::numbers::of_used;
+use account::numbers::width;
 use book::State;
-use codec::numbers::put1;
-use codec::numbers::put2;
-use codec::numbers::put8;
-use grams::farm::Factors;
 ghost use mathlib.Core.Path.{_≡_};
-ghost use lib.ListN.{length};
+ghost use mathlib.Core.List.{[], _∷_};
+ghost use Prim.Native.Nat.{_+_, _≤_};
+ghost use lib.ListN.{drop, length, take};
 ghost use lib.Seq.{sets};
 ghost use Rattle.codec.specs.Codec.{bytesOf};
-ghost use Rattle.image.specs.Image.{daysFields, daysNumbers, factorsFields, factorsNumbers, frontFields, frontNumbers};
-ghost use Rattle.image.specs.Image.{headingFields, headingNumbers, imageOf, imageSize, refusalFields, refusalNumbers};
-ghost use Rattle.image.specs.Image.{subtotalFields, subtotalNumbers, sumsFields, sumsNumbers};
+ghost use Rattle.account.specs.Figures.{listed};
+ghost use Rattle.account.specs.Numbers.{accountFields, startNumbers, headingNumbers, usedNumbers, subtotalNumbers, refusalNumbers};
+ghost use Rattle.image.specs.Image.{frontNumbers, imageOf, imageSize, placeOf, stored};
 
 fn put_held(image: &mut [u8], held: [u8; 27])
     requires { ⌜ length (now image) ≡ imageSize ⌝ }
@@ -28,75 +34,51 @@ fn put_held(image: &mut [u8], held: [u8; 27])
     }
 }
 
-fn put_front(image: &mut [u8], count: usize, stage: u8, records: u16)
-    requires { ⌜ length (now image) ≡ imageSize ⌝ }
-    ensures { λ _. ⌜ now (image .exit) ≡ sets (now (image .entry)) 27 (bytesOf frontFields (frontNumbers count stage records) 0) ⌝ }
+// The numbers v, which are an account's from one on, at their place; the place of the next.
+fn put_run(image: &mut [u8], at: usize, from: usize, v: &[u64]) -> usize
+    requires { ⌜ (length (now image) ≡ imageSize) × (at ≡ placeOf from) × (from + length (now v) ≤ length accountFields) ⌝ }
+    ensures bytes { λ _. ⌜ now (image .exit) ≡ sets (now (image .entry)) (placeOf from)
+        (bytesOf (take (length (now (v .entry))) (drop from accountFields)) (now (v .entry)) 0) ⌝ }
+    ensures next { λ r. ⌜ r ≡ placeOf (from + length (now (v .entry))) ⌝ }
 {
-    put1(image, 27, count as u64);
-    put1(image, 28, stage as u64);
-    put2(image, 29, records as u64);
+    let mut p = at;
+    let mut i = 0;
+    while i < v.len() {
+        let w = width(from + i);
+        put(image, p, w, v[i]);
+        p += w;
+        i += 1;
+    }
+    p
 }
 
-fn put_factors(image: &mut [u8], f: Factors)
+// The numbers before the subtotal, part by part; no part is so long that the compiler would not lay its turns out one after the other.
+fn put_front(image: &mut [u8], a: Account) -> usize
     requires { ⌜ length (now image) ≡ imageSize ⌝ }
-    ensures { λ _. ⌜ now (image .exit) ≡ sets (now (image .entry)) 31 (bytesOf factorsFields (factorsNumbers f) 0) ⌝ }
+    ensures bytes { λ _. ⌜ now (image .exit) ≡ stored (startNumbers a ∷ headingNumbers (a .heading) ∷ usedNumbers (a .used) ∷ []) 0
+        (now (image .entry)) ⌝ }
+    ensures next { λ r. ⌜ r ≡ placeOf (length (frontNumbers a)) ⌝ }
 {
-    put2(image, 31, f.ch4 as u64);
-    put2(image, 33, f.n2o as u64);
+    let start = of_start(a);
+    let heading = of_heading(a.heading);
+    let used = of_used(a.used);
+    let second = put_run(image, 28, 0, &start);
+    let third = put_run(image, second, HEADING, &heading);
+    put_run(image, third, USED, &used)
 }
 
-fn put_heading(image: &mut [u8], h: Heading)
-    requires { ⌜ length (now image) ≡ imageSize ⌝ }
-    ensures { λ _. ⌜ now (image .exit) ≡ sets (now (image .entry)) 35 (bytesOf headingFields (headingNumbers h) 0) ⌝ }
+// The others.
+fn put_back(image: &mut [u8], at: usize, a: Account)
+    requires { ⌜ (length (now image) ≡ imageSize) × (at ≡ placeOf (length (frontNumbers a))) ⌝ }
+    ensures { λ _. ⌜ now (image .exit) ≡ stored (subtotalNumbers (a .subtotal) ∷ listed (a .sums) ∷ refusalNumbers (a .refusal) ∷ [])
+        (length (frontNumbers a)) (now (image .entry)) ⌝ }
 {
-    put2(image, 35, h.group as u64);
-    put1(image, 37, h.class as u64);
-    put2(image, 38, h.head as u64);
-}
-
-fn put_days(image: &mut [u8], d: Days, grazed: u32)
-    requires { ⌜ length (now image) ≡ imageSize ⌝ }
-    ensures { λ _. ⌜ now (image .exit) ≡ sets (now (image .entry)) 40 (bytesOf daysFields (daysNumbers d grazed) 0) ⌝ }
-{
-    put2(image, 40, d.enteric as u64);
-    put2(image, 42, d.nitrogen as u64);
-    put2(image, 44, d.pig as u64);
-    put2(image, 46, grazed as u64);
-}
-
-fn put_subtotal(image: &mut [u8], t: Subtotal)
-    requires { ⌜ length (now image) ≡ imageSize ⌝ }
-    ensures { λ _. ⌜ now (image .exit) ≡ sets (now (image .entry)) 48 (bytesOf subtotalFields (subtotalNumbers t) 0) ⌝ }
-{
-    let n2o = t.n2o.grams();
-    put8(image, 48, t.ch4);
-    put8(image, 56, n2o);
-    put8(image, 64, t.excreted);
-    put8(image, 72, t.land);
-}
-
-fn put_sums(image: &mut [u8], f: Figures)
-    requires { ⌜ length (now image) ≡ imageSize ⌝ }
-    ensures { λ _. ⌜ now (image .exit) ≡ sets (now (image .entry)) 80 (bytesOf sumsFields (sumsNumbers f) 0) ⌝ }
-{
-    let n2o = f.n2o.grams();
-    let co2 = f.co2.word();
-    let grazing = f.grazing.grams();
-    put8(image, 80, f.ch4);
-    put8(image, 88, n2o);
-    put8(image, 96, co2);
-    put8(image, 104, f.excreted);
-    put8(image, 112, f.land);
-    put8(image, 120, grazing);
-}
-
-fn put_refusal(image: &mut [u8], r: Refusal)
-    requires { ⌜ length (now image) ≡ imageSize ⌝ }
-    ensures { λ _. ⌜ now (image .exit) ≡ sets (now (image .entry)) 128 (bytesOf refusalFields (refusalNumbers r) 0) ⌝ }
-{
-    put1(image, 128, r.code as u64);
-    put2(image, 129, r.accepted as u64);
-    put1(image, 131, r.field as u64);
+    let subtotal = of_subtotal(a.subtotal);
+    let sums = a.sums.listed();
+    let refusal = of_refusal(a.refusal);
+    let second = put_run(image, at, SUBTOTAL, &subtotal);
+    let third = put_run(image, second, SUMS, &sums);
+    put_run(image, third, REFUSAL, &refusal);
 }
 
 pub(crate) fn put_state(image: &mut [u8], s: State)
@@ -105,18 +87,8 @@ pub(crate) fn put_state(image: &mut [u8], s: State)
 {
     let held = s.held;
     let a = s.account;
-    let factors = a.factors;
-    let heading = a.heading;
-    let days = a.days;
-    let subtotal = a.subtotal;
-    let sums = a.sums;
-    let refusal = a.refusal;
     put_held(image, held);
-    put_front(image, s.count, a.stage, a.records);
-    put_factors(image, factors);
-    put_heading(image, heading);
-    put_days(image, days, a.grazed);
-    put_subtotal(image, subtotal);
-    put_sums(image, sums);
-    put_refusal(image, refusal);
+    put(image, 27, 1, s.count as u64);
+    let at = put_front(image, a);
+    put_back(image, at, a);
 }

@@ -10,7 +10,7 @@ use Rattle.account.specs.Line.{joined, totalOf}
 use Rattle.account.specs.Range.{AccountInRange}
 use Rattle.account.specs.Judge.{noRecord}
 use Rattle.account.proofs.Keeps.{in-range-none}
-use Rattle.account.proofs.Details.{within-range}
+use Rattle.account.proofs.Told.{used-most}
 use Rattle.book.specs.declared.State.{State}
 use Rattle.book.specs.WholeRecords.{recordsOf}
 use Rattle.book.specs.State.{noRecordYet}
@@ -91,7 +91,7 @@ in-any-order xs before middle behind order ok e t d =
     let tbm = taken-first (before ++ middle) behind noRecord (rw (append-assoc before middle behind) t) in
     let c = reached noRecord before in
     let i = in-turn middle c d tm in
-    let s = in-order order middle c (within-range c (reached-range before noRecord in-range-none tb)) i in
+    let s = in-order order middle c (used-most c (reached-range before noRecord in-range-none tb)) i in
     let one = run-with before tb middle behind i in
     let two = run-with before tb (inOrder order middle) behind (s .turn) in
     let last = lines-last before tb middle tm i behind tbm in

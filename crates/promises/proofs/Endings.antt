@@ -158,13 +158,7 @@ close-keeps s xs v early q =
     let o = one (run s (e .before) .state) (e .byte) (e .range) (e .early) .closes (sym (ap (λ (r : Run). r .state .account .stage) (e .is)) ∙ q) in
     record { before = e .before; byte = e .byte; behind = e .behind; bytes = e .bytes; early = e .early; is = e .is ∙ rw o refl }
 
--- ---- all the rest, part by part
-
-refused-all : (a : Account) (zs : List ℕ) → KeepsRest a (refusedFor a zs)
-refused-all a zs = record { factors = refl; heading = refl; days = refl; grazed = refl; subtotal = refl; sums = refl }
-
-closed-all : (a : Account) → KeepsRest a (closed a)
-closed-all a = record { factors = refl; heading = refl; days = refl; grazed = refl; subtotal = refl; sums = refl }
+-- ---- all the rest
 
 -- Refused: nothing is held; warming factors, heading, day sums, grazed fraction, subtotal and sums are those of the records accepted before, and so
 -- is the count of records; the refusal stored has a code of 1..12, that count, and a field of 1..12 for code 7, else 0.
@@ -174,9 +168,9 @@ pub refusal-rest : (s : State) (xs : List ℕ) → InRange s → run s xs .state
     × ((run s xs .state .account .records ≡ accountAfter s (e .before) .records)
     × Numbered (run s xs .state .account .refusal) (accountAfter s (e .before) .records)))
 refusal-rest s xs v q e =
-    let n = run-leaves s xs v .range .account .refused q in
+    let n = run-leaves s xs v .range .account .ended .refused q in
     let k : run s xs .state .account .records ≡ accountAfter s (e .before) .records = rw (e .is) refl in
-    (rw (e .is) refl, (rw (e .is) (refused-all _ _), (k, rw k at n)))
+    (rw (e .is) refl, (rw (e .is) refl, (k, rw k at n)))
 
 -- Closed: nothing is held; warming factors, heading, day sums, grazed fraction, subtotal and sums are those of the records before the close, and
 -- there is one record more.
@@ -184,4 +178,4 @@ pub close-rest : (s : State) (xs : List ℕ) → (e : EndsBy closing s xs)
     → (run s xs .state .count ≡ 0)
     × (KeepsRest (accountAfter s (e .before)) (run s xs .state .account)
     × (run s xs .state .account .records ≡ accountAfter s (e .before) .records + 1))
-close-rest s xs e = (rw (e .is) refl, (rw (e .is) (closed-all _), rw (e .is) refl))
+close-rest s xs e = (rw (e .is) refl, (rw (e .is) refl, rw (e .is) refl))

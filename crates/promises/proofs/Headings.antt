@@ -20,10 +20,11 @@ use Rattle.account.specs.declared.Account.{Account}
 use Rattle.account.specs.Sorts.{heads, ofGroup, sortOf}
 use Rattle.account.specs.Line.{lineWith, subtotals, totalOf}
 use Rattle.account.specs.Figures.{groupFigures}
-use Rattle.account.specs.Range.{Headed, Unheaded, AccountInRange}
+use Rattle.account.specs.Range.{AccountInRange}
 use Rattle.account.specs.Judge.{versionOf, kindByte, kindOf, valuesOf, underHeading, first, refusals, Step, accepted, judge}
 use Rattle.account.proofs.Sorts.{by-sort, heads-two}
 use Rattle.account.proofs.Refusals.{not-refused}
+use Rattle.account.proofs.Under.{group-in}
 use Rattle.account.proofs.Keeps.{in-range-judge}
 use Rattle.book.specs.declared.State.{State}
 use Rattle.book.specs.Front.{Front, unfinished, badLength, whole, need, front}
@@ -54,8 +55,7 @@ map-append [] ys = refl
 map-append (x ∷ xs) ys = ap (λ (l : List Mark). markOf x ∷ l) (map-append xs ys)
 
 pub group-most : (a : Account) → AccountInRange a → a .heading .group ≤ 65535
-group-most a f =
-    ⊎-elim (λ (h : Headed (a .heading) (a .days) (a .records)). h .group-most) (λ (u : Unheaded (a .heading) (a .days)). omega arith) (f .heading)
+group-most a f = group-in (f .under)
 
 -- ---- what one record does
 

@@ -201,7 +201,7 @@ ended-group a f x = go (eqb (a .heading .group) 0) refl
   where
     go : (b : Bool) → eqb (a .heading .group) 0 ≡ b
         → addedUp (x .group) (pick b [] (record { number = a .heading .group; subtotal = a .subtotal } ∷ [])) ≡ x .group (a .subtotal)
-    go true e = sym (x .ungrouped (a .subtotal) (f .ungrouped (eqb-true _ _ e)))
+    go true e = sym (x .ungrouped (a .subtotal) (f .under .ungrouped (eqb-true _ _ e)))
     go false e = omega arith
 
 -- the balance of one record that does not close the book: what the farm gains is what its groups gain

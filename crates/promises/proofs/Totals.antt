@@ -174,7 +174,7 @@ from-bytes x at p z xs q =
     let v = run-leaves noRecordYet xs new-in-range .range .account in
     let g : x .farm (b .sums) + x .group noSubtotal ≡ x .farm noFigures + addedUp (x .group) gs =
     from-state noRecordYet xs new-in-range .closed x (omega arith) q in
-    let small : x .farm (b .sums) < bytesHold 8 = p .small (b .sums) (b .records) (v .sums) (v .counted .records-most) in
+    let small : x .farm (b .sums) < bytesHold 8 = p .small (b .sums) (b .records) (v .sums) (v .started .counted .records-most) in
     let e : addedUp (x .group) gs ≡ x .farm (b .sums) = omega (arith, g, z, x .none) in
     let l : valAt (lastOf (run noRecordYet xs .lines)) at 8 ≡ x .farm (b .sums) =
     ap (λ (l : List ℕ). valAt l at 8) (ends-with-total noRecordYet xs new-in-range (omega arith) q) ∙ p .total (b .sums) _ small in

@@ -11,7 +11,7 @@ use Rattle.codec.specs.Table.{fields}
 use Rattle.codec.specs.Codec.{firstBad}
 use Rattle.account.specs.declared.Account.{Account}
 use Rattle.account.specs.Line.{subtotals, totalOf}
-use Rattle.account.specs.Judge.{kindOf, valuesOf, refusals, first, refused, closed}
+use Rattle.account.specs.Judge.{kindOf, valuesOf, refusals, first, standing, refused, closed}
 use Rattle.book.specs.declared.State.{State}
 use Rattle.book.specs.Front.{bad}
 use Rattle.book.specs.State.{heldOf, holding}
@@ -65,11 +65,6 @@ pub record EndsBy (gives : State → List ℕ → ℕ → List ℕ → Run) (s :
   pub early : accountAfter s before .stage < 2
   pub is : run s xs ≡ gives s before byte behind
 
--- all the rest: b has what a has but for stage, records and refusal
-pub record KeepsRest (a b : Account) : Type 0 where
-  pub factors : b .factors ≡ a .factors
-  pub heading : b .heading ≡ a .heading
-  pub days : b .days ≡ a .days
-  pub grazed : b .grazed ≡ a .grazed
-  pub subtotal : b .subtotal ≡ a .subtotal
-  pub sums : b .sums ≡ a .sums
+-- all the rest: b is a but for stage, records and refusal
+abbrev pub KeepsRest : Account → Account → Type 0
+KeepsRest a b = b ≡ standing a (b .stage) (b .records) (b .refusal)

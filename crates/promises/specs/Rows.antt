@@ -6,7 +6,7 @@ use mathlib.Core.List.{List, [], _∷_, _++_}
 use lib.ListN.{replicate}
 use Rattle.grams.specs.Cases.{Row, row}
 use Rattle.account.specs.Figures.{listed, figuresOf}
-use Rattle.account.specs.Judge.{noRecord}
+use Rattle.account.specs.Judge.{noRecord, standing, opened}
 use Rattle.book.specs.State.{holding}
 use Rattle.book.specs.Run.{run}
 use Rattle.promises.specs.Paper.{verdictOf, verdict}
@@ -55,17 +55,7 @@ from records bytes told =
     (verdictOf
     (run
     (holding
-    (record {
-      stage = 1;
-      records = records;
-      factors = record { ch4 = 21; n2o = 310 };
-      heading = noRecord .heading;
-      days = noRecord .days;
-      subtotal = noRecord .subtotal;
-      sums = noRecord .sums;
-      refusal = noRecord .refusal;
-      grazed = noRecord .grazed;
-    })
+    (standing (opened noRecord (record { ch4 = 21; n2o = 310 })) 1 records (noRecord .refusal))
     [])
     bytes
     .state .account))

@@ -152,7 +152,7 @@ module _ {a : Account} {r : List ℕ} {code field : ℕ} (f : Faulty a r code fi
       v = valuesOf r
 
       go : (x y z : Bool) → eqb (kindOf r) 4 ≡ x → eqb (kindOf r) 5 ≡ y → eqb (kindOf r) 10 ≡ z
-          → pick x (not (eqb (sharesOf v) 10000)) (pick y (ltb 1000 (partsOf v)) false) || (z && ltb 10000 (grazedWith (a .grazed) v)) ≡ true
+          → pick x (not (eqb (sharesOf v) 10000)) (pick y (ltb 1000 (partsOf v)) false) || (z && ltb 10000 (grazedWith (a .used .grazed) v)) ≡ true
           → Parted (kindOf r)
       go true y z p q s t = inl (eqb-true _ _ p)
       go false true z p q s t = inr (inl (eqb-true _ _ q))
@@ -164,8 +164,8 @@ module _ {a : Account} {r : List ℕ} {code field : ℕ} (f : Faulty a r code fi
   of-days e = go (eqb (kindOf r) 3) (eqb (kindOf r) 4) (eqb (kindOf r) 5) refl refl refl (f .broken .values .days .1 (sym e))
     where
       go : (x y z : Bool) → eqb (kindOf r) 3 ≡ x → eqb (kindOf r) 4 ≡ y → eqb (kindOf r) 5 ≡ z
-          → pick x (ltb 366 (a .days .enteric + getD (valuesOf r) 0 0))
-          (pick y (ltb 366 (a .days .nitrogen + getD (valuesOf r) 0 0)) (pick z (ltb 366 (a .days .pig + getD (valuesOf r) 0 0)) false))
+          → pick x (ltb 366 (a .used .enteric + getD (valuesOf r) 0 0))
+          (pick y (ltb 366 (a .used .nitrogen + getD (valuesOf r) 0 0)) (pick z (ltb 366 (a .used .pig + getD (valuesOf r) 0 0)) false))
           ≡ true
           → (kindOf r ≡ 3) ⊎ ((kindOf r ≡ 4) ⊎ (kindOf r ≡ 5))
       go true y z p q s t = inl (eqb-true _ _ p)

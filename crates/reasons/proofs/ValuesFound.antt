@@ -90,11 +90,11 @@ module _ (a : Account) (k : ℕ) (v : List ℕ) {c : ℕ} {n : Numbers} where
   unfolding valuesCompared
   by-eight e p t = t ∙ rw (e, p) refl
 
-  pub by-nine : {x y : ℕ} → c ≡ 9 → x ≡ getD v 0 0 → y ≡ daysWith (a .days) k x → n ≡ told (numbers y 366) → n ≡ told (valuesCompared c a k v)
+  pub by-nine : {x y : ℕ} → c ≡ 9 → x ≡ getD v 0 0 → y ≡ daysWith (a .used) k x → n ≡ told (numbers y 366) → n ≡ told (valuesCompared c a k v)
   unfolding valuesCompared
   by-nine e p q t = t ∙ rw (e, q, p) refl
 
-  pub by-ten : c ≡ 10 → n ≡ partsTold (a .grazed) k v → n ≡ told (valuesCompared c a k v)
+  pub by-ten : c ≡ 10 → n ≡ partsTold (a .used .grazed) k v → n ≡ told (valuesCompared c a k v)
   unfolding valuesCompared
   by-ten e t = t ∙ rw e refl
 

@@ -1,7 +1,7 @@
 // The value and the limit: what the test of a rule compares.
 use crate::values::value_at;
 use account::Account;
-use account::Days;
+use account::Used;
 use codec::LAST_KIND;
 use codec::kinds::bytes_of;
 use codec::kinds::highest;
@@ -85,17 +85,17 @@ fn out_of_range(r: &[u8], row: u8, position: u8) -> Numbers
 }
 
 // The days of a kind, 3, 4 or 5, with so many more.
-fn days_with(days: Days, kind: u8, more: u64) -> u64
+fn days_with(used: Used, kind: u8, more: u64) -> u64
     requires { ⌜ more ≤ 366 ⌝ }
-    ensures { λ r. ⌜ r ≡ daysWith days kind more ⌝ }
+    ensures { λ r. ⌜ r ≡ daysWith used kind more ⌝ }
 {
     if kind == 3 {
-        return days.enteric as u64 + more;
+        return used.enteric as u64 + more;
     }
     if kind == 4 {
-        return days.nitrogen as u64 + more;
+        return used.nitrogen as u64 + more;
     }
-    days.pig as u64 + more
+    used.pig as u64 + more
 }
 
 // A cattle record's shares together, a pig record's parts, or the grazed fractions with this record's.
@@ -122,13 +122,13 @@ fn of_values(a: Account, r: &[u8], code: u8, field: u8) -> Numbers
 {
     let row = row_of(r[2], r[3]);
     let heading = a.heading;
-    let days = a.days;
+    let used = a.used;
     let first = value_at(r, row, 0);
     match code {
         7 => out_of_range(r, row, field),
         8 => both(first, heading.group as u64),
-        9 => both(days_with(days, row, first), 366),
-        10 => together(a.grazed, r, row),
+        9 => both(days_with(used, row, first), 366),
+        10 => together(used.grazed, r, row),
         12 => both(first, a.records as u64),
         _ => none(),
     }

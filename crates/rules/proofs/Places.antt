@@ -15,13 +15,13 @@ use Rattle.account.specs.Judge.{inPlace}
 module _ (a : Account) (f : AccountInRange a) where
   begun : 1 ≤ a .heading .class → a .records ≡ 0 → ⊥
   begun l e =
-      ⊎-elim (λ (h : Headed (a .heading) (a .days) (a .records)). omega (arith, e, h .records-least))
-      (λ (u : Unheaded (a .heading) (a .days)). omega (arith, l, u .class)) (f .heading)
+      ⊎-elim (λ (h : Headed (a .heading) (a .used) (a .records)). omega (arith, e, h .records-least))
+      (λ (u : Unheaded (a .heading) (a .used)). omega (arith, l, u .class)) (f .under .heading)
 
   class-most : a .heading .class ≤ 4
   class-most =
-      ⊎-elim (λ (h : Headed (a .heading) (a .days) (a .records)). h .class-most)
-      (λ (u : Unheaded (a .heading) (a .days)). omega (arith, u .class)) (f .heading)
+      ⊎-elim (λ (h : Headed (a .heading) (a .used) (a .records)). h .class-most)
+      (λ (u : Unheaded (a .heading) (a .used)). omega (arith, u .class)) (f .under .heading)
 
   -- a test that holds only under a heading needs no test of the records
   with-begun : (serves : Bool) → (serves ≡ true → 1 ≤ a .heading .class) → serves ≡ (serves && not (eqb (a .records) 0))

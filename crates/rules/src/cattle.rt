@@ -47,21 +47,21 @@ pub fn weigh(a: Account, v: [u64; 9], room: usize) -> Judged
     if code != 0 {
         return stopped(a, code, 0);
     }
-    let mut days = a.days;
-    let sum = days.nitrogen as u64 + v[0];
+    let mut used = a.used;
+    let sum = used.nitrogen as u64 + v[0];
     if 366 < sum {
         return wrong(a, 9, 0);
     }
     if v[6] + v[7] + v[8] != 10000 {
         return wrong(a, 10, 0);
     }
-    days.nitrogen = sum as u16;
+    used.nitrogen = sum as u32;
     let n = grams::cattle::nitrogen(cattle_ration(v), h.head as u64);
     match n {
         CattleNitrogen::BelowZero => wrong(a, 11, 0),
         CattleNitrogen::Given(m) => {
             let f = cattle_figures(m);
-            grouped_detail(a, 4, h.group, days, a.grazed, f, room)
+            grouped_detail(a, 4, h.group, used, f, room)
         }
     }
 }

@@ -22,7 +22,7 @@ pub fn weigh(a: Account, v: [u64; 3], room: usize) -> Judged
     }
     let co2 = grams::farm::energy(v[1], v[2]);
     let f = co2_alone(co2);
-    let days = a.days;
+    let used = a.used;
     let subtotal = a.subtotal;
-    detailed(a, 6, 0, days, a.grazed, subtotal, f, room)
+    detailed(a, 6, 0, used, subtotal, f, room)
 }

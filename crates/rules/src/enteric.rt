@@ -22,13 +22,13 @@ pub fn weigh(a: Account, v: [u64; 3], room: usize) -> Judged
     if code != 0 {
         return stopped(a, code, bad);
     }
-    let mut days = a.days;
-    let sum = days.enteric as u64 + v[0];
+    let mut used = a.used;
+    let sum = used.enteric as u64 + v[0];
     if 366 < sum {
         return wrong(a, 9, 0);
     }
-    days.enteric = sum as u16;
+    used.enteric = sum as u32;
     let ch4 = grams::cattle::enteric(v[1], v[2], h.head as u64, v[0]);
     let f = ch4_alone(ch4);
-    grouped_detail(a, 3, h.group, days, a.grazed, f, room)
+    grouped_detail(a, 3, h.group, used, f, room)
 }

@@ -22,12 +22,13 @@ pub fn weigh(a: Account, v: [u64; 4], room: usize) -> Judged
     if code != 0 {
         return stopped(a, code, bad);
     }
-    let sum = a.grazed as u64 + v[3];
+    let sum = a.used.grazed as u64 + v[3];
     if 10000 < sum {
         return wrong(a, 10, 0);
     }
     let co2e = grams::grazing::grazing(v[0], v[1], v[2], v[3], h.head as u64);
     let f = grazing_alone(co2e);
-    let days = a.days;
-    grouped_detail(a, 10, h.group, days, sum as u32, f, room)
+    let mut used = a.used;
+    used.grazed = sum as u32;
+    grouped_detail(a, 10, h.group, used, f, room)
 }

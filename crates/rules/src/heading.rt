@@ -1,4 +1,4 @@
-// Kind 2 heads a group: the line of the group before, then no days and no subtotal yet.
+// Kind 2 heads a group: the line of the group before, then nothing used and no subtotal yet.
 use crate::lines::full;
 use crate::lines::group_line;
 use crate::refusals::barred;
@@ -6,18 +6,17 @@ use crate::refusals::begun;
 use crate::refusals::stopped;
 use crate::refusals::wrong;
 use account::Account;
-use account::Days;
 use account::Heading;
 use account::Judged;
-use account::Subtotal;
-use grams::units::NO_N2O;
+use account::NONE_USED;
+use account::NO_SUBTOTAL;
 ghost use mathlib.Core.Path.{_≡_};
 ghost use Prim.Native.Nat.{_<_};
 ghost use Rattle.account.specs.Range.{AccountInRange};
 ghost use Rattle.account.specs.Judge.{weigh};
 ghost use Rattle.account.specs.Told.{TellsIn, inRoom, heading};
 
-// Under a new heading, with no days and no subtotal yet, and the line of the group before.
+// Under a new heading, with nothing used and no subtotal yet, and the line of the group before.
 fn headed(a: Account, h: Heading, room: usize) -> Judged
     requires { ⌜ a .records < 4096 ⌝ }
     ensures { λ r. ⌜ r ≡ inRoom room a (heading a (h .group) (h .class) (h .head)) ⌝ }
@@ -28,22 +27,12 @@ fn headed(a: Account, h: Heading, room: usize) -> Judged
     if room < line.given {
         return full(a, line);
     }
-    let none = Days {
-        enteric: 0,
-        nitrogen: 0,
-        pig: 0,
-    };
-    let zero = Subtotal {
-        ch4: 0,
-        n2o: NO_N2O,
-        excreted: 0,
-        land: 0,
-    };
+    let none = NONE_USED;
+    let zero = NO_SUBTOTAL;
     let mut next = a.by_fields();
     next.records = a.records + 1;
     next.heading = h;
-    next.days = none;
-    next.grazed = 0;
+    next.used = none;
     next.subtotal = zero;
     Judged {
         account: next,

@@ -2,10 +2,10 @@
 use crate::figures::group_figures;
 use crate::figures::sub_summed;
 use account::Account;
-use account::Days;
 use account::Figures;
 use account::Judged;
 use account::Subtotal;
+use account::Used;
 use account::line;
 use account::line::Line;
 use grams::units::NO_CO2;
@@ -41,19 +41,18 @@ pub(crate) fn full(a: Account, line: Line) -> Judged
     }
 }
 
-// One record more, with its days, its grazed fraction, its group's subtotal, its figures and its line.
+// One record more, with what is used, the group's subtotal, its figures and its line.
 pub(crate) fn detailed(
     a: Account,
     kind: u8,
     group: u16,
-    days: Days,
-    grazed: u32,
+    used: Used,
     subtotal: Subtotal,
     f: Figures,
     room: usize,
 ) -> Judged
     requires { ⌜ (a .records < 4096) × Bounded (a .sums) 4096 × Small f ⌝ }
-    ensures { λ r. ⌜ r ≡ inRoom room a (detailing a kind group days grazed subtotal f) ⌝ }
+    ensures { λ r. ⌜ r ≡ inRoom room a (detailing a kind group used subtotal f) ⌝ }
 {
     let line = Line {
         given: line_bytes::LINE_SIZE,
@@ -69,8 +68,7 @@ pub(crate) fn detailed(
     let more = sums.plus(f);
     let mut next = a.by_fields();
     next.records = a.records + 1;
-    next.days = days;
-    next.grazed = grazed;
+    next.used = used;
     next.subtotal = subtotal;
     next.sums = more;
     Judged {
@@ -84,17 +82,16 @@ pub(crate) fn grouped_detail(
     a: Account,
     kind: u8,
     group: u16,
-    days: Days,
-    grazed: u32,
+    used: Used,
     f: Figures,
     room: usize,
 ) -> Judged
     requires { ⌜ (a .records < 4096) × Bounded (a .sums) 4096 × Grouped (a .subtotal) 4096 × Small f ⌝ }
-    ensures { λ r. ⌜ r ≡ inRoom room a (detailing a kind group days grazed (grouped (a .subtotal) f) f) ⌝ }
+    ensures { λ r. ⌜ r ≡ inRoom room a (detailing a kind group used (grouped (a .subtotal) f) f) ⌝ }
 {
     let s = a.subtotal;
     let subtotal = sub_summed(s, f);
-    detailed(a, kind, group, days, grazed, subtotal, f, room)
+    detailed(a, kind, group, used, subtotal, f, room)
 }
 
 // The line of a group with this subtotal; no line where there was no heading.

@@ -52,16 +52,16 @@ pub fn weigh(a: Account, v: [u64; 12], room: usize) -> Judged
     if code != 0 {
         return stopped(a, code, bad);
     }
-    let mut days = a.days;
-    let sum = days.pig as u64 + v[0];
+    let mut used = a.used;
+    let sum = used.pig as u64 + v[0];
     if 366 < sum {
         return wrong(a, 9, 0);
     }
     if 1000 < v[8] + v[10] {
         return wrong(a, 10, 0);
     }
-    days.pig = sum as u16;
+    used.pig = sum as u32;
     let m = grams::pig::manure(pig_ration(v), h.head as u64);
     let f = pig_figures(m);
-    grouped_detail(a, 5, h.group, days, a.grazed, f, room)
+    grouped_detail(a, 5, h.group, used, f, room)
 }

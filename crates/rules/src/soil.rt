@@ -22,7 +22,7 @@ pub fn weigh(a: Account, v: [u64; 1], room: usize) -> Judged
     }
     let co2 = grams::farm::soil(v[0]);
     let f = co2_alone(co2);
-    let days = a.days;
+    let used = a.used;
     let subtotal = a.subtotal;
-    detailed(a, 7, 0, days, a.grazed, subtotal, f, room)
+    detailed(a, 7, 0, used, subtotal, f, room)
 }

@@ -22,7 +22,7 @@ pub fn weigh(a: Account, v: [u64; 5], room: usize) -> Judged
     }
     let co2 = grams::tillage::tillage(v[0], v[1], v[2], v[3], v[4]);
     let f = co2_alone(co2);
-    let days = a.days;
+    let used = a.used;
     let subtotal = a.subtotal;
-    detailed(a, 9, 0, days, a.grazed, subtotal, f, room)
+    detailed(a, 9, 0, used, subtotal, f, room)
 }

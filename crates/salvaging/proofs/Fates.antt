@@ -67,7 +67,7 @@ pub code-is : (a : Account) (r : List ℕ) → AccountInRange a → a .stage < 2
 unfolding judge
 code-is a r f h =
     of-choice (λ (j : Step). j .account .refusal .code ≡ wouldGet a r) (eqb (wouldGet a r) 0)
-    (λ e. grown a (kindOf r) (valuesOf r) .refusal ∙ f .unrefused (λ z. omega arith) .code ∙ sym (eqb-true _ _ e)) (λ e. refl)
+    (λ e. grown a (kindOf r) (valuesOf r) .refusal ∙ f .ended .unrefused (λ z. omega arith) .code ∙ sym (eqb-true _ _ e)) (λ e. refl)
 
 pub below-4096 : (a : Account) (r : List ℕ) → wouldGet a r ≡ 0 → a .records < 4096
 below-4096 a r e = leb-false _ _ (not-refused a r e .values .room)

@@ -8,17 +8,16 @@ use crate::words::read_bytes;
 use crate::words::read_number;
 use crate::words::read_numbers;
 use account::Account;
-use account::Days;
-use account::Figures;
-use account::Heading;
 use account::Refusal;
-use account::Subtotal;
+use account::numbers::NUMBERS;
+use account::numbers::account_of;
+use account::numbers::of_heading;
+use account::numbers::of_refusal;
+use account::numbers::of_start;
+use account::numbers::of_subtotal;
+use account::numbers::of_used;
 use book::Answer;
 use book::State;
-use grams::farm::Factors;
-use grams::units::Co2;
-use grams::units::Grazed;
-use grams::units::N2o;
 use libc::STDOUT_FILENO;
 ghost use Prim.Native.Nat.{_≤_};
 ghost use lib.ListN.{length};
@@ -44,91 +43,17 @@ struct Stepped {
     w: usize,
 }
 
-fn factors_of(v: [u64; 25]) -> Factors {
-    Factors {
-        ch4: (v[2] % 65536) as u16,
-        n2o: (v[3] % 65536) as u16,
-    }
-}
-
-fn heading_of(v: [u64; 25]) -> Heading {
-    Heading {
-        group: (v[4] % 65536) as u16,
-        class: (v[5] % 256) as u8,
-        head: (v[6] % 65536) as u16,
-    }
-}
-
-fn days_of(v: [u64; 25]) -> Days {
-    Days {
-        enteric: (v[7] % 65536) as u16,
-        nitrogen: (v[8] % 65536) as u16,
-        pig: (v[9] % 65536) as u16,
-    }
-}
-
-fn subtotal_of(v: [u64; 25]) -> Subtotal {
-    let n2o = N2o::of(v[12]);
-    Subtotal {
-        ch4: v[11],
-        n2o: n2o,
-        excreted: v[13],
-        land: v[14],
-    }
-}
-
-fn sums_of(v: [u64; 25]) -> Figures {
-    let n2o = N2o::of(v[16]);
-    let co2 = Co2::of(v[17]);
-    let grazing = Grazed::of(v[20]);
-    Figures {
-        ch4: v[15],
-        n2o: n2o,
-        co2: co2,
-        excreted: v[18],
-        land: v[19],
-        grazing: grazing,
-    }
-}
-
-fn refusal_of(v: [u64; 25]) -> Refusal {
-    Refusal {
-        code: (v[21] % 256) as u8,
-        accepted: (v[22] % 65536) as u16,
-        field: (v[23] % 256) as u8,
-    }
-}
-
-fn account_of(v: [u64; 25]) -> Account {
-    let factors = factors_of(v);
-    let heading = heading_of(v);
-    let days = days_of(v);
-    let subtotal = subtotal_of(v);
-    let sums = sums_of(v);
-    let refusal = refusal_of(v);
-    Account {
-        stage: (v[0] % 256) as u8,
-        records: (v[1] % 65536) as u16,
-        factors: factors,
-        heading: heading,
-        days: days,
-        subtotal: subtotal,
-        sums: sums,
-        refusal: refusal,
-        grazed: (v[10] % 65536) as u32,
-    }
-}
-
 pub(crate) fn read_state(line: &[u8], at: usize) -> Resumed {
-    let mut values = [0u64; 25];
+    let mut values = [0u64; NUMBERS];
     let mut held = [0u8; 27];
     let after = read_numbers(line, at, &mut values);
-    let h = read_bytes(line, after, &mut held);
+    let count = read_number(line, after);
+    let h = read_bytes(line, count.next, &mut held);
     let account = account_of(values);
     let state = State {
         account: account,
         held: held,
-        count: values[24] as usize,
+        count: count.value as usize,
     };
     Resumed {
         state: state,
@@ -136,61 +61,19 @@ pub(crate) fn read_state(line: &[u8], at: usize) -> Resumed {
     }
 }
 
-fn put_head(out: &mut [u8], at: usize, a: Account) -> usize {
-    let w = a.factors;
-    let h = a.heading;
-    let d = a.days;
-    let values = [
-        a.stage as u64,
-        a.records as u64,
-        w.ch4 as u64,
-        w.n2o as u64,
-        h.group as u64,
-        h.class as u64,
-        h.head as u64,
-        d.enteric as u64,
-        d.nitrogen as u64,
-        d.pig as u64,
-        a.grazed as u64,
-    ];
-    put_words(out, at, &values)
-}
-
-fn put_subtotal(out: &mut [u8], at: usize, s: Subtotal) -> usize {
-    let n2o = s.n2o;
-    let values = [s.ch4, n2o.grams(), s.excreted, s.land];
-    put_words(out, at, &values)
-}
-
-fn put_sums(out: &mut [u8], at: usize, f: Figures) -> usize {
-    let n2o = f.n2o;
-    let co2 = f.co2;
-    let grazing = f.grazing;
-    let values = [
-        f.ch4,
-        n2o.grams(),
-        co2.word(),
-        f.excreted,
-        f.land,
-        grazing.grams(),
-    ];
-    put_words(out, at, &values)
-}
-
 pub(crate) fn put_refusal(out: &mut [u8], at: usize, r: Refusal) -> usize {
-    let values = [r.code as u64, r.accepted as u64, r.field as u64];
+    let values = of_refusal(r);
     put_words(out, at, &values)
 }
 
-// A state but for its held bytes.
+// A state but for its held bytes: its numbers, part by part.
 fn put_account(out: &mut [u8], at: usize, a: Account) -> usize {
-    let subtotal = a.subtotal;
-    let sums = a.sums;
-    let refusal = a.refusal;
-    let head = put_head(out, at, a);
-    let group = put_subtotal(out, head, subtotal);
-    let body = put_sums(out, group, sums);
-    put_refusal(out, body, refusal)
+    let start = put_words(out, at, &of_start(a));
+    let heading = put_words(out, start, &of_heading(a.heading));
+    let used = put_words(out, heading, &of_used(a.used));
+    let subtotal = put_words(out, used, &of_subtotal(a.subtotal));
+    let sums = put_words(out, subtotal, &a.sums.listed());
+    put_refusal(out, sums, a.refusal)
 }
 
 // A state on a line of its own.

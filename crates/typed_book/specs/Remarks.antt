@@ -12,7 +12,7 @@ use Rattle.codec.specs.Table.{fields, lastRow}
 use Rattle.names.specs.Names.{kindName, kindNames, fieldName, fieldNames, expected, decimalsAt, className, sentence, shown}
 use Rattle.typed_line.specs.Line.{rowOfLine}
 use Rattle.account.specs.declared.Account.{Account}
-use Rattle.account.specs.declared.Days.{Days}
+use Rattle.account.specs.declared.Used.{Used}
 use Rattle.account.specs.declared.Refusal.{Refusal}
 use Rattle.typed_book.specs.declared.Typist.{Typist}
 use Rattle.typed_book.specs.declared.Fate.{Fate}
@@ -95,10 +95,10 @@ daysText isFirst k days year =
     pick (eqb days 0) []
     (pick isFirst (ascii " ") (ascii ", ") ++ (kindName k ++ (ascii " " ++ (decimal days ++ (ascii " days" ++ ofYear days year)))))
 
-abbrev pub noDays : Days → Bool
+abbrev pub noDays : Used → Bool
 noDays d = eqb (d .enteric) 0 && (eqb (d .nitrogen) 0 && eqb (d .pig) 0)
 
-unfoldable pub allDays : Days → ℕ → List ℕ
+unfoldable pub allDays : Used → ℕ → List ℕ
 allDays d year =
     pick (noDays d) (ascii " no days")
     (daysText true 3 (d .enteric) year
@@ -112,7 +112,7 @@ unfoldable pub groupText : Account → ℕ → List ℕ
 groupText a year =
     pick (eqb (a .heading .group) 0) []
     (ascii "group "
-    ++ (decimal (a .heading .group) ++ (ascii " " ++ (headText (a .heading .class) (a .heading .head) ++ (allDays (a .days) year ++ ascii "\n")))))
+    ++ (decimal (a .heading .group) ++ (ascii " " ++ (headText (a .heading .class) (a .heading .head) ++ (allDays (a .used) year ++ ascii "\n")))))
 
 -- ---- behind a line
 

@@ -2,8 +2,8 @@
 use crate::Fate;
 use crate::Typist;
 use account::Account;
-use account::Days;
 use account::Refusal;
+use account::Used;
 use printing::say;
 use printing::say_number;
 ghost use mathlib.Core.Path.{_≡_};
@@ -271,7 +271,7 @@ fn say_days(out: &mut [u8], at: usize, first: bool, kind: u64, days: u64, year: 
     say_of_year(out, word, days, year)
 }
 
-fn say_all_days(out: &mut [u8], at: usize, d: Days, year: u64) -> usize
+fn say_all_days(out: &mut [u8], at: usize, d: Used, year: u64) -> usize
     requires { ⌜ at ≤ length (now out) ⌝ }
     ensures { λ r. ⌜ Said (now (out .entry)) (now (out .exit)) at (allDays d year) r ⌝ }
 {
@@ -308,7 +308,7 @@ fn say_group(out: &mut [u8], at: usize, a: Account, year: u64) -> usize
     if h.group == 0 {
         return at;
     }
-    let days = a.days;
+    let days = a.used;
     let word = say(out, at, b"group ");
     let number = say_number(out, word, h.group as u64);
     let blank = say(out, number, b" ");

@@ -1,12 +1,15 @@
 use mathlib.Core.Path.{refl}
 use native.Mathlib.Omega.{arith}
 use borrow.Author.Needs.{needs}
+use Rattle.codec.specs.Table.{size}
+use Rattle.account.specs.Numbers.{accountFields}
 use Rattle.desk.proofs.Images.{called-few}
 use Rattle.desk.proofs.Number.{from-zeros, is-number}
 use Rattle.desk.proofs.herd_desk.Statement.{statement}
 use Rattle.desk.proofs.herd_desk.Tie as tie
 
 pub herd-desk-spec : {M : Type 1} → statement M
+unfolding size accountFields
 herd-desk-spec =
     tie.close
     (tie.spec

@@ -1,6 +1,8 @@
 -- `image::call` meets its contract: 13 where the image is none, else what feed gives, and the image of its state.
 -- Assumes nothing.
 use borrow.Author.Needs.{needs}
+use Rattle.codec.specs.Table.{size}
+use Rattle.account.specs.Numbers.{accountFields}
 use Rattle.image.proofs.Calls.{meets-length, meets-outside, meets-inside}
 use Rattle.image.proofs.call.Statement.{statement}
 use Rattle.image.proofs.call.Tie as tie
@@ -10,6 +12,7 @@ abbrev entry : tie.After-feed → tie.Start
 entry c = c .before .before .before .before .before .before .before .before
 
 pub call-spec : {M : Type 1} → statement M
+unfolding size accountFields
 call-spec =
     tie.close
     (tie.spec

@@ -1,7 +1,7 @@
 -- In stage 3, or not. Assumes nothing.
 use mathlib.Core.Path.{sym, _∙_}
 use borrow.Author.Tests.{ne-eqb}
-use Rattle.account.proofs.Shortcuts.{and-true}
+use Rattle.base.proofs.Tests.{and-true}
 use Rattle.account.proofs.range.ended.Statement.{statement}
 use Rattle.account.proofs.range.ended.Tie as tie
 

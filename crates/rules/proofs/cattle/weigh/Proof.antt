@@ -7,7 +7,7 @@ use Rattle.account.specs.Figures.{figuresOf}
 use Rattle.account.specs.Sorts.{sortOf}
 use Rattle.account.specs.Judge.{inPlace, first, accepted}
 use Rattle.account.proofs.EachFigure.Cattle.{cattle-in, cattle-shares}
-use Rattle.account.proofs.Told.{head-most, days-most, sums-most, subtotal-most, small-cattle, below-zero, not-below, manure-is, tells-detail}
+use Rattle.account.proofs.Told.{head-most, used-most, sums-most, subtotal-most, small-cattle, below-zero, not-below, manure-is, tells-detail}
 use Rattle.account.proofs.Told.{told-in, Passes, passes, stops, refuses, accepts}
 use Rattle.rules.proofs.Places.{cattle-place}
 use Rattle.rules.proofs.cattle.weigh.Statement.{statement}
@@ -43,7 +43,7 @@ passed c =
 
 add-sum : tie.Need-add-sum
 add-sum c =
-    let d = days-most _ (c .before .before .before .before .before .before .before .before .pre .0) in
+    let d = used-most _ (c .before .before .before .before .before .before .before .before .pre .0) in
     omega (arith, cattle-in _ 0 (omega arith) (passed (c .before .before) .ranges) .days-in)
 
 returns-3 : tie.Need-returns-3
@@ -109,7 +109,7 @@ returns-6 c =
       rw (c .before .before .before .before .before .before .before .cattle-ration .ensures) at manure,
     )
     (tells-detail (c .before .before .before .before .before .before .before .before .before .before .before .before .before .before .before .before
-    .before .before .args .a) _ _ _ _ _ _))
+    .before .before .args .a) _ _ _ _ _))
 
 pub weigh-spec : {M : Type 1} → statement M
 weigh-spec =

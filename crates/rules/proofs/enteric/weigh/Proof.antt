@@ -7,7 +7,7 @@ use Rattle.account.specs.Figures.{figuresOf}
 use Rattle.account.specs.Sorts.{sortOf}
 use Rattle.account.specs.Judge.{inPlace, first, accepted}
 use Rattle.account.proofs.EachFigure.Enteric.{enteric-in}
-use Rattle.account.proofs.Told.{head-most, days-most, sums-most, subtotal-most, small-ch4, tells-detail, told-in, Passes, passes, stops, refuses}
+use Rattle.account.proofs.Told.{head-most, used-most, sums-most, subtotal-most, small-ch4, tells-detail, told-in, Passes, passes, stops, refuses}
 use Rattle.account.proofs.Told.{accepts}
 use Rattle.rules.proofs.Places.{cattle-place}
 use Rattle.rules.proofs.enteric.weigh.Statement.{statement}
@@ -29,7 +29,7 @@ passed c =
 
 add-sum : tie.Need-add-sum
 add-sum c =
-    let d = days-most _ (c .before .before .before .before .before .before .before .pre .0) in
+    let d = used-most _ (c .before .before .before .before .before .before .before .pre .0) in
     omega (arith, enteric-in _ 0 (omega arith) (passed (c .before .before) .ranges) .days-in)
 
 returns-2 : tie.Need-returns-2
@@ -59,7 +59,7 @@ returns-3 c =
       c .before .ch4-alone .ensures,
       c .before .before .enteric .ensures .exact,
     )
-    (tells-detail (c .before .before .before .before .before .before .before .before .before .before .before .before .args .a) _ _ _ _ _ _))
+    (tells-detail (c .before .before .before .before .before .before .before .before .before .before .before .before .args .a) _ _ _ _ _))
 
 pub weigh-spec : {M : Type 1} → statement M
 weigh-spec =

@@ -7,7 +7,8 @@ use Rattle.account.specs.Figures.{figuresOf}
 use Rattle.account.specs.Sorts.{sortOf}
 use Rattle.account.specs.Judge.{inPlace, first, accepted}
 use Rattle.account.proofs.EachFigure.Grazing.{grazing-in, grazing-fraction}
-use Rattle.account.proofs.Told.{head-most, sums-most, subtotal-most, small-grazing, tells-detail, told-in, Passes, passes, stops, refuses, accepts}
+use Rattle.account.proofs.Told.{head-most, used-most, sums-most, subtotal-most, small-grazing, tells-detail, told-in, Passes, passes, stops, refuses}
+use Rattle.account.proofs.Told.{accepts}
 use Rattle.rules.proofs.Places.{cattle-place}
 use Rattle.rules.proofs.grazing.weigh.Statement.{statement}
 use Rattle.rules.proofs.grazing.weigh.Tie as tie
@@ -28,7 +29,7 @@ passed c =
 
 add-sum : tie.Need-add-sum
 add-sum c =
-    let g = c .before .before .before .before .before .before .pre .0 .grazed .most in
+    let g = used-most _ (c .before .before .before .before .before .before .pre .0) .grazed in
     omega (arith, g, grazing-fraction _ (passed (c .before) .ranges))
 
 returns-2 : tie.Need-returns-2
@@ -58,7 +59,7 @@ returns-3 c =
       c .before .before .grazing-alone .ensures,
       c .before .before .before .grazing .ensures .exact,
     )
-    (tells-detail (c .before .before .before .before .before .before .before .before .before .before .before .before .args .a) _ _ _ _ _ _))
+    (tells-detail (c .before .before .before .before .before .before .before .before .before .before .before .before .args .a) _ _ _ _ _))
 
 pub weigh-spec : {M : Type 1} → statement M
 weigh-spec =

@@ -1,4 +1,4 @@
--- Refused by 5, 6 or 7, or by 8; else a new heading, with no days yet. Assumes nothing.
+-- Refused by 5, 6 or 7, or by 8; else a new heading, with nothing used yet. Assumes nothing.
 use mathlib.Core.Path.{refl}
 use native.Mathlib.Omega.{arith}
 use borrow.Author.Needs.{needs}

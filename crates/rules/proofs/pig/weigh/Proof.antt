@@ -7,7 +7,7 @@ use Rattle.account.specs.Figures.{figuresOf}
 use Rattle.account.specs.Sorts.{sortOf}
 use Rattle.account.specs.Judge.{inPlace, first, accepted}
 use Rattle.account.proofs.EachFigure.Pig.{pig-days, pig-in, pig-parts}
-use Rattle.account.proofs.Told.{head-most, days-most, sums-most, subtotal-most, small-pig, tells-detail, told-in, Passes, passes, stops, refuses}
+use Rattle.account.proofs.Told.{head-most, used-most, sums-most, subtotal-most, small-pig, tells-detail, told-in, Passes, passes, stops, refuses}
 use Rattle.account.proofs.Told.{accepts}
 use Rattle.rules.proofs.Places.{pig-place}
 use Rattle.rules.proofs.pig.weigh.Statement.{statement}
@@ -28,7 +28,7 @@ passed c =
     (c .if1 .left)
 
 add-sum : tie.Need-add-sum
-add-sum c = let d = days-most _ (c .before .before .before .before .before .before .before .pre .0) in
+add-sum c = let d = used-most _ (c .before .before .before .before .before .before .before .pre .0) in
     omega (arith, pig-days _ (passed (c .before .before) .ranges))
 
 returns-2 : tie.Need-returns-2
@@ -72,7 +72,7 @@ returns-4 c =
       c .before .before .before .before .pig-ration .ensures,
     )
     (tells-detail (c .before .before .before .before .before .before .before .before .before .before .before .before .before .before .args
-    .a) _ _ _ _ _ _))
+    .a) _ _ _ _ _))
 
 pub weigh-spec : {M : Type 1} → statement M
 weigh-spec =

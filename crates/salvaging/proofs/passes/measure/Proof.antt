@@ -54,7 +54,7 @@ measure-spec =
     let e = c .before in
     let t = e .before .before in
     let m = measuring-on _ _ (turned t) (some e) (t .before .before .before .loop .inv) in
-    omega (arith, m .short, m .opened .range .counted .records-most, c .by-code .ensures))
+    omega (arith, m .short, m .opened .range .started .counted .records-most, c .by-code .ensures))
     (λ c κs. tt)
     (λ c. let m = on c in omega (arith, m .few, m .within, entry (c .before .before .before .before) .good))
     (λ c. let m = on (c .before .before) in omega (arith, m .within, entry (c .before .before .before .before .before .before) .good))

@@ -1,0 +1,29 @@
+-- The code's widths are those of the specification, one after the other. Assumes nothing.
+use mathlib.Core.Path.{_≡_, refl, sym, _∙_}
+use mathlib.Core.List.{map}
+use mathlib.Core.Logic.{⊎-elim}
+use Prim.Native.Nat.{ℕ, _<_, _≤_}
+use native.Mathlib.Omega.{arith}
+use lib.ListN.{length, getD}
+use Rattle.codec.proofs.Columns.{of-field}
+use Rattle.account.specs.Numbers.{accountFields, widthOf}
+use Rattle.account.proofs.AsNumbers.{width-most}
+use Rattle.account.proofs.numbers.width.Statement.{statement}
+use Rattle.account.proofs.numbers.width.Tie as tie
+
+there : tie.Need-element-copy-out-result
+unfolding accountFields
+there c = c .before .pre
+
+returns : tie.Need-returns
+unfolding accountFields
+returns c = of-field (λ f. f .0) refl accountFields (c .before .before .args .i)
+
+small : tie.Need-cast-result
+unfolding accountFields
+small c =
+    let i = c .before .before .args .i in
+    omega (arith, of-field (λ f. f .0) refl accountFields i, width-most i (c .before .before .pre))
+
+pub width-spec : {M : Type 1} → statement M
+width-spec = tie.close (tie.spec there small returns)
