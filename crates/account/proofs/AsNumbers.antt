@@ -19,7 +19,8 @@ use Rattle.codec.proofs.Within.{none}
 use Rattle.grams.specs.Units.{co2Word}
 use Rattle.account.specs.declared.Account.{Account}
 use Rattle.account.specs.Range.{AccountInRange}
-use Rattle.account.specs.Numbers.{accountFields, widthOf, numbersOf, accountBy, cutTo, accountOf}
+use Rattle.account.specs.Account.{accountFields, widthOf, numbersOf, accountBy, cutTo, accountOf}
+use Rattle.account.proofs.FarmSet.{farm-most}
 use Rattle.account.proofs.Under.{head-in, group-in, class-in, used-in}
 use Rattle.account.proofs.Ended.{refusal-in}
 
@@ -58,8 +59,7 @@ pub numbers-fit : (a : Account) → AccountInRange a → co2Word (a .sums .co2) 
 unfolding accountFields bytesHold
 numbers-fit a f word =
     let counted = f .started .counted in
-    let ch4-factor = f .started .ch4-factor in
-    let n2o-factor = f .started .n2o-factor in
+    let farm = farm-most (f .started .farm) in
     let head = head-in (f .under) in
     let group = group-in (f .under) in
     let class = class-in (f .under) in

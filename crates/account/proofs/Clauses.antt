@@ -22,7 +22,7 @@ module _ (a : Account) where
   pub in-range-parts : accountInRange a ≡ true → AccountInRange a
   unfolding accountInRange
   in-range-parts e =
-      let t = all-each (startedTest (a .stage) (a .records) (a .factors)) rest e in
+      let t = all-each (startedTest (a .stage) (a .records) (a .farm)) rest e in
       record {
         started = started-parts _ _ _ (t .0);
         sums = bounded-parts _ _ (t .1 .0);
@@ -33,5 +33,5 @@ module _ (a : Account) where
   pub in-range-test : AccountInRange a → accountInRange a ≡ true
   unfolding accountInRange
   in-range-test f =
-      each-all (startedTest (a .stage) (a .records) (a .factors)) rest (started-test _ _ _ (f .started))
+      each-all (startedTest (a .stage) (a .records) (a .farm)) rest (started-test _ _ _ (f .started))
       (bounded-test _ _ (f .sums), (under-test _ _ _ _ (f .under), (ended-test _ _ _ (f .ended), tt)))

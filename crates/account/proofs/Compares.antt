@@ -119,11 +119,13 @@ or-none false e = e
 abbrev Together : Used → ℕ → List ℕ → Compared → Type 0
 Together u k v x =
     ((k ≡ 4) × (x ≡ numbers (sharesOf v) 10000) × (x .value ≡ x .limit → ⊥))
-    ⊎ (((k ≡ 5) × (x ≡ numbers (partsOf v) 1000) × (x .limit < x .value)) ⊎ ((k ≡ 10) × (x ≡ numbers (grazedWith (u .grazed) v) 10000) × (x .limit < x .value)))
+    ⊎ (((k ≡ 5) × (x ≡ numbers (partsOf v) 1000) × (x .limit < x .value))
+    ⊎ ((k ≡ 10) × (x ≡ numbers (grazedWith (u .grazed) v) 10000) × (x .limit < x .value)))
 
 -- the shares, a pig's parts, or the grazed fractions: whichever of the two tests of 10 refuses
 together-wrong : (u : Used) (k : ℕ) (v : List ℕ) → partsWrong k v || grazedOver u k v ≡ true
-    → Together u k v (pick (eqb k 4) (numbers (sharesOf v) 10000) (pick (eqb k 5) (numbers (partsOf v) 1000) (numbers (grazedWith (u .grazed) v) 10000)))
+    → Together u k v (pick (eqb k 4) (numbers (sharesOf v) 10000)
+    (pick (eqb k 5) (numbers (partsOf v) 1000) (numbers (grazedWith (u .grazed) v) 10000)))
 together-wrong u k v e = go (eqb k 4) (eqb k 5) (eqb k 10) refl refl refl e
   where
     go : (x y z : Bool) → eqb k 4 ≡ x → eqb k 5 ≡ y → eqb k 10 ≡ z

@@ -23,7 +23,8 @@ use Rattle.account.specs.Sorts.{Sort, sortOf, bySort}
 use Rattle.account.specs.Figures.{added, grouped, figuresOf}
 use Rattle.account.specs.Line.{lineOf}
 use Rattle.account.specs.Range.{UsedMost}
-use Rattle.account.specs.Judge.{kindOf, valuesOf, withDetail, headingServes, inPlace, usedAfter, partsWrong}
+use Rattle.account.specs.Account.{withDetail, usedAfter}
+use Rattle.account.specs.Judge.{kindOf, valuesOf, headingServes, inPlace, partsWrong}
 use Rattle.account.specs.Judge.{NotRefused, Step, accepted, judge}
 use Rattle.account.proofs.Sorts.{by-sort, other-kind}
 use Rattle.account.proofs.Refusals.{none-refuses}

@@ -17,8 +17,8 @@ use Rattle.codec.specs.Table.{table, fields, lastRow, isRow}
 use Rattle.codec.specs.Codec.{firstBad}
 use Rattle.codec.proofs.Within.{bad-position}
 use Rattle.line_bytes.specs.Lines.{lineSize, totalSize, linesMost}
-use Rattle.grams.specs.declared.farm.Factors.{Factors}
 use Rattle.account.specs.declared.Account.{Account}
+use Rattle.account.specs.declared.Farm.{Farm}
 use Rattle.account.specs.declared.Figures.{Figures}
 use Rattle.account.specs.declared.Heading.{Heading}
 use Rattle.account.specs.declared.Subtotal.{Subtotal}
@@ -26,19 +26,22 @@ use Rattle.account.specs.declared.Used.{Used}
 use Rattle.account.specs.Sorts.{isFarm, heads, ofGroup, ofFarm, sortOf}
 use Rattle.account.specs.Figures.{figuresOf, grouped, groupFigures}
 use Rattle.account.specs.Line.{joined, lineWith, lineOf, subtotals, totalOf}
-use Rattle.account.specs.Range.{UsedMost, Under, AccountInRange}
-use Rattle.account.specs.Judge.{versionOf, kindByte, kindOf, valuesOf, noRecord, refused, opened, underHeading, withDetail, closed}
-use Rattle.account.specs.Judge.{farmFactors, headingServes, inPlace, usedAfter, partsWrong, refusals, withLine}
+use Rattle.account.specs.Range.{FarmIn, UsedMost, Under, AccountInRange}
+use Rattle.account.specs.Account.{noRecord, refused, opened, underHeading, withDetail, closed}
+use Rattle.account.specs.Judge.{versionOf, kindByte, kindOf, valuesOf}
+use Rattle.account.specs.Account.{farmOf, usedAfter}
+use Rattle.account.specs.Judge.{headingServes, inPlace, partsWrong, refusals, withLine}
 use Rattle.account.specs.Judge.{first, ValuesPass, Step, accepted, judge}
 use Rattle.account.specs.Told.{Small}
 use Rattle.account.proofs.Sorts.{by-sort, sort-farm, heads-two, of-group, not-of-group}
 use Rattle.account.proofs.Sums.{bounded-none, bounded-next, bounded-added, grouped-added}
+use Rattle.account.proofs.FarmSet.{farm-opened}
 use Rattle.account.proofs.Started.{started-none, started-refused, started-opened, started-next, started-closed}
 use Rattle.account.proofs.UsedUp.{fits-within}
 use Rattle.account.proofs.Under.{under-nothing, under-next, under-headed, under-more}
 use Rattle.account.proofs.Ended.{ended-none, ended-refused, ended-on}
 use Rattle.account.proofs.Refusals.{passed, not-refused, refused-by, number-most}
-use Rattle.account.proofs.Ranges.{factors-in, heading-in}
+use Rattle.account.proofs.Ranges.{heading-in}
 use Rattle.account.proofs.Details.{DetailKind}
 use Rattle.account.proofs.EachFigure.{figures-small}
 use Rattle.account.proofs.Told.{head-most, used-most, line-long, total-long, both-long}
@@ -104,10 +107,10 @@ class-least k class e = go (eqb k 3) (eqb k 4) (eqb k 5) (eqb k 10) (of-group k 
     go false false false false g s = no-bool g
 
 module _ (a : Account) (f : AccountInRange a) (early : a .stage < 2) where
-  in-range-opened : (w : Factors) → 1 ≤ w .ch4 → w .ch4 ≤ 1000 → 1 ≤ w .n2o → w .n2o ≤ 1000 → a .records ≡ 0 → AccountInRange (opened a w)
-  in-range-opened w c1 c2 n1 n2 none =
+  in-range-opened : (farm : Farm) → FarmIn farm (a .records + 1) → a .records ≡ 0 → AccountInRange (opened a farm)
+  in-range-opened farm i none =
       record {
-        started = started-opened (a .records) w c1 c2 n1 n2 none;
+        started = started-opened (a .records) farm i none;
         sums = bounded-next (f .sums);
         under = under-next (f .under);
         ended = ended-on (f .ended) early _ _ (omega arith);
@@ -144,7 +147,8 @@ module _ (a : Account) (f : AccountInRange a) (early : a .stage < 2) where
           ended = ended-on (f .ended) early _ _ (omega arith);
         }
 
-    in-range-detail : (u : Used) (t : Subtotal) (g : Figures) → Small g → Under (a .heading) u t (a .records + 1) → AccountInRange (withDetail a u t g)
+    in-range-detail : (u : Used) (t : Subtotal) (g : Figures) → Small g → Under (a .heading) u t (a .records + 1)
+        → AccountInRange (withDetail a u t g)
     in-range-detail u t g small under =
         record {
           started = started-next (f .started) begun room early;
@@ -177,16 +181,11 @@ module _ (a : Account) (f : AccountInRange a) (early : a .stage < 2) where
 
   -- ---- by its sort
 
-  kept-opens : (k : ℕ) (v : List ℕ) → ValuesPass a k v → isFarm k ≡ true → AccountInRange (opened a (farmFactors k v))
+  kept-opens : (k : ℕ) (v : List ℕ) → ValuesPass a k v → isFarm k ≡ true → AccountInRange (opened a (farmOf k v))
   unfolding inPlace
   kept-opens k v c e =
       let empty = eqb-true _ _ (rw e at (passed a k v c .place)) in
-      of-choice (λ (w : Factors). AccountInRange (opened a w)) (eqb k lastRow)
-      (λ q. let i = factors-in v (rw (eqb-true k lastRow q) at (passed a k v c .ranges)) in
-      in-range-opened _ (i .ch4-least) (i .ch4-most) (i .n2o-least) (i .n2o-most) empty)
-      (λ q. of-choice (λ (w : Factors). AccountInRange (opened a w)) (eqb (getD v 2 0) 1)
-      (λ e. in-range-opened _ (omega arith) (omega arith) (omega arith) (omega arith) empty)
-      (λ e. in-range-opened _ (omega arith) (omega arith) (omega arith) (omega arith) empty))
+      in-range-opened (farmOf k v) (farm-opened k v (a .records + 1) (omega arith) (passed a k v c .ranges)) empty
 
   kept-heading : (k : ℕ) (v : List ℕ) → ValuesPass a k v → sortOf k ≡ heads → AccountInRange (underHeading a (getD v 0 0) (getD v 1 0) (getD v 2 0))
   kept-heading k v c e =

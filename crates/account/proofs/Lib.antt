@@ -6,6 +6,7 @@ pub mod Told
 pub mod Refusals
 pub mod Compares
 pub mod Written
+pub mod FarmSet
 mod Started
 mod UsedUp
 pub mod Under

@@ -18,19 +18,7 @@ each-good (f ∷ fs) vs i e = let w = first-within f fs vs i e in (w .0 .above, 
 pub good : (k : ℕ) (v : List ℕ) → firstBad (fields k) v 0 ≡ 0 → Good (length (fields k)) (fields k) v 0
 good k v e = each-good (fields k) v 0 e
 
--- what a farm record of version 2 and a heading store
-pub record FactorsIn (v : List ℕ) : Type 0 where
-  pub ch4-least : 1 ≤ getD v 2 0
-  pub ch4-most : getD v 2 0 ≤ 1000
-  pub n2o-least : 1 ≤ getD v 3 0
-  pub n2o-most : getD v 3 0 ≤ 1000
-
-pub factors-in : (v : List ℕ) → firstBad (fields lastRow) v 0 ≡ 0 → FactorsIn v
-unfolding table
-factors-in v e =
-    let g = good lastRow v e in
-    record { ch4-least = omega arith; ch4-most = omega arith; n2o-least = omega arith; n2o-most = omega arith }
-
+-- what a heading stores
 pub record HeadingIn (v : List ℕ) : Type 0 where
   pub group-least : 1 ≤ getD v 0 0
   pub group-most : getD v 0 0 ≤ 65535

@@ -1,15 +1,17 @@
--- Stage, records and warming factors: the test is the range, in stage 1 it takes fewer steps, and they stay in range.
+-- Stage, records and what the farm record set: the test is the range, in stage 1 it takes fewer steps, and they stay in range.
 -- Assumes nothing.
-use Prim.Native.Nat.{ℕ, zero, suc, _+_, _≤_, _<_}
+use Prim.Native.Nat.{ℕ, _+_, _≤_, _<_}
 use mathlib.Core.Path.{_≡_, refl}
 use mathlib.Core.List.{List, [], _∷_}
 use mathlib.Core.Bool.{Bool, true, _&&_, _||_, not}
 use native.Mathlib.Omega.{arith}
 use borrow.Author.Tests.{leb-true, le-leb, eqb-true, eq-eqb}
 use lib.Dec.{leb, eqb}
-use Rattle.base.proofs.Tests.{all-each, each-all, implied, implies, same-test}
-use Rattle.grams.specs.declared.farm.Factors.{Factors}
-use Rattle.account.specs.Range.{Counted, FactorIn, Started, countedTest, factorTest, startedTest}
+use Rattle.base.proofs.Tests.{all-each, each-all, implied, implies, both-true, and-l, and-r, same-test}
+use Rattle.account.specs.declared.Farm.{Farm}
+use Rattle.account.specs.Account.{noFarm}
+use Rattle.account.specs.Range.{Counted, FarmIn, Started, countedTest, startedTest}
+use Rattle.account.proofs.FarmSet.{farm-parts, farm-test, setTest, set-parts, set-test, farm-none, farm-next}
 
 -- ---- the test and the range
 
@@ -46,94 +48,51 @@ module _ (stage records : ℕ) where
         ),
       )
 
-module _ (factor records : ℕ) where
-  abbrev factorRest : List Bool
-  factorRest = (not (eqb factor 0) || eqb records 0) ∷ (not (eqb records 0) || eqb factor 0) ∷ []
-
-  factor-parts : factorTest factor records ≡ true → FactorIn factor records
-  factor-parts e =
-      let t = all-each (leb factor 1000) factorRest e in
-      record {
-        most = leb-true _ _ (t .0);
-        none = λ h. eqb-true _ _ (implied _ _ (t .1 .0) (eq-eqb _ _ h));
-        some = λ h. eqb-true _ _ (implied _ _ (t .1 .1 .0) (eq-eqb _ _ h));
-      }
-
-  factor-test : FactorIn factor records → factorTest factor records ≡ true
-  factor-test w =
-      each-all (leb factor 1000) factorRest (le-leb _ _ (w .most)) (
-        implies (eqb factor 0) (eqb records 0) (λ h. eq-eqb _ _ (w .none (eqb-true _ _ h))),
-        (implies (eqb records 0) (eqb factor 0) (λ h. eq-eqb _ _ (w .some (eqb-true _ _ h))), tt),
-      )
-
-module _ (stage records : ℕ) (w : Factors) where
-  abbrev factorTests : List Bool
-  factorTests = factorTest (w .ch4) records ∷ factorTest (w .n2o) records ∷ []
-
-  pub started-parts : startedTest stage records w ≡ true → Started stage records w
+module _ (stage records : ℕ) (f : Farm) where
+  pub started-parts : startedTest stage records f ≡ true → Started stage records f
   started-parts e =
-      let t = all-each (countedTest stage records) factorTests e in
-      record { counted = counted-parts _ _ (t .0); ch4-factor = factor-parts _ _ (t .1 .0); n2o-factor = factor-parts _ _ (t .1 .1 .0) }
+      let p = farm-parts (countedTest stage records) f records e in
+      record { counted = counted-parts stage records (p .0); farm = p .1 }
 
-  pub started-test : Started stage records w → startedTest stage records w ≡ true
-  started-test s =
-      each-all (countedTest stage records) factorTests (counted-test _ _ (s .counted))
-      (factor-test _ _ (s .ch4-factor), (factor-test _ _ (s .n2o-factor), tt))
+  pub started-test : Started stage records f → startedTest stage records f ≡ true
+  started-test s = farm-test (countedTest stage records) f records (counted-test stage records (s .counted)) (s .farm)
 
--- ---- in stage 1: records and factors are there, and not too many
+-- ---- in stage 1: records are there, and not too many
 
-some-factor : (factor records : ℕ) → 1 ≤ records → 1 ≤ factor → factor ≤ 1000 → FactorIn factor records
-some-factor factor records r low high = record { most = high; none = λ h. absurd (omega arith); some = λ h. absurd (omega arith) }
+module _ (records : ℕ) (f : Farm) where
+  abbrev some : Bool
+  some = leb 1 records && leb records 4096
 
-not-none : (n m : ℕ) → 1 ≤ n → (m ≡ 0 → n ≡ 0) → leb 1 m ≡ true
-not-none n zero l h = let z = h refl in absurd (omega arith)
-not-none n (suc m) l h = le-leb 1 (suc m) (omega arith)
+  least : some ≡ true → 1 ≤ records
+  least e = leb-true 1 records (and-l (leb 1 records) (leb records 4096) e)
 
-module _ (records : ℕ) (w : Factors) where
-  abbrev openRest : List Bool
-  openRest = leb records 4096 ∷ leb 1 (w .ch4) ∷ leb (w .ch4) 1000 ∷ leb 1 (w .n2o) ∷ leb (w .n2o) 1000 ∷ []
-
-  abbrev openTest : Bool
-  openTest = leb 1 records && leb records 4096 && leb 1 (w .ch4) && leb (w .ch4) 1000 && leb 1 (w .n2o) && leb (w .n2o) 1000
-
-  there : openTest ≡ true → startedTest 1 records w ≡ true
+  there : setTest some f ≡ true → startedTest 1 records f ≡ true
   there e =
-      let t = all-each (leb 1 records) openRest e in
-      let some : 1 ≤ records = leb-true _ _ (t .0) in
-      started-test 1 records w (record {
+      let p = set-parts some f records least e in
+      started-test 1 records f (record {
         counted =
             record {
               stage-most = omega arith;
-              records-most = leb-true _ _ (t .1 .0);
+              records-most = leb-true records 4096 (and-r (leb 1 records) (leb records 4096) (p .0));
               in-zero = λ h. absurd (omega arith);
-              in-one = λ h. some;
+              in-one = λ h. least (p .0);
               in-two = λ h. absurd (omega arith);
             };
-        ch4-factor = some-factor _ _ some (leb-true _ _ (t .1 .1 .0)) (leb-true _ _ (t .1 .1 .1 .0));
-        n2o-factor = some-factor _ _ some (leb-true _ _ (t .1 .1 .1 .1 .0)) (leb-true _ _ (t .1 .1 .1 .1 .1 .0));
+        farm = p .1;
       })
 
-  back : startedTest 1 records w ≡ true → openTest ≡ true
+  back : startedTest 1 records f ≡ true → setTest some f ≡ true
   back e =
-      let s = started-parts 1 records w e in
+      let s = started-parts 1 records f e in
       let one = s .counted .in-one refl in
-      each-all (leb 1 records) openRest (le-leb _ _ one) (
-        le-leb _ _ (s .counted .records-most),
-        (
-          not-none records (w .ch4) one (s .ch4-factor .none),
-          (
-            le-leb _ _ (s .ch4-factor .most),
-            (not-none records (w .n2o) one (s .n2o-factor .none), (le-leb _ _ (s .n2o-factor .most), tt)),
-          ),
-        ),
-      )
+      set-test some f records one (both-true (leb 1 records) (leb records 4096) (le-leb _ _ one) (le-leb _ _ (s .counted .records-most))) (s .farm)
 
-  pub open-started : openTest ≡ startedTest 1 records w
+  pub open-started : setTest some f ≡ startedTest 1 records f
   open-started = same-test _ _ there back
 
 -- ---- they stay in range
 
-pub started-none : Started 0 0 (record { ch4 = 0; n2o = 0 })
+pub started-none : Started 0 0 noFarm
 started-none =
     record {
       counted =
@@ -144,11 +103,10 @@ started-none =
             in-one = λ e. absurd (omega arith);
             in-two = λ e. absurd (omega arith);
           };
-      ch4-factor = record { most = omega arith; none = λ e. refl; some = λ e. refl };
-      n2o-factor = record { most = omega arith; none = λ e. refl; some = λ e. refl };
+      farm = farm-none;
     }
 
-pub started-refused : {stage records : ℕ} {w : Factors} → Started stage records w → Started 3 records w
+pub started-refused : {stage records : ℕ} {f : Farm} → Started stage records f → Started 3 records f
 started-refused s =
     record {
       counted =
@@ -159,13 +117,12 @@ started-refused s =
             in-one = λ e. absurd (omega arith);
             in-two = λ e. absurd (omega arith);
           };
-      ch4-factor = s .ch4-factor;
-      n2o-factor = s .n2o-factor;
+      farm = s .farm;
     }
 
 -- with the first record
-pub started-opened : (records : ℕ) (w : Factors) → 1 ≤ w .ch4 → w .ch4 ≤ 1000 → 1 ≤ w .n2o → w .n2o ≤ 1000 → records ≡ 0 → Started 1 (records + 1) w
-started-opened records w c1 c2 n1 n2 none =
+pub started-opened : (records : ℕ) (f : Farm) → FarmIn f (records + 1) → records ≡ 0 → Started 1 (records + 1) f
+started-opened records f i none =
     record {
       counted =
           record {
@@ -175,16 +132,12 @@ started-opened records w c1 c2 n1 n2 none =
             in-one = λ e. omega arith;
             in-two = λ e. absurd (omega arith);
           };
-      ch4-factor = some-factor _ _ (omega arith) c1 c2;
-      n2o-factor = some-factor _ _ (omega arith) n1 n2;
+      farm = i;
     }
 
 -- from the second record on
-module _ {stage records : ℕ} {w : Factors} (s : Started stage records w) (begun : 1 ≤ records) (room : records < 4096) where
-  factor-on : (factor : ℕ) → FactorIn factor records → FactorIn factor (records + 1)
-  factor-on factor f = record { most = f .most; none = λ e. let z = f .none e in absurd (omega arith); some = λ e. absurd (omega arith) }
-
-  pub started-next : stage < 2 → Started stage (records + 1) w
+module _ {stage records : ℕ} {f : Farm} (s : Started stage records f) (begun : 1 ≤ records) (room : records < 4096) where
+  pub started-next : stage < 2 → Started stage (records + 1) f
   started-next early =
       record {
         counted =
@@ -195,11 +148,10 @@ module _ {stage records : ℕ} {w : Factors} (s : Started stage records w) (begu
               in-one = λ e. omega arith;
               in-two = λ e. absurd (omega arith);
             };
-        ch4-factor = factor-on _ (s .ch4-factor);
-        n2o-factor = factor-on _ (s .n2o-factor);
+        farm = farm-next begun (s .farm);
       }
 
-  pub started-closed : Started 2 (records + 1) w
+  pub started-closed : Started 2 (records + 1) f
   started-closed =
       record {
         counted =
@@ -210,6 +162,5 @@ module _ {stage records : ℕ} {w : Factors} (s : Started stage records w) (begu
               in-one = λ e. absurd (omega arith);
               in-two = λ e. omega arith;
             };
-        ch4-factor = factor-on _ (s .ch4-factor);
-        n2o-factor = factor-on _ (s .n2o-factor);
+        farm = farm-next begun (s .farm);
       }

@@ -36,7 +36,8 @@ use Rattle.account.specs.Line.{joined, bytesOf, lineWith, totalWith, co2
 use Rattle.account.specs.Range.{UsedMost, Bounded, Grouped, AccountInRange}
 use Rattle.account.specs.Judge.{wrongVersion, wrongKind, judge, first, inPlace, notRising, daysOver, partsWrong, grazedOver, feedBelow}
 use Rattle.account.specs.Judge.{wrongCount, valueRefusals}
-use Rattle.account.specs.Judge.{refused, underHeading, withDetail, closed, Step, accepted, weigh}
+use Rattle.account.specs.Account.{refused, underHeading, withDetail, closed}
+use Rattle.account.specs.Judge.{Step, accepted, weigh}
 use Rattle.account.specs.Told.{Tells, TellsIn, inRoom, Kind, Small, noLine, quiet, refusing, detailing, heading, closing}
 use Rattle.account.proofs.Sums.{ch4-small, co2-small, grazing-small, cattle-small, pig-small, bounded-more, grouped-more}
 use Rattle.account.proofs.Under.{head-in, used-in}

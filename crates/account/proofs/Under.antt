@@ -15,7 +15,7 @@ use Rattle.account.specs.declared.Used.{Used}
 use Rattle.account.specs.Figures.{noSubtotal}
 use Rattle.account.specs.Range.{UsedMost, Headed, Unheaded, Grouped, Ungrouped, Under}
 use Rattle.account.specs.Range.{usedTest, unusedTest, headedTest, unheadedTest, groupedTest, ungroupedTest, underTest}
-use Rattle.account.specs.Judge.{noneUsed}
+use Rattle.account.specs.Account.{noneUsed}
 use Rattle.account.proofs.Sums.{grouped-parts, grouped-test, ungrouped-parts, ungrouped-test, grouped-none, ungrouped-none, grouped-next}
 use Rattle.account.proofs.Sums.{ungrouped-bounded}
 use Rattle.account.proofs.UsedUp.{used-parts, used-test, unused-parts, unused-test, unused-most, none-unused}
@@ -162,7 +162,11 @@ module _ {h : Heading} {u : Used} {s : Subtotal} {records : ℕ} (p : Under h u 
 
 pub under-nothing : Under (record { group = 0; class = 0; head = 0 }) noneUsed noSubtotal 0
 under-nothing =
-    record { heading = inr (record { group = refl; class = refl; head = refl; used = none-unused }); grouped = grouped-none 0; ungrouped = λ z. ungrouped-none }
+    record {
+      heading = inr (record { group = refl; class = refl; head = refl; used = none-unused });
+      grouped = grouped-none 0;
+      ungrouped = λ z. ungrouped-none;
+    }
 
 -- a new heading from the second record on
 pub under-headed : (h : Heading) (records : ℕ) → 1 ≤ h .group → h .group ≤ 65535 → 1 ≤ h .class → h .class ≤ 4 → h .head ≤ 20000 → 1 ≤ records

@@ -1,4 +1,4 @@
--- What is used under a heading: the test is the range, what a record adds may be added in either order, and it fits exactly where the sums with it do.
+-- What is used under a heading: the test is the range, what a record adds may be added in either order, and it fits where the sums with it do.
 -- Assumes nothing.
 use Prim.Native.Nat.{ℕ, _+_, _≤_}
 use mathlib.Core.Path.{_≡_, refl}
@@ -12,7 +12,8 @@ use Rattle.base.specs.Choice.{pick}
 use Rattle.base.proofs.Tests.{all-each, each-all, by-test, of-choice}
 use Rattle.account.specs.declared.Used.{Used}
 use Rattle.account.specs.Range.{UsedMost, Unused, usedTest, unusedTest}
-use Rattle.account.specs.Judge.{noneUsed, usedAfter, daysOver, grazedOver}
+use Rattle.account.specs.Account.{noneUsed, usedAfter}
+use Rattle.account.specs.Judge.{daysOver, grazedOver}
 
 -- ---- the test and the range
 

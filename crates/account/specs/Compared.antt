@@ -63,7 +63,8 @@ valuesCompared c a k v =
     pick (eqb c 7) (outside (rangeOf k (badField k v) .1) (rangeOf k (badField k v) .2) (valueAt v (badField k v)))
     (pick (eqb c 8) (numbers (getD v 0 0) (a .heading .group))
     (pick (eqb c 9) (numbers (daysWith (a .used) k (getD v 0 0)) 366)
-    (pick (eqb c 10) (pick (eqb k 4) (numbers (sharesOf v) 10000) (pick (eqb k 5) (numbers (partsOf v) 1000) (numbers (grazedWith (a .used .grazed) v) 10000)))
+    (pick (eqb c 10) (pick (eqb k 4) (numbers (sharesOf v) 10000)
+    (pick (eqb k 5) (numbers (partsOf v) 1000) (numbers (grazedWith (a .used .grazed) v) 10000)))
     (pick (eqb c 12) (numbers (getD v 0 0) (a .records)) noNumbers))))
 
 -- what the test with the number c compares, of the bytes r of a record; for 1 its length is enough

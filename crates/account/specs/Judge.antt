@@ -7,18 +7,15 @@ use mathlib.Core.Bool.{Bool, true, false, _&&_, _||_, not}
 use lib.ListN.{length, getD}
 use lib.Dec.{ltb, leb, eqb}
 use Rattle.base.specs.Choice.{pick}
-use Rattle.codec.specs.Table.{fields, rowOf, lastRow, lengthOf, lengthMost, isKind}
+use Rattle.codec.specs.Table.{fields, rowOf, lengthOf, lengthMost, isKind}
 use Rattle.codec.specs.Codec.{valAt, valuesAt, firstBad}
 use Rattle.grams.specs.Cattle.{belowZero}
-use Rattle.grams.specs.Farm.{setFactors}
-use Rattle.grams.specs.declared.farm.Factors.{Factors}
 use Rattle.account.specs.declared.Account.{Account}
-use Rattle.account.specs.declared.Figures.{Figures}
-use Rattle.account.specs.declared.Refusal.{Refusal}
 use Rattle.account.specs.declared.Subtotal.{Subtotal}
 use Rattle.account.specs.declared.Used.{Used}
 use Rattle.account.specs.Sorts.{isFarm, sortOf, bySort}
-use Rattle.account.specs.Figures.{noFigures, noSubtotal, added, grouped, cattleRation, figuresOf}
+use Rattle.account.specs.Figures.{grouped, cattleRation, figuresOf}
+use Rattle.account.specs.Account.{refused, opened, underHeading, withDetail, closed, farmOf, usedAfter}
 use Rattle.account.specs.Line.{lineOf, subtotals, totalOf}
 
 -- ---- a record and its parts
@@ -42,94 +39,6 @@ kindOf r = rowOf (versionOf r) (kindByte r)
 abbrev pub valuesOf : List ℕ → List ℕ
 valuesOf r = valuesAt (fields (kindOf r)) r 4
 
--- ---- accounts made of accounts
-
--- nothing used yet
-abbrev pub noneUsed : Used
-noneUsed = record { enteric = 0; nitrogen = 0; pig = 0; grazed = 0 }
-
--- before any record
-abbrev pub noRecord : Account
-noRecord =
-    record {
-      stage = 0;
-      records = 0;
-      factors = record { ch4 = 0; n2o = 0 };
-      heading = record { group = 0; class = 0; head = 0 };
-      subtotal = noSubtotal;
-      used = noneUsed;
-      sums = noFigures;
-      refusal = record { code = 0; accepted = 0; field = 0 };
-    }
-
--- at another stage, with so many records and this refusal; all the rest is kept
-abbrev pub standing : Account → ℕ → ℕ → Refusal → Account
-standing a stage records refusal =
-    record {
-      stage = stage;
-      records = records;
-      factors = a .factors;
-      heading = a .heading;
-      subtotal = a .subtotal;
-      used = a .used;
-      sums = a .sums;
-      refusal = refusal;
-    }
-
--- refused: code, records accepted so far and field are stored, all the rest is kept
-abbrev pub refused : Account → ℕ → ℕ → Account
-refused a code field = standing a 3 (a .records) (record { code = code; accepted = a .records; field = field })
-
--- a farm record opens the book and sets its warming factors
-abbrev pub opened : Account → Factors → Account
-opened a factors =
-    record {
-      stage = 1;
-      records = a .records + 1;
-      factors = factors;
-      heading = a .heading;
-      subtotal = a .subtotal;
-      used = a .used;
-      sums = a .sums;
-      refusal = a .refusal;
-    }
-
--- a new heading: nothing is used under it, and the subtotal is zero
-abbrev pub underHeading : Account → ℕ → ℕ → ℕ → Account
-underHeading a group class head =
-    record {
-      stage = a .stage;
-      records = a .records + 1;
-      factors = a .factors;
-      heading = record { group = group; class = class; head = head };
-      subtotal = noSubtotal;
-      used = noneUsed;
-      sums = a .sums;
-      refusal = a .refusal;
-    }
-
--- a detail adds what it uses and its figures; the heading stays
-abbrev pub withDetail : Account → Used → Subtotal → Figures → Account
-withDetail a used subtotal f =
-    record {
-      stage = a .stage;
-      records = a .records + 1;
-      factors = a .factors;
-      heading = a .heading;
-      subtotal = subtotal;
-      used = used;
-      sums = added (a .sums) f;
-      refusal = a .refusal;
-    }
-
--- the close: one record more, and all the rest stays
-abbrev pub closed : Account → Account
-closed a = standing a 2 (a .records + 1) (a .refusal)
-
--- the warming factors of a farm record: those of its set, or with version 2 its own
-abbrev pub farmFactors : ℕ → List ℕ → Factors
-farmFactors k v = pick (eqb k lastRow) (record { ch4 = getD v 2 0; n2o = getD v 3 0 }) (setFactors (getD v 2 0))
-
 -- ---- the refusals
 
 -- kinds 3, 4 and 10 need a cattle heading (classes 1 to 3), kind 5 a pig heading (class 4)
@@ -141,16 +50,6 @@ headingServes class k =
 -- the first record is kind 1 and no other is
 unfoldable pub inPlace : Account → ℕ → Bool
 inPlace a k = pick (isFarm k) (eqb (a .records) 0) (headingServes (a .heading .class) k && not (eqb (a .records) 0))
-
--- what is used with a record of kind k and the values v: the days of kinds 3, 4 and 5, the grazed fraction of kind 10; other kinds use nothing
-abbrev pub usedAfter : Used → ℕ → List ℕ → Used
-usedAfter u k v =
-    record {
-      enteric = pick (eqb k 3) (u .enteric + getD v 0 0) (u .enteric);
-      nitrogen = pick (eqb k 4) (u .nitrogen + getD v 0 0) (u .nitrogen);
-      pig = pick (eqb k 5) (u .pig + getD v 0 0) (u .pig);
-      grazed = pick (eqb k 10) (u .grazed + getD v 3 0) (u .grazed);
-    }
 
 -- the tests, by name, each true where it refuses
 
@@ -285,7 +184,7 @@ withLine a k v subtotal =
 -- a record that is not refused, by its sort; a detail of the group alone counts in the subtotal
 unfoldable pub accepted : Account → ℕ → List ℕ → Step
 accepted a k v =
-    bySort (sortOf k) (record { account = opened a (farmFactors k v); lines = [] })
+    bySort (sortOf k) (record { account = opened a (farmOf k v); lines = [] })
     (record { account = underHeading a (getD v 0 0) (getD v 1 0) (getD v 2 0); lines = subtotals a })
     (withLine a k v (grouped (a .subtotal) (figuresOf (a .heading) k v)))
     (withLine a k v (a .subtotal))

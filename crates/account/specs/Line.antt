@@ -13,6 +13,7 @@ use Rattle.account.specs.declared.Figures.{Figures}
 use Rattle.account.specs.declared.Heading.{Heading}
 use Rattle.account.specs.declared.Judged.{Judged}
 use Rattle.account.specs.Sorts.{sortOf, bySort}
+use Rattle.account.specs.Account.{factorsOf}
 use Rattle.account.specs.Figures.{listed, groupFigures, figuresOf}
 
 -- a line of kind k, with a group and its figures
@@ -29,7 +30,7 @@ lineOf h k v = lineWith k (groupOf h k) (figuresOf h k v)
 
 -- CO2e of the sums, by the farm's warming factors
 abbrev pub co2eIn : Account → Co2
-co2eIn a = co2eOf (a .factors) (a .sums .co2) (a .sums .ch4) (a .sums .n2o) (a .sums .grazing)
+co2eIn a = co2eOf (factorsOf (a .farm)) (a .sums .co2) (a .sums .ch4) (a .sums .n2o) (a .sums .grazing)
 
 -- the close's line: the sums of the figures and CO2e
 abbrev pub totalWith : Figures → Co2 → List ℕ

@@ -6,8 +6,8 @@ use mathlib.Core.Bool.{Bool, _&&_, _||_, not}
 use mathlib.Core.Logic.{_⊎_}
 use lib.Dec.{leb, eqb}
 use Rattle.grams.specs.Units.{Co2Within, co2Within}
-use Rattle.grams.specs.declared.farm.Factors.{Factors}
 use Rattle.account.specs.declared.Account.{Account}
+use Rattle.account.specs.declared.Farm.{Farm}
 use Rattle.account.specs.declared.Heading.{Heading}
 use Rattle.account.specs.declared.Figures.{Figures}
 use Rattle.account.specs.declared.Subtotal.{Subtotal}
@@ -30,11 +30,15 @@ pub record FactorIn (factor records : ℕ) : Type 0 where
   pub none : factor ≡ 0 → records ≡ 0
   pub some : records ≡ 0 → factor ≡ 0
 
--- stage, records and warming factors together
-pub record Started (stage records : ℕ) (w : Factors) : Type 0 where
+-- what the farm record set
+pub record FarmIn (f : Farm) (records : ℕ) : Type 0 where
+  pub ch4 : FactorIn (f .ch4) records
+  pub n2o : FactorIn (f .n2o) records
+
+-- stage and records with it
+pub record Started (stage records : ℕ) (f : Farm) : Type 0 where
   pub counted : Counted stage records
-  pub ch4-factor : FactorIn (w .ch4) records
-  pub n2o-factor : FactorIn (w .n2o) records
+  pub farm : FarmIn f records
 
 -- what is used under a heading: three day sums of 0..366, a grazed fraction of 0..10000
 pub record UsedMost (u : Used) : Type 0 where
@@ -118,7 +122,7 @@ pub record Ended (stage : ℕ) (r : Refusal) (records : ℕ) : Type 0 where
 
 -- all of it
 pub record AccountInRange (a : Account) : Type 0 where
-  pub started : Started (a .stage) (a .records) (a .factors)
+  pub started : Started (a .stage) (a .records) (a .farm)
   pub sums : Bounded (a .sums) (a .records)
   pub under : Under (a .heading) (a .used) (a .subtotal) (a .records)
   pub ended : Ended (a .stage) (a .refusal) (a .records)
@@ -136,8 +140,8 @@ countedTest stage records =
 abbrev pub factorTest : ℕ → ℕ → Bool
 factorTest factor records = leb factor 1000 && (not (eqb factor 0) || eqb records 0) && (not (eqb records 0) || eqb factor 0)
 
-abbrev pub startedTest : ℕ → ℕ → Factors → Bool
-startedTest stage records w = countedTest stage records && factorTest (w .ch4) records && factorTest (w .n2o) records
+abbrev pub startedTest : ℕ → ℕ → Farm → Bool
+startedTest stage records f = countedTest stage records && factorTest (f .ch4) records && factorTest (f .n2o) records
 
 abbrev pub usedTest : Used → Bool
 usedTest u = leb (u .enteric) 366 && leb (u .nitrogen) 366 && leb (u .pig) 366 && leb (u .grazed) 10000
@@ -198,7 +202,7 @@ endedTest stage r records = (not (eqb stage 3) || numberedTest r records) && (eq
 
 unfoldable pub accountInRange : Account → Bool
 accountInRange a =
-    startedTest (a .stage) (a .records) (a .factors)
+    startedTest (a .stage) (a .records) (a .farm)
     && boundedTest (a .sums) (a .records)
     && underTest (a .heading) (a .used) (a .subtotal) (a .records)
     && endedTest (a .stage) (a .refusal) (a .records)

@@ -18,7 +18,8 @@ use Rattle.account.specs.declared.line.Line.{Line}
 use Rattle.account.specs.Figures.{noFigures, groupFigures}
 use Rattle.account.specs.Range.{Bounded}
 use Rattle.account.specs.Line.{joined, bytesOf, co2eIn}
-use Rattle.account.specs.Judge.{Step, WholeRecord, kindOf, wrongVersion, wrongKind, refused, underHeading, withDetail, closed}
+use Rattle.account.specs.Account.{refused, underHeading, withDetail, closed}
+use Rattle.account.specs.Judge.{Step, WholeRecord, kindOf, wrongVersion, wrongKind}
 
 -- r tells what j says: the account, and j's lines one after the other
 pub record Tells (j : Step) (r : Judged) : Type 0 where

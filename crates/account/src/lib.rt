@@ -3,7 +3,6 @@ pub mod line;
 pub mod numbers;
 mod range;
 
-use grams::farm::Factors;
 use grams::units::Co2;
 use grams::units::Grazed;
 use grams::units::N2o;
@@ -16,7 +15,15 @@ ghost use mathlib.Core.Path.{_≡_};
 ghost use Rattle.account.specs.Figures.{added, listed};
 ghost use Rattle.account.specs.Range.{Bounded, accountInRange};
 ghost use Rattle.account.specs.Told.{Small};
-ghost use Rattle.account.specs.Judge.{noRecord, refused};
+ghost use Rattle.account.specs.Account.{noRecord, refused};
+
+// What the farm record sets: the warming factors.
+pub struct Farm {
+    pub ch4: u16,
+    pub n2o: u16,
+}
+
+pub const NO_FARM: Farm = Farm { ch4: 0, n2o: 0 };
 
 // A group heading: its number, its class (1 milking, 2 dry, 3 heifer, 4 pig) and its head count; all zero where there is none.
 pub struct Heading {
@@ -73,11 +80,11 @@ pub struct Refusal {
     pub field: u8,
 }
 
-// A state but for its held bytes. Here, in specs/Judge and in specs/Numbers alone it is written out field by field.
+// A state but for its held bytes. Here, in src/numbers and in specs/Account alone it is written out field by field.
 pub struct Account {
     pub stage: u8,
     pub records: u16,
-    pub factors: Factors,
+    pub farm: Farm,
     pub heading: Heading,
     pub subtotal: Subtotal,
     pub used: Used,
@@ -145,7 +152,7 @@ impl Account {
         Account {
             stage: 0,
             records: 0,
-            factors: Factors { ch4: 0, n2o: 0 },
+            farm: NO_FARM,
             heading: Heading {
                 group: 0,
                 class: 0,
@@ -173,9 +180,9 @@ impl Account {
         Account {
             stage: self.stage,
             records: self.records,
-            factors: Factors {
-                ch4: self.factors.ch4,
-                n2o: self.factors.n2o,
+            farm: Farm {
+                ch4: self.farm.ch4,
+                n2o: self.farm.n2o,
             },
             heading: Heading {
                 group: self.heading.group,

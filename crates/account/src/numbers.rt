@@ -1,11 +1,11 @@
-// An account as numbers, part by part, and back from all of them: each in the bytes that specs/Numbers gives it.
+// An account as numbers, part by part, and back from all of them: each in the bytes that specs/Account gives it.
 use crate::Account;
+use crate::Farm;
 use crate::Figures;
 use crate::Heading;
 use crate::Refusal;
 use crate::Subtotal;
 use crate::Used;
-use grams::farm::Factors;
 use grams::units::Co2;
 use grams::units::Grazed;
 use grams::units::N2o;
@@ -13,10 +13,10 @@ use line_bytes::FIGURES;
 ghost use mathlib.Core.Path.{_≡_};
 ghost use Prim.Native.Nat.{_<_};
 ghost use lib.ListN.{length};
-ghost use Rattle.account.specs.Numbers.{accountFields, widthOf, startNumbers, headingNumbers, usedNumbers, subtotalNumbers, refusalNumbers};
-ghost use Rattle.account.specs.Numbers.{accountOf};
+ghost use Rattle.account.specs.Account.{accountFields, widthOf, startNumbers, headingNumbers, usedNumbers, subtotalNumbers, refusalNumbers};
+ghost use Rattle.account.specs.Account.{accountOf};
 
-// Behind stage, records and warming factors: where the numbers of each part begin, how many there are, and how many bytes hold them all.
+// Behind stage, records and what the farm record set: where the numbers of each part begin, how many there are, and how many bytes hold them all.
 pub const HEADING: usize = 4;
 
 pub const USED: usize = HEADING + 3;
@@ -40,11 +40,11 @@ pub fn width(i: usize) -> usize
     widths[i] as usize
 }
 
-// Stage, records and warming factors.
+// Stage, records and what the farm record set.
 pub fn of_start(a: Account) -> [u64; 4]
     ensures { λ r. ⌜ r ≡ startNumbers a ⌝ }
 {
-    [a.stage as u64, a.records as u64, a.factors.ch4 as u64, a.factors.n2o as u64]
+    [a.stage as u64, a.records as u64, a.farm.ch4 as u64, a.farm.n2o as u64]
 }
 
 pub fn of_heading(h: Heading) -> [u64; 3]
@@ -72,10 +72,10 @@ pub fn of_refusal(r: Refusal) -> [u64; 3]
     [r.code as u64, r.accepted as u64, r.field as u64]
 }
 
-fn factors_in(v: [u64; NUMBERS]) -> Factors
-    ensures { λ r. ⌜ r ≡ accountOf v .factors ⌝ }
+fn farm_in(v: [u64; NUMBERS]) -> Farm
+    ensures { λ r. ⌜ r ≡ accountOf v .farm ⌝ }
 {
-    Factors {
+    Farm {
         ch4: (v[2] % 65536) as u16,
         n2o: (v[3] % 65536) as u16,
     }
@@ -144,7 +144,7 @@ fn refusal_in(v: [u64; NUMBERS]) -> Refusal
 pub fn account_of(v: [u64; NUMBERS]) -> Account
     ensures { λ r. ⌜ r ≡ accountOf v ⌝ }
 {
-    let factors = factors_in(v);
+    let farm = farm_in(v);
     let heading = heading_in(v);
     let subtotal = subtotal_in(v);
     let used = used_in(v);
@@ -153,7 +153,7 @@ pub fn account_of(v: [u64; NUMBERS]) -> Account
     Account {
         stage: (v[0] % 256) as u8,
         records: (v[1] % 65536) as u16,
-        factors: factors,
+        farm: farm,
         heading: heading,
         subtotal: subtotal,
         used: used,

@@ -100,7 +100,7 @@ fn unrefused(r: Refusal) -> bool
     (r.code == 0) & (r.accepted == 0) & (r.field == 0)
 }
 
-// Stage, records and warming factors; those of an open book first, since all calls but a book's first and last have one.
+// Stage, records and what the farm record set; those of an open book first, since all calls but a book's first and last have one.
 fn started(stage: u8, records: u16, ch4: u16, n2o: u16) -> bool
     ensures { λ r. ⌜ r ≡ startedTest stage records (record { ch4 = ch4; n2o = n2o }) ⌝ }
 {
@@ -138,7 +138,7 @@ fn ended(stage: u8, r: Refusal, records: u16) -> bool
 pub fn test(a: Account) -> bool
     ensures { λ r. ⌜ r ≡ accountInRange a ⌝ }
 {
-    let w = a.factors;
+    let w = a.farm;
     let h = a.heading;
     let u = a.used;
     let s = a.subtotal;

@@ -10,7 +10,8 @@ use lib.Seq.{length-take-le, take-take, take-length, take-append-add}
 use Rattle.base.proofs.Tests.{lt-or-ge, no-bool}
 use Rattle.codec.specs.Codec.{valAt}
 use Rattle.account.specs.declared.Account.{Account}
-use Rattle.account.specs.Judge.{judge, refused}
+use Rattle.account.specs.Account.{refused}
+use Rattle.account.specs.Judge.{judge}
 use Rattle.account.specs.Line.{joined}
 use Rattle.account.proofs.Keeps.{in-range-length}
 use Rattle.book.specs.declared.State.{State}

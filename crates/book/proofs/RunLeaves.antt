@@ -9,7 +9,8 @@ use lib.Seq.{drop-append-add, drop-drop, drop-length}
 use Rattle.base.proofs.Tests.{lt-or-ge}
 use Rattle.account.specs.declared.Account.{Account}
 use Rattle.account.specs.Range.{AccountInRange}
-use Rattle.account.specs.Judge.{judge, refused}
+use Rattle.account.specs.Account.{refused}
+use Rattle.account.specs.Judge.{judge}
 use Rattle.account.proofs.Keeps.{in-range-judge, in-range-length}
 use Rattle.book.specs.declared.State.{State}
 use Rattle.book.specs.Front.{Front, unfinished, badLength, whole, need, front}

@@ -12,7 +12,8 @@ use Rattle.base.specs.Choice.{pick}
 use Rattle.base.proofs.Tests.{lt-or-ge}
 use Rattle.account.specs.declared.Account.{Account}
 use Rattle.account.specs.Range.{AccountInRange}
-use Rattle.account.specs.Judge.{judge, refused}
+use Rattle.account.specs.Account.{refused}
+use Rattle.account.specs.Judge.{judge}
 use Rattle.book.specs.declared.State.{State}
 use Rattle.book.specs.Front.{Front, unfinished, badLength, whole, need, front}
 use Rattle.book.specs.State.{heldOf, InRange, holding}

@@ -10,7 +10,8 @@ use Rattle.base.specs.Choice.{pick}
 use Rattle.codec.specs.Table.{lengthMost, recordMost}
 use Rattle.codec.specs.Codec.{valAt}
 use Rattle.account.specs.declared.Account.{Account}
-use Rattle.account.specs.Judge.{judge, refused}
+use Rattle.account.specs.Account.{refused}
+use Rattle.account.specs.Judge.{judge}
 use Rattle.account.specs.Line.{joined}
 use Rattle.book.specs.declared.State.{State}
 use Rattle.book.specs.declared.Fed.{Fed}

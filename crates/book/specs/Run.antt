@@ -7,7 +7,8 @@ use lib.ListN.{length, take, drop}
 use lib.Dec.{ltb}
 use Rattle.base.specs.Choice.{pick}
 use Rattle.account.specs.declared.Account.{Account}
-use Rattle.account.specs.Judge.{judge, refused}
+use Rattle.account.specs.Account.{refused}
+use Rattle.account.specs.Judge.{judge}
 use Rattle.account.specs.Line.{joined}
 use Rattle.book.specs.declared.State.{State}
 use Rattle.book.specs.Front.{Front, unfinished, badLength, whole, need, front}

@@ -7,7 +7,7 @@ use mathlib.Core.Bool.{Bool, true, false, _&&_, _||_}
 use lib.ListN.{length, take, drop, replicate}
 use lib.Dec.{ltb, leb, eqb}
 use Rattle.account.specs.declared.Account.{Account}
-use Rattle.account.specs.Judge.{noRecord}
+use Rattle.account.specs.Account.{noRecord}
 use Rattle.account.specs.Range.{AccountInRange, accountInRange}
 use Rattle.book.specs.declared.State.{State}
 use Rattle.book.specs.Front.{Front, unfinished, badLength, whole, front}

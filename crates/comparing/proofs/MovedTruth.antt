@@ -18,7 +18,8 @@ use Rattle.account.specs.declared.Heading.{Heading}
 use Rattle.account.specs.Sorts.{sortOf}
 use Rattle.account.specs.Line.{totalOf}
 use Rattle.account.specs.Range.{AccountInRange}
-use Rattle.account.specs.Judge.{versionOf, kindByte, kindOf, valuesOf, noRecord, NotRefused, Step, accepted, judge}
+use Rattle.account.specs.Account.{noRecord}
+use Rattle.account.specs.Judge.{versionOf, kindByte, kindOf, valuesOf, NotRefused, Step, accepted, judge}
 use Rattle.account.proofs.Refusals.{judged-passes}
 use Rattle.account.proofs.Keeps.{in-range-none, in-range-judge}
 use Rattle.account.proofs.Details.{judge-accepted}

@@ -18,7 +18,8 @@ use Rattle.account.specs.declared.Heading.{Heading}
 use Rattle.account.specs.Sorts.{ofGroup, sortOf}
 use Rattle.account.specs.Line.{joined, lineOf}
 use Rattle.account.specs.Range.{AccountInRange}
-use Rattle.account.specs.Judge.{kindOf, valuesOf, noRecord, judge}
+use Rattle.account.specs.Account.{noRecord}
+use Rattle.account.specs.Judge.{kindOf, valuesOf, judge}
 use Rattle.account.proofs.Keeps.{in-range-none, in-range-judge, judge-short}
 use Rattle.book.specs.Front.{Front, unfinished, badLength, whole, need, front}
 use Rattle.book.specs.WholeRecords.{recordsOf}

@@ -10,7 +10,7 @@ use lib.Seq.{drop-drop}
 use Rattle.book.proofs.Fronts.{front-none}
 use Rattle.base.proofs.Tests.{lt-or-ge}
 use Rattle.account.specs.declared.Account.{Account}
-use Rattle.account.specs.Judge.{noRecord}
+use Rattle.account.specs.Account.{noRecord}
 use Rattle.comparing.specs.declared.cursor.Cursor.{Cursor}
 use Rattle.comparing.specs.declared.cursor.Taken.{Taken}
 use Rattle.comparing.specs.Entries.{Entry, entriesAfter, entriesOf}

@@ -6,7 +6,7 @@ use mathlib.Core.Bool.{Bool, _&&_, not}
 use lib.Dec.{ltb, eqb}
 use Rattle.base.specs.Choice.{pick}
 use Rattle.account.specs.declared.Account.{Account}
-use Rattle.account.specs.Judge.{noRecord}
+use Rattle.account.specs.Account.{noRecord}
 use Rattle.book.specs.WholeRecords.{recordsOf}
 use Rattle.book.specs.State.{holding}
 use Rattle.book.specs.Call.{Call, call}

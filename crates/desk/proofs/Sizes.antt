@@ -7,7 +7,8 @@ use native.Mathlib.Omega.{arith}
 use lib.ListN.{length, take, drop, length-append, length-drop}
 use Rattle.base.proofs.Tests.{lt-or-ge}
 use Rattle.account.specs.declared.Account.{Account}
-use Rattle.account.specs.Judge.{judge, noRecord}
+use Rattle.account.specs.Account.{noRecord}
+use Rattle.account.specs.Judge.{judge}
 use Rattle.account.specs.Line.{joined}
 use Rattle.line_bytes.specs.Lines.{linesMost}
 use Rattle.account.proofs.Counts.{judge-counts}

@@ -15,7 +15,7 @@ use Rattle.codec.specs.Codec.{Bytes, bytesHold, be, valAt, valuesAt, bytesOf}
 use Rattle.codec.proofs.BigEndian.{be-length, be-valAt, valAt-be}
 use Rattle.codec.proofs.Values.{values-length}
 use Rattle.codec.proofs.Round.{values-back, values-fit, encode-decode}
-use Rattle.account.specs.Numbers.{accountFields, numbersOf, accountOf}
+use Rattle.account.specs.Account.{accountFields, numbersOf, accountOf}
 use Rattle.account.proofs.AsNumbers.{numbers-fit, numbers-count, account-back, numbers-back, co2-fits}
 use Rattle.book.specs.declared.State.{State}
 use Rattle.book.specs.State.{noRecordYet, InRange, inRange}

@@ -3,7 +3,7 @@
 use mathlib.Core.Path.{_≡_, refl}
 use mathlib.Core.List.{[], _∷_, map}
 use Rattle.codec.specs.Table.{size}
-use Rattle.account.specs.Numbers.{accountFields}
+use Rattle.account.specs.Account.{accountFields}
 use Rattle.image.specs.Image.{imageSize, placeOf}
 
 pub image-size : imageSize ≡ 132

@@ -20,7 +20,7 @@ use Rattle.codec.proofs.Round.{bytes-join}
 use Rattle.account.specs.Line.{joined}
 use Rattle.account.specs.declared.Account.{Account}
 use Rattle.account.specs.Figures.{listed}
-use Rattle.account.specs.Numbers.{accountFields, widthOf, startNumbers, headingNumbers, usedNumbers, subtotalNumbers, refusalNumbers, numbersOf}
+use Rattle.account.specs.Account.{accountFields, widthOf, startNumbers, headingNumbers, usedNumbers, subtotalNumbers, refusalNumbers, numbersOf}
 use Rattle.book.specs.declared.State.{State}
 use Rattle.image.specs.Image.{imageSize, placeOf, stored, frontNumbers, imageOf}
 

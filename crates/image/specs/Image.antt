@@ -1,6 +1,6 @@
 -- A state as bytes. Change request W12: "Lay the state out at fixed offsets in a lent image of one stated length, held bytes first". The 27
 -- held bytes, zeros behind them, stand first; behind them one byte says how many are held; then the account's numbers, each big-endian in the bytes
--- that account's specs/Numbers gives it.
+-- that account's specs/Account gives it.
 -- Assumes nothing.
 use Prim.Native.Nat.{ℕ, _+_, _^_, _<_}
 use mathlib.Core.List.{List, [], _∷_, _++_}
@@ -12,7 +12,7 @@ use Rattle.codec.specs.Table.{size}
 use Rattle.codec.specs.Codec.{valAt, valuesAt, be, bytesOf}
 use Rattle.grams.specs.Units.{co2Word}
 use Rattle.account.specs.declared.Account.{Account}
-use Rattle.account.specs.Numbers.{accountFields, startNumbers, headingNumbers, usedNumbers, numbersOf, accountOf}
+use Rattle.account.specs.Account.{accountFields, startNumbers, headingNumbers, usedNumbers, numbersOf, accountOf}
 use Rattle.book.specs.declared.State.{State}
 use Rattle.book.specs.State.{InRange, inRange}
 

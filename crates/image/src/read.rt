@@ -9,7 +9,7 @@ ghost use Prim.Native.Nat.{_+_, _≤_};
 ghost use lib.ListN.{drop, length, take};
 ghost use lib.Seq.{sets};
 ghost use Rattle.codec.specs.Codec.{valuesAt};
-ghost use Rattle.account.specs.Numbers.{accountFields};
+ghost use Rattle.account.specs.Account.{accountFields};
 ghost use Rattle.image.specs.Image.{imageSize, placeOf, stateIn};
 
 fn held_in(image: &[u8]) -> [u8; 27]
@@ -28,7 +28,8 @@ fn held_in(image: &[u8]) -> [u8; 27]
 // The numbers of an account from one on and before another, from the place of the first; the place of the next.
 fn read_run(image: &[u8], at: usize, v: &mut [u64], from: usize, to: usize) -> usize
     requires { ⌜ (length (now image) ≡ imageSize) × (at ≡ placeOf from) × (from ≤ to) × (to ≤ length accountFields) × (to ≤ length (now v)) ⌝ }
-    ensures numbers { λ _. ⌜ now (v .exit) ≡ sets (now (v .entry)) from (valuesAt (drop from (take to accountFields)) (now (image .entry)) (placeOf from)) ⌝ }
+    ensures numbers { λ _. ⌜ now (v .exit) ≡ sets (now (v .entry)) from
+        (valuesAt (drop from (take to accountFields)) (now (image .entry)) (placeOf from)) ⌝ }
     ensures next { λ r. ⌜ r ≡ placeOf to ⌝ }
 {
     let mut p = at;

@@ -20,7 +20,7 @@ ghost use lib.ListN.{drop, length, take};
 ghost use lib.Seq.{sets};
 ghost use Rattle.codec.specs.Codec.{bytesOf};
 ghost use Rattle.account.specs.Figures.{listed};
-ghost use Rattle.account.specs.Numbers.{accountFields, startNumbers, headingNumbers, usedNumbers, subtotalNumbers, refusalNumbers};
+ghost use Rattle.account.specs.Account.{accountFields, startNumbers, headingNumbers, usedNumbers, subtotalNumbers, refusalNumbers};
 ghost use Rattle.image.specs.Image.{frontNumbers, imageOf, imageSize, placeOf, stored};
 
 fn put_held(image: &mut [u8], held: [u8; 27])

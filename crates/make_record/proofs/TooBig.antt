@@ -15,7 +15,8 @@ use Rattle.codec.specs.declared.Field.{Field}
 use Rattle.codec.specs.Table.{table, fields}
 use Rattle.codec.specs.Codec.{bytesHold, firstBad}
 use Rattle.codec.proofs.Within.{none, Good, too-high}
-use Rattle.account.specs.Judge.{first, inPlace, weigh, refused}
+use Rattle.account.specs.Account.{refused}
+use Rattle.account.specs.Judge.{first, inPlace, weigh}
 use Rattle.book.specs.declared.State.{State}
 use Rattle.make_record.specs.declared.Answer.the-variants.{Refused}
 use Rattle.make_record.specs.Write.{rowFor, write, Ready, OfKind}

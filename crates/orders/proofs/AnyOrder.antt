@@ -8,7 +8,7 @@ use Rattle.account.specs.declared.Account.{Account}
 use Rattle.account.specs.declared.Heading.{Heading}
 use Rattle.account.specs.Line.{joined, totalOf}
 use Rattle.account.specs.Range.{AccountInRange}
-use Rattle.account.specs.Judge.{noRecord}
+use Rattle.account.specs.Account.{noRecord}
 use Rattle.account.proofs.Keeps.{in-range-none}
 use Rattle.account.proofs.Told.{used-most}
 use Rattle.book.specs.declared.State.{State}

@@ -11,7 +11,8 @@ use Rattle.account.specs.declared.Account.{Account}
 use Rattle.account.specs.declared.Heading.{Heading}
 use Rattle.account.specs.Line.{joined}
 use Rattle.account.specs.Range.{AccountInRange}
-use Rattle.account.specs.Judge.{WholeRecord, noRecord, NotRefused, judge}
+use Rattle.account.specs.Account.{noRecord}
+use Rattle.account.specs.Judge.{WholeRecord, NotRefused, judge}
 use Rattle.account.proofs.Refusals.{judged-passes}
 use Rattle.account.proofs.Details.{judge-counts}
 use Rattle.account.proofs.Keeps.{in-range-none, in-range-judge}

@@ -15,7 +15,8 @@ use Rattle.account.specs.declared.Account.{Account}
 use Rattle.account.specs.Sorts.{sortOf}
 use Rattle.account.specs.Line.{subtotals, totalOf}
 use Rattle.account.specs.Range.{Numbered}
-use Rattle.account.specs.Judge.{kindOf, refusals, first, closed, Step, accepted, judge}
+use Rattle.account.specs.Account.{closed}
+use Rattle.account.specs.Judge.{kindOf, refusals, first, Step, accepted, judge}
 use Rattle.account.proofs.Sorts.{by-sort}
 use Rattle.account.proofs.Keeps.{in-range-judge}
 use Rattle.book.specs.declared.State.{State}

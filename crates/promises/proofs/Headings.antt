@@ -21,7 +21,8 @@ use Rattle.account.specs.Sorts.{heads, ofGroup, sortOf}
 use Rattle.account.specs.Line.{lineWith, subtotals, totalOf}
 use Rattle.account.specs.Figures.{groupFigures}
 use Rattle.account.specs.Range.{AccountInRange}
-use Rattle.account.specs.Judge.{versionOf, kindByte, kindOf, valuesOf, underHeading, first, refusals, Step, accepted, judge}
+use Rattle.account.specs.Account.{underHeading}
+use Rattle.account.specs.Judge.{versionOf, kindByte, kindOf, valuesOf, first, refusals, Step, accepted, judge}
 use Rattle.account.proofs.Sorts.{by-sort, heads-two}
 use Rattle.account.proofs.Refusals.{not-refused}
 use Rattle.account.proofs.Under.{group-in}

@@ -19,7 +19,8 @@ use Rattle.grams.specs.Cases.{every}
 use Rattle.account.specs.Figures.{figuresOf}
 use Rattle.account.specs.Range.{accountInRange}
 use Rattle.account.specs.Sorts.{sortOf}
-use Rattle.account.specs.Judge.{kindOf, noRecord, refused, first, inPlace, accepted, judge}
+use Rattle.account.specs.Account.{noRecord, refused}
+use Rattle.account.specs.Judge.{kindOf, first, inPlace, accepted, judge}
 use Rattle.book.specs.Front.{front}
 use Rattle.book.specs.WholeRecords.{recordsBy, recordsOf}
 use Rattle.book.specs.State.{noRecordYet, holding, inRange, InRange}

@@ -22,7 +22,8 @@ use Rattle.account.specs.Sorts.{Sort, opens, heads, ofGroup, ofFarm, closes, so
 use Rattle.account.specs.Figures.{figuresOf}
 use Rattle.account.specs.Line.{joined, lineOf}
 use Rattle.account.specs.Range.{AccountInRange}
-use Rattle.account.specs.Judge.{WholeRecord, kindOf, valuesOf, noRecord, first, inPlace, accepted, judge}
+use Rattle.account.specs.Account.{noRecord}
+use Rattle.account.specs.Judge.{WholeRecord, kindOf, valuesOf, first, inPlace, accepted, judge}
 use Rattle.account.proofs.Sorts.{not-of-group}
 use Rattle.account.proofs.Keeps.{in-range-none, in-range-judge}
 use Rattle.book.specs.Front.{need, front}

@@ -20,7 +20,8 @@ use Rattle.account.specs.Sorts.{sortOf}
 use Rattle.account.specs.Figures.{noFigures, noSubtotal, listed, groupFigures}
 use Rattle.account.specs.Line.{lineWith, subtotals, totalWith, totalOf}
 use Rattle.account.specs.Range.{Bounded, AccountInRange}
-use Rattle.account.specs.Judge.{kindOf, noRecord, first, refusals, Step, accepted, judge}
+use Rattle.account.specs.Account.{noRecord}
+use Rattle.account.specs.Judge.{kindOf, first, refusals, Step, accepted, judge}
 use Rattle.account.proofs.Sorts.{by-sort}
 use Rattle.account.proofs.Keeps.{in-range-judge}
 use Rattle.book.specs.declared.State.{State}

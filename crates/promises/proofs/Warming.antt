@@ -17,7 +17,8 @@ use Rattle.grams.specs.Farm.{setFactors}
 use Rattle.grams.specs.declared.farm.Factors.{Factors}
 use Rattle.account.specs.declared.Account.{Account}
 use Rattle.account.specs.Sorts.{isFarm, opens, heads, ofGroup, ofFarm, closes, sortOf}
-use Rattle.account.specs.Judge.{WholeRecord, versionOf, opened, refused, kindByte, kindOf, valuesOf, noRecord, refusals, first, inPlace, Step}
+use Rattle.account.specs.Account.{opened, refused, noRecord, farmOf, factorsOf}
+use Rattle.account.specs.Judge.{WholeRecord, versionOf, kindByte, kindOf, valuesOf, refusals, first, inPlace, Step}
 use Rattle.account.specs.Judge.{accepted, weigh, judge}
 use Rattle.account.specs.Told.{Kind}
 use Rattle.account.proofs.Sorts.{by-sort}
@@ -50,7 +51,7 @@ no-second a k h f p =
     omega arith
 
 Keeps : Account → Step → Type 0
-Keeps a s = (s .account .factors ≡ a .factors) × (1 ≤ s .account .records)
+Keeps a s = (s .account .farm ≡ a .farm) × (1 ≤ s .account .records)
 
 -- a record behind the first keeps them
 record-keeps : (a : Account) (r : List ℕ) → 1 ≤ a .records → Keeps a (judge a r)
@@ -64,16 +65,16 @@ record-keeps a r h =
     (λ e. (refl, h))
 
 -- and so do all
-book-keeps : (n : ℕ) (a : Account) (xs : List ℕ) → 1 ≤ a .records → bookBy n a xs .state .account .factors ≡ a .factors
+book-keeps : (n : ℕ) (a : Account) (xs : List ℕ) → 1 ≤ a .records → bookBy n a xs .state .account .farm ≡ a .farm
 unfolding bookBy Keeps
 book-keeps zero a xs h = refl
 book-keeps (suc n) a xs h =
     let k = record-keeps a (take (need xs) xs) h in
     go (ltb (a .stage) 2) (front xs) (book-keeps n (judge a (take (need xs) xs) .account) (drop (need xs) xs) (k .1) ∙ k .0)
   where
-    go : (b : Bool) (f : Front) → bookBy n (judge a (take (need xs) xs) .account) (drop (need xs) xs) .state .account .factors ≡ a .factors
+    go : (b : Bool) (f : Front) → bookBy n (judge a (take (need xs) xs) .account) (drop (need xs) xs) .state .account .farm ≡ a .farm
         → pick b (byFront f a xs (bookBy n (judge a (take (need xs) xs) .account) (drop (need xs) xs)))
-        (ended a xs) .state .account .factors ≡ a .factors
+        (ended a xs) .state .account .farm ≡ a .farm
     go false f ih = refl
     go true unfinished ih = refl
     go true badLength ih = refl
@@ -83,7 +84,7 @@ book-keeps (suc n) a xs h =
 
 -- what it leaves where it opens the book
 Opens : List ℕ → Step → Type 0
-Opens v s = s .account .stage ≡ 1 → (s .account .factors ≡ setFactors (getD v 2 0)) × (1 ≤ s .account .records)
+Opens v s = s .account .stage ≡ 1 → (factorsOf (s .account .farm) ≡ setFactors (getD v 2 0)) × (1 ≤ s .account .records)
 
 unopened : (v : List ℕ) (s : Step) → s .account .stage ≡ 3 → Opens v s
 unfolding Opens
@@ -108,13 +109,13 @@ set-opens r k =
 
 -- A book whose farm record is of version 1 has the factors of its set at every point, and so the totals that it had.
 pub old-books : (r xs : List ℕ) → WholeRecord r → versionOf r ≡ 1 → kindByte r ≡ 1 → judge noRecord r .account .stage ≡ 1
-    → run noRecordYet (r ++ xs) .state .account .factors ≡ setFactors (getD (valuesOf r) 2 0)
+    → factorsOf (run noRecordYet (r ++ xs) .state .account .farm) ≡ setFactors (getD (valuesOf r) 2 0)
 unfolding run book Opens
 old-books r xs w v k o =
     let row : kindOf r ≡ 1 = rw (v, k) refl in
     let first-one = set-opens r row o in
-    ap (λ (x : Run). x .state .account .factors) (book-record noRecord r xs w (omega arith))
-    ∙ book-keeps (suc (length xs)) (judge noRecord r .account) xs (first-one .1)
+    ap (λ (x : Run). factorsOf (x .state .account .farm)) (book-record noRecord r xs w (omega arith))
+    ∙ ap factorsOf (book-keeps (suc (length xs)) (judge noRecord r .account) xs (first-one .1))
     ∙ first-one .0
 
 -- ---- the same factors by version 2
@@ -167,12 +168,12 @@ count-last = refl
 
 -- what a farm record in range does first of all
 set-weighs : (v : List ℕ) → firstBad (fields 1) v 0 ≡ 0
-    → weigh noRecord 1 v ≡ record { account = opened noRecord (setFactors (getD v 2 0)); lines = [] }
+    → weigh noRecord 1 v ≡ record { account = opened noRecord (farmOf 1 v); lines = [] }
 unfolding weigh first inPlace accepted sortOf
 set-weighs v h = rw h refl
 
 factors-weigh : (v : List ℕ) → firstBad (fields lastRow) v 0 ≡ 0
-    → weigh noRecord lastRow v ≡ record { account = opened noRecord (record { ch4 = getD v 2 0; n2o = getD v 3 0 }); lines = [] }
+    → weigh noRecord lastRow v ≡ record { account = opened noRecord (farmOf lastRow v); lines = [] }
 unfolding weigh first inPlace accepted sortOf
 factors-weigh v h = rw h refl
 
@@ -195,10 +196,10 @@ factors-as-set farm year set xs h =
     let fit = factors-fit farm year set h in
     let one = set-kind farm year set in
     let two = factors-kind farm year set in
-    let by-set : judge noRecord (recordBytes 1 v) ≡ record { account = opened noRecord (setFactors set); lines = [] } =
+    let by-set : judge noRecord (recordBytes 1 v) ≡ record { account = opened noRecord (farmOf 1 v); lines = [] } =
     right-length noRecord 1 (recordBytes 1 v) 11 one size-1 (record-length 1 v ∙ size-of-1) ∙ ap (weigh noRecord 1) (record-back 1 v h count-1)
     ∙ set-weighs v h in
-    let by-factors : judge noRecord (recordBytes lastRow w) ≡ record { account = opened noRecord (setFactors set); lines = [] } =
+    let by-factors : judge noRecord (recordBytes lastRow w) ≡ record { account = opened noRecord (farmOf 1 v); lines = [] } =
     right-length noRecord lastRow (recordBytes lastRow w) 14 two size-last (record-length lastRow w ∙ size-of-last)
     ∙ ap (weigh noRecord lastRow) (record-back lastRow w fit count-last) ∙ factors-weigh w fit in
     book-record noRecord (recordBytes lastRow w) xs (two .whole) (omega arith)

@@ -11,7 +11,8 @@ use Rattle.codec.specs.Table.{fields}
 use Rattle.codec.specs.Codec.{firstBad}
 use Rattle.account.specs.declared.Account.{Account}
 use Rattle.account.specs.Line.{subtotals, totalOf}
-use Rattle.account.specs.Judge.{kindOf, valuesOf, refusals, first, standing, refused, closed}
+use Rattle.account.specs.Account.{standing, refused, closed}
+use Rattle.account.specs.Judge.{kindOf, valuesOf, refusals, first}
 use Rattle.book.specs.declared.State.{State}
 use Rattle.book.specs.Front.{bad}
 use Rattle.book.specs.State.{heldOf, holding}

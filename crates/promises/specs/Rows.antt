@@ -6,7 +6,7 @@ use mathlib.Core.List.{List, [], _∷_, _++_}
 use lib.ListN.{replicate}
 use Rattle.grams.specs.Cases.{Row, row}
 use Rattle.account.specs.Figures.{listed, figuresOf}
-use Rattle.account.specs.Judge.{noRecord, standing, opened}
+use Rattle.account.specs.Account.{noRecord, standing, opened}
 use Rattle.book.specs.State.{holding}
 use Rattle.book.specs.Run.{run}
 use Rattle.promises.specs.Paper.{verdictOf, verdict}

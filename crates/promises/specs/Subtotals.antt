@@ -13,7 +13,8 @@ use Rattle.account.specs.declared.Subtotal.{Subtotal}
 use Rattle.account.specs.Sorts.{sortOf, bySort}
 use Rattle.account.specs.Figures.{added, noSubtotal, grouped, groupFigures, figuresOf}
 use Rattle.account.specs.Line.{lineWith}
-use Rattle.account.specs.Judge.{kindOf, valuesOf, noRecord}
+use Rattle.account.specs.Account.{noRecord}
+use Rattle.account.specs.Judge.{kindOf, valuesOf}
 use Rattle.book.specs.State.{noRecordYet}
 use Rattle.promises.specs.Headings.{acceptedRecords}
 

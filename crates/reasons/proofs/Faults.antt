@@ -18,7 +18,8 @@ use Rattle.line_bytes.specs.Lines.{linesMost}
 use Rattle.account.specs.declared.Account.{Account}
 use Rattle.account.specs.declared.Judged.{Judged}
 use Rattle.account.specs.Sorts.{sortOf}
-use Rattle.account.specs.Judge.{WholeRecord, versionOf, kindByte, kindOf, valuesOf, first, refusals, refused, NotRefused, Step, accepted, judge}
+use Rattle.account.specs.Account.{refused}
+use Rattle.account.specs.Judge.{WholeRecord, versionOf, kindByte, kindOf, valuesOf, first, refusals, NotRefused, Step, accepted, judge}
 use Rattle.account.specs.Told.{TellsIn}
 use Rattle.account.specs.Compared.{badField, sharesOf, partsOf, grazedWith}
 use Rattle.account.proofs.Told.{tells-fit, lines-short}

@@ -16,7 +16,8 @@ use Rattle.base.specs.Choice.{pick}
 use Rattle.base.proofs.Tests.{of-choice, or-cases}
 use Rattle.codec.specs.Codec.{valAt}
 use Rattle.account.specs.declared.Account.{Account}
-use Rattle.account.specs.Judge.{noRecord, RefusedBy, refused, judge}
+use Rattle.account.specs.Account.{noRecord, refused}
+use Rattle.account.specs.Judge.{RefusedBy, judge}
 use Rattle.account.specs.Compared.{compared, ComparesWrongly}
 use Rattle.account.proofs.Keeps.{stage-most, in-range-judge, in-range-none}
 use Rattle.account.proofs.Compares.{compares-wrongly, length-beyond}

@@ -12,7 +12,8 @@ use Rattle.base.proofs.Tests.{lt-or-ge}
 use Rattle.account.specs.declared.Account.{Account}
 use Rattle.account.specs.declared.Refusal.{Refusal}
 use Rattle.account.specs.Range.{AccountInRange}
-use Rattle.account.specs.Judge.{noRecord, judge}
+use Rattle.account.specs.Account.{noRecord}
+use Rattle.account.specs.Judge.{judge}
 use Rattle.account.specs.Line.{joined}
 use Rattle.account.proofs.Keeps.{in-range-none, in-range-judge, stage-most}
 use Rattle.book.specs.Front.{Front, unfinished, badLength, whole, need, front}

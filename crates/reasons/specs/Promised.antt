@@ -8,7 +8,8 @@ use lib.ListN.{length, take, drop}
 use Rattle.codec.specs.Table.{lengthMost}
 use Rattle.codec.specs.Codec.{valAt}
 use Rattle.account.specs.declared.Account.{Account}
-use Rattle.account.specs.Judge.{noRecord, NotRefused, RefusedBy, refused, judge}
+use Rattle.account.specs.Account.{noRecord, refused}
+use Rattle.account.specs.Judge.{NotRefused, RefusedBy, judge}
 use Rattle.account.specs.Line.{joined}
 use Rattle.account.specs.Compared.{Compared, BeyondEnd, ComparesWrongly}
 use Rattle.book.specs.Front.{unfinished, whole, front}

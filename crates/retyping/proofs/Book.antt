@@ -13,7 +13,8 @@ use borrow.Author.Tests.{ltb-true, eqb-false, ne-eqb}
 use Rattle.codec.specs.Codec.{Bytes}
 use Rattle.base.proofs.Tests.{and-false, and-l, and-r, by-test, lt-or-ge}
 use Rattle.account.specs.declared.Account.{Account}
-use Rattle.account.specs.Judge.{WholeRecord, noRecord, kindOf, valuesOf, judge}
+use Rattle.account.specs.Account.{noRecord}
+use Rattle.account.specs.Judge.{WholeRecord, kindOf, valuesOf, judge}
 use Rattle.account.specs.Line.{joined}
 use Rattle.account.specs.Range.{AccountInRange}
 use Rattle.account.proofs.Keeps.{in-range-none, in-range-judge}

@@ -12,7 +12,8 @@ use Rattle.text_lines.specs.Parts.{Numbered, numbered}
 use Rattle.text_lines.proofs.Pieces.{lines-cut}
 use Rattle.typed_words.specs.Words.{nthWord, leadingOf}
 use Rattle.account.specs.declared.Account.{Account}
-use Rattle.account.specs.Judge.{noRecord, kindByte, kindOf, valuesOf, judge}
+use Rattle.account.specs.Account.{noRecord}
+use Rattle.account.specs.Judge.{kindByte, kindOf, valuesOf, judge}
 use Rattle.account.specs.Range.{AccountInRange}
 use Rattle.account.proofs.Keeps.{in-range-none, in-range-judge}
 use Rattle.book.specs.State.{holding, noRecordYet}

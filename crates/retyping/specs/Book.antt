@@ -13,7 +13,8 @@ use Rattle.codec.specs.Table.{lengthOf, lastRow}
 use Rattle.line_bytes.specs.Lines.{linesMost}
 use Rattle.account.specs.declared.Account.{Account}
 use Rattle.account.specs.declared.Refusal.{Refusal}
-use Rattle.account.specs.Judge.{kindOf, valuesOf, noRecord, judge}
+use Rattle.account.specs.Account.{noRecord}
+use Rattle.account.specs.Judge.{kindOf, valuesOf, judge}
 use Rattle.book.specs.declared.State.{State}
 use Rattle.book.specs.Front.{Front, unfinished, badLength, whole, need, front}
 use Rattle.book.specs.State.{inRange}

@@ -15,6 +15,7 @@ ghost use lib.Dec.{eqb};
 ghost use Rattle.base.specs.Choice.{pick};
 ghost use Rattle.line_bytes.specs.Lines.{totalSize, linesMost};
 ghost use Rattle.grams.specs.Farm.{FactorsMost};
+ghost use Rattle.account.specs.Account.{factorsOf};
 ghost use Rattle.account.specs.Range.{AccountInRange, Bounded};
 ghost use Rattle.account.specs.Judge.{weigh};
 ghost use Rattle.account.specs.Told.{TellsIn, inRoom, closing};
@@ -32,7 +33,7 @@ fn closing_length(group: u16) -> usize
 
 // The close's lines: the last group's subtotal, where there is a heading, and the sums with their CO2e.
 fn totalled(a: Account, room: usize) -> Judged
-    requires { ⌜ (a .records < 4096) × Bounded (a .sums) 4096 × FactorsMost (a .factors) ⌝ }
+    requires { ⌜ (a .records < 4096) × Bounded (a .sums) 4096 × FactorsMost (factorsOf (a .farm)) ⌝ }
     ensures { λ r. ⌜ r ≡ inRoom room a (closing a) ⌝ }
 {
     let sums = a.sums;
@@ -41,8 +42,8 @@ fn totalled(a: Account, room: usize) -> Judged
     let grazing = sums.grazing;
     // field by field: of a copy the compiler makes one word, which it takes apart at each record
     let w = Factors {
-        ch4: a.factors.ch4,
-        n2o: a.factors.n2o,
+        ch4: a.farm.ch4,
+        n2o: a.farm.n2o,
     };
     let co2e = grams::farm::co2e(w, co2, sums.ch4, n2o, grazing);
     let h = a.heading;

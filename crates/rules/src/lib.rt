@@ -5,7 +5,6 @@ pub mod close;
 pub mod energy;
 pub mod enteric;
 pub mod farm;
-pub mod farm_factors; // farm_factors.rt: the farm record of version 2
 pub mod grazing;
 pub mod heading;
 pub mod pig;
@@ -62,7 +61,7 @@ fn by_version(a: Account, r: &[u8], room: usize) -> Judged
     if r.len() != 14 {
         return wrong(a, 4, 0);
     }
-    farm_factors::weigh(a, codec::farm_factors::read(r, 4), room)
+    farm::weigh_factors(a, codec::farm_factors::read(r, 4), room)
 }
 
 // What the whole record r does: its version, its kind and its length are looked at here, its values in the kind's file.

@@ -12,7 +12,8 @@ use Rattle.codec.proofs.BigEndian.{one-byte}
 use Rattle.codec.proofs.Round.{record-back, record-length, record-whole}
 use Rattle.account.specs.declared.Account.{Account}
 use Rattle.account.specs.Sorts.{sortOf}
-use Rattle.account.specs.Judge.{closed, inPlace, first, accepted, judge, weigh}
+use Rattle.account.specs.Account.{closed}
+use Rattle.account.specs.Judge.{inPlace, first, accepted, judge, weigh}
 use Rattle.account.specs.Told.{Kind}
 use Rattle.account.proofs.Told.{right-length}
 

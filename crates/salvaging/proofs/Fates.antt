@@ -16,7 +16,8 @@ use Rattle.codec.specs.Codec.{valAt}
 use Rattle.account.specs.declared.Account.{Account}
 use Rattle.account.specs.Range.{AccountInRange}
 use Rattle.account.specs.Sorts.{opens, heads, ofGroup, ofFarm, closes, isFarm, sortOf}
-use Rattle.account.specs.Judge.{versionOf, kindByte, kindOf, valuesOf, closed, headingServes, inPlace, first, refusals, Step, accepted, judge}
+use Rattle.account.specs.Account.{closed}
+use Rattle.account.specs.Judge.{versionOf, kindByte, kindOf, valuesOf, headingServes, inPlace, first, refusals, Step, accepted, judge}
 use Rattle.account.proofs.Sorts.{by-sort}
 use Rattle.account.proofs.Refusals.{not-refused}
 use Rattle.account.proofs.Keeps.{in-range-judge}

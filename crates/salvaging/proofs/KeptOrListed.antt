@@ -11,7 +11,8 @@ use lib.Dec.{eqb}
 use lib.ListN.{length, take}
 use Rattle.base.specs.Choice.{pick}
 use Rattle.base.proofs.Tests.{and-l, and-r, or-left}
-use Rattle.account.specs.Judge.{kindByte, noRecord, first}
+use Rattle.account.specs.Account.{noRecord}
+use Rattle.account.specs.Judge.{kindByte, first}
 use Rattle.book.specs.WholeRecords.{recordsOf}
 use Rattle.salvaging.specs.declared.Reading.{Reading}
 use Rattle.salvaging.specs.Salvage.{wouldGet, oneOf, ofGroupKind, droppedBy, ends, after, start, Entry, Found, found, foundIn}

@@ -14,7 +14,8 @@ use Rattle.base.specs.Choice.{pick}
 use Rattle.base.proofs.Tests.{not-true}
 use Rattle.codec.specs.Codec.{recordBytes}
 use Rattle.account.specs.declared.Account.{Account}
-use Rattle.account.specs.Judge.{WholeRecord, closed, judge}
+use Rattle.account.specs.Account.{closed}
+use Rattle.account.specs.Judge.{WholeRecord, judge}
 use Rattle.book.specs.Front.{Front, unfinished, badLength, whole, need, front}
 use Rattle.book.specs.State.{noRecordYet}
 use Rattle.book.specs.Run.{Run, then, book, run}

@@ -18,7 +18,8 @@ use Rattle.codec.specs.Codec.{valuesAt, recordBytes, Bytes}
 use Rattle.codec.proofs.BigEndian.{one-byte}
 use Rattle.codec.proofs.Round.{record-again}
 use Rattle.account.specs.declared.Account.{Account}
-use Rattle.account.specs.Judge.{WholeRecord, versionOf, kindByte, kindOf, noRecord, closed, judge}
+use Rattle.account.specs.Account.{noRecord, closed}
+use Rattle.account.specs.Judge.{WholeRecord, versionOf, kindByte, kindOf, judge}
 use Rattle.book.specs.Front.{Front, unfinished, badLength, whole, need, front}
 use Rattle.book.specs.State.{noRecordYet}
 use Rattle.book.specs.Run.{Run, run}

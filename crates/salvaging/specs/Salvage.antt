@@ -10,7 +10,8 @@ use Rattle.base.specs.Choice.{pick}
 use Rattle.codec.specs.Codec.{be, recordBytes}
 use Rattle.account.specs.declared.Account.{Account}
 use Rattle.account.specs.Sorts.{sortOf, bySort}
-use Rattle.account.specs.Judge.{kindByte, noRecord, first, refusals, judge}
+use Rattle.account.specs.Account.{noRecord}
+use Rattle.account.specs.Judge.{kindByte, first, refusals, judge}
 use Rattle.account.specs.Line.{joined}
 use Rattle.book.specs.WholeRecords.{recordsOf}
 use Rattle.salvaging.specs.declared.Reading.{Reading}

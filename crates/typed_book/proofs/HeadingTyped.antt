@@ -17,7 +17,7 @@ use Rattle.account.specs.Judge.{Step, headingServes, inPlace, accepted, weigh}
 use Rattle.account.specs.Sorts.{sortOf}
 use Rattle.account.proofs.Sorts.{by-sort, heads-two}
 use Rattle.account.specs.declared.Refusal.{Refusal}
-use Rattle.account.specs.Judge.{noRecord}
+use Rattle.account.specs.Account.{noRecord}
 use Rattle.account.proofs.Keeps.{in-range-none}
 use Rattle.account.proofs.Refusals.{passed, weighed-none, weighed-passes}
 use Rattle.book.proofs.Ranges.{range-test, range-idle}

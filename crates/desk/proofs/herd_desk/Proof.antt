@@ -2,7 +2,7 @@ use mathlib.Core.Path.{refl}
 use native.Mathlib.Omega.{arith}
 use borrow.Author.Needs.{needs}
 use Rattle.codec.specs.Table.{size}
-use Rattle.account.specs.Numbers.{accountFields}
+use Rattle.account.specs.Account.{accountFields}
 use Rattle.desk.proofs.Images.{called-few}
 use Rattle.desk.proofs.Number.{from-zeros, is-number}
 use Rattle.desk.proofs.herd_desk.Statement.{statement}

@@ -2,7 +2,7 @@
 -- Assumes nothing.
 use borrow.Author.Needs.{needs}
 use Rattle.codec.specs.Table.{size}
-use Rattle.account.specs.Numbers.{accountFields}
+use Rattle.account.specs.Account.{accountFields}
 use Rattle.image.proofs.Calls.{meets-length, meets-outside, meets-inside}
 use Rattle.image.proofs.call.Statement.{statement}
 use Rattle.image.proofs.call.Tie as tie

@@ -4,7 +4,7 @@ use mathlib.Core.Path.{sym}
 use borrow.Author.Needs.{needs}
 use borrow.Author.Tests.{eq-eqb, ne-eqb}
 use Rattle.codec.specs.Table.{size}
-use Rattle.account.specs.Numbers.{accountFields}
+use Rattle.account.specs.Account.{accountFields}
 use Rattle.image.proofs.Calls.{start-long, start-none}
 use Rattle.image.proofs.start.Statement.{statement}
 use Rattle.image.proofs.start.Tie as tie

@@ -23,7 +23,7 @@ returns-3 : tie.Need-returns-3
 unfolding table size
 returns-3 c =
     let e = c .before .before .before in
-    rw (right-length _ lastRow _ 14 (eleven e) refl (c .before .before .if2 .left), ← c .before .read .ensures) (c .weigh .ensures)
+    rw (right-length _ lastRow _ 14 (eleven e) refl (c .before .before .if2 .left), ← c .before .read .ensures) (c .weigh-factors .ensures)
 
 pub by-version-spec : {M : Type 1} → statement M
 by-version-spec =

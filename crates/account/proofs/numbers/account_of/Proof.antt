@@ -25,4 +25,4 @@ account-of-spec =
     let c4 = c3 .before in
     let c5 = c4 .before in
     rw (c .refusal-in .ensures, c1 .sums-in .ensures, c2 .used-in .ensures, c3 .subtotal-in .ensures)
-    (rw (c4 .heading-in .ensures, c5 .factors-in .ensures) refl)))
+    (rw (c4 .heading-in .ensures, c5 .farm-in .ensures) refl)))

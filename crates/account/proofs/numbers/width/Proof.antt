@@ -6,7 +6,7 @@ use Prim.Native.Nat.{ℕ, _<_, _≤_}
 use native.Mathlib.Omega.{arith}
 use lib.ListN.{length, getD}
 use Rattle.codec.proofs.Columns.{of-field}
-use Rattle.account.specs.Numbers.{accountFields, widthOf}
+use Rattle.account.specs.Account.{accountFields, widthOf}
 use Rattle.account.proofs.AsNumbers.{width-most}
 use Rattle.account.proofs.numbers.width.Statement.{statement}
 use Rattle.account.proofs.numbers.width.Tie as tie

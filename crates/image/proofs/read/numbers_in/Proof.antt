@@ -5,7 +5,7 @@ use native.Mathlib.Omega.{arith}
 use borrow.Author.Needs.{needs}
 use Rattle.codec.specs.Table.{size}
 use Rattle.codec.specs.Codec.{valuesAt}
-use Rattle.account.specs.Numbers.{accountFields}
+use Rattle.account.specs.Account.{accountFields}
 use Rattle.image.proofs.read.numbers_in.Statement.{statement}
 use Rattle.image.proofs.read.numbers_in.Tie as tie
 

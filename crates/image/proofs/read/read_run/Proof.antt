@@ -7,7 +7,7 @@ use lib.ListN.{length, take, drop, length-set}
 use lib.Seq.{sets}
 use Rattle.codec.specs.Codec.{valuesAt}
 use Rattle.codec.proofs.FieldByField.{read-turn, all-read}
-use Rattle.account.specs.Numbers.{accountFields}
+use Rattle.account.specs.Account.{accountFields}
 use Rattle.account.proofs.AsNumbers.{width-is}
 use Rattle.image.specs.Image.{placeOf}
 use Rattle.image.proofs.Stored.{front-length, front-width, place-next, place-most}

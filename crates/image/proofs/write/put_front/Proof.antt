@@ -4,12 +4,15 @@ use mathlib.Core.Path.{refl}
 use native.Mathlib.Omega.{arith}
 use borrow.Author.Needs.{needs}
 use Rattle.codec.specs.Table.{size}
-use Rattle.account.specs.Numbers.{accountFields}
+use Rattle.account.specs.Account.{accountFields}
 use Rattle.image.proofs.Stored.{three-stored}
 use Rattle.image.proofs.write.put_front.Statement.{statement}
 use Rattle.image.proofs.write.put_front.Tie as tie
 
--- the three parts, at the place after the first run
+-- the entry and the three parts, from the place after the first run
+abbrev entry : tie.After-put-run → tie.Start
+entry c = c .before .before .before .before .before .before .before
+
 abbrev one : tie.After-put-run → tie.After-of-start
 one c = c .before .before .before .before .before
 
@@ -21,29 +24,32 @@ three c = c .before .before .before
 
 first : tie.Need-put-run-requires
 unfolding size accountFields
-first c κs = let start = c .before .before .before .before .before .before in (start .pre, refl, rw (c .before .before .before .before .of-start .ensures) (omega arith))
+first c κs =
+    let start = c .before .before .before .before .before .before in
+    (start .pre, refl, rw (c .before .before .before .before .of-start .ensures) (omega arith))
 
 second : tie.Need-put-run-requires-2
 unfolding size accountFields
 second c κs =
     let run = c .before .before .before .before in
-    (omega (arith, run .before .before .before .before .before .before .before .pre), rw (one run .of-start .ensures) at (run .put-run .ensures .1), rw (two run .of-heading .ensures) (omega arith))
+    (omega (arith, entry run .pre), rw (one run .of-start .ensures) at (run .put-run .ensures .1), rw (two run .of-heading .ensures) (omega arith))
 
 third : tie.Need-put-run-requires-3
 unfolding size accountFields
 third c κs =
     let last = c .before .before .before .before in
     let run = last .before .before .before .before .before in
-    (omega (arith, run .before .before .before .before .before .before .before .pre), rw (two run .of-heading .ensures) at (last .put-run2 .ensures .1), rw (three run .of-used .ensures) (omega arith))
+    (omega (arith, entry run .pre), rw (two run .of-heading .ensures) at (last .put-run2 .ensures .1), rw (three run .of-used .ensures) (omega arith))
 
 returns : tie.Need-returns
 returns c =
     let last = c .before .before in
     let mid = last .before .before .before .before .before in
     let run = mid .before .before .before .before .before in
-    let start = run .before .before .before .before .before .before .before in
-    (three-stored (start .args .image .now) 0 _ _ _ (one run .of-start .ensures) (two run .of-heading .ensures) (three run .of-used .ensures) refl refl (run .put-run .ensures .0)
-    (mid .put-run2 .ensures .0) (last .put-run3 .ensures .0), rw (three run .of-used .ensures) at (last .put-run3 .ensures .1))
+    let start = entry run in
+    let bytes = three-stored (start .args .image .now) 0 _ _ _ (one run .of-start .ensures) (two run .of-heading .ensures)
+    (three run .of-used .ensures) refl refl (run .put-run .ensures .0) (mid .put-run2 .ensures .0) (last .put-run3 .ensures .0) in
+    (bytes, rw (three run .of-used .ensures) at (last .put-run3 .ensures .1))
 
 pub put-front-spec : {M : Type 1} → statement M
 put-front-spec =

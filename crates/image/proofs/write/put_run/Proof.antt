@@ -8,7 +8,7 @@ use lib.ListN.{length, take, drop}
 use lib.Seq.{sets}
 use Rattle.codec.specs.Codec.{bytesOf}
 use Rattle.codec.proofs.FieldByField.{put-turn, all-put}
-use Rattle.account.specs.Numbers.{accountFields}
+use Rattle.account.specs.Account.{accountFields}
 use Rattle.account.proofs.AsNumbers.{width-is}
 use Rattle.image.specs.Image.{placeOf}
 use Rattle.image.proofs.Stored.{few-fields, part-length, part-width, place-next, place-most}
@@ -30,7 +30,8 @@ number-there c = omega (arith, c .before .before .before .before .pre .2)
 
 -- where the next lies, in the image
 next : (c : tie.After-width Inv-loop μ-loop)
-    → c .before .before .loop .p + c .width .result ≡ placeOf (c .before .before .before .before .before .args .from + (c .before .before .loop .i + 1))
+    → let from = c .before .before .before .before .before .args .from in
+    c .before .before .loop .p + c .width .result ≡ placeOf (from + (c .before .before .loop .i + 1))
 next c =
     let k = c .before .before .loop in
     let from = c .before .before .before .before .before .args .from in

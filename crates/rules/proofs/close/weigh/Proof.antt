@@ -26,7 +26,7 @@ returns-2 c = refuses _ 8 _ (passed (c .before .before .before)) _ 12 _ (rw (ne-
 totalled-requires : tie.Need-totalled-requires
 totalled-requires c κs =
     let f = c .before .before .before .before .before .before .pre .0 in
-    (passed (c .before .before) .room, sums-most _ f, record { ch4-most = f .started .ch4-factor .most; n2o-most = f .started .n2o-factor .most })
+    (passed (c .before .before) .room, sums-most _ f, record { ch4-most = f .started .farm .ch4 .most; n2o-most = f .started .farm .n2o .most })
 
 returns-3 : tie.Need-returns-3
 unfolding first accepted sortOf

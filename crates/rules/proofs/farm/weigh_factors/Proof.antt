@@ -5,10 +5,10 @@ use borrow.Author.Needs.{needs}
 use Rattle.codec.specs.Table.{lastRow}
 use Rattle.account.specs.Sorts.{sortOf}
 use Rattle.account.specs.Judge.{inPlace, first, accepted}
-use Rattle.account.proofs.Ranges.{factors-in}
+use Rattle.account.proofs.FarmSet.{factors-in}
 use Rattle.account.proofs.Told.{tells-quiet, quiet-in, Passes, passes, stops, accepts}
-use Rattle.rules.proofs.farm_factors.weigh.Statement.{statement}
-use Rattle.rules.proofs.farm_factors.weigh.Tie as tie
+use Rattle.rules.proofs.farm.weigh_factors.Statement.{statement}
+use Rattle.rules.proofs.farm.weigh_factors.Tie as tie
 
 returns : tie.Need-returns
 unfolding inPlace
@@ -30,8 +30,8 @@ returns-2 c =
       c .before .before .before .before .by-fields .ensures,
     ) (tells-quiet _))
 
-pub weigh-spec : {M : Type 1} → statement M
-weigh-spec =
+pub weigh-factors-spec : {M : Type 1} → statement M
+weigh-factors-spec =
     tie.close
     (tie.spec
     (λ c κs. tt)
