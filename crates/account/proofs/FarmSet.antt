@@ -69,8 +69,7 @@ module _ (t : Bool) (f : Farm) where
 
   pub set-parts : (records : ℕ) → (t ≡ true → 1 ≤ records) → setTest ≡ true → (t ≡ true) × FarmIn f records
   set-parts records some e =
-      let p = all-each t setTests e in
-      (
+      let p = all-each t setTests e in (
         p .0,
         record {
           ch4 = some-factor _ _ (some (p .0)) (leb-true _ _ (p .1 .0)) (leb-true _ _ (p .1 .1 .0));
@@ -80,9 +79,13 @@ module _ (t : Bool) (f : Farm) where
 
   pub set-test : (records : ℕ) → 1 ≤ records → t ≡ true → FarmIn f records → setTest ≡ true
   set-test records some e i =
-      each-all t setTests e
-      (not-none records (f .ch4) some (i .ch4 .none), (le-leb _ _ (i .ch4 .most),
-      (not-none records (f .n2o) some (i .n2o .none), (le-leb _ _ (i .n2o .most), tt))))
+      each-all t setTests e (
+        not-none records (f .ch4) some (i .ch4 .none),
+        (
+          le-leb _ _ (i .ch4 .most),
+          (not-none records (f .n2o) some (i .n2o .none), (le-leb _ _ (i .n2o .most), tt)),
+        ),
+      )
 
 -- ---- it stays in range
 

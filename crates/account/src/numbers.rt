@@ -36,7 +36,8 @@ pub fn width(i: usize) -> usize
     requires { ⌜ i < length accountFields ⌝ }
     ensures { λ r. ⌜ r ≡ widthOf i ⌝ }
 {
-    let widths = b"\x01\x02\x02\x02\x02\x01\x02\x02\x02\x02\x02\x08\x08\x08\x08\x08\x08\x08\x08\x08\x08\x01\x02\x01";
+    let widths =
+        b"\x01\x02\x02\x02\x02\x01\x02\x02\x02\x02\x02\x08\x08\x08\x08\x08\x08\x08\x08\x08\x08\x01\x02\x01";
     widths[i] as usize
 }
 
@@ -44,7 +45,12 @@ pub fn width(i: usize) -> usize
 pub fn of_start(a: Account) -> [u64; 4]
     ensures { λ r. ⌜ r ≡ startNumbers a ⌝ }
 {
-    [a.stage as u64, a.records as u64, a.farm.ch4 as u64, a.farm.n2o as u64]
+    [
+        a.stage as u64,
+        a.records as u64,
+        a.farm.ch4 as u64,
+        a.farm.n2o as u64,
+    ]
 }
 
 pub fn of_heading(h: Heading) -> [u64; 3]
@@ -56,7 +62,12 @@ pub fn of_heading(h: Heading) -> [u64; 3]
 pub fn of_used(u: Used) -> [u64; 4]
     ensures { λ r. ⌜ r ≡ usedNumbers u ⌝ }
 {
-    [u.enteric as u64, u.nitrogen as u64, u.pig as u64, u.grazed as u64]
+    [
+        u.enteric as u64,
+        u.nitrogen as u64,
+        u.pig as u64,
+        u.grazed as u64,
+    ]
 }
 
 pub fn of_subtotal(s: Subtotal) -> [u64; 4]
