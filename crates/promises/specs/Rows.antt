@@ -6,7 +6,7 @@ use mathlib.Core.List.{List, [], _∷_, _++_}
 use lib.ListN.{replicate}
 use Rattle.grams.specs.Cases.{Row, row}
 use Rattle.account.specs.Figures.{listed, figuresOf}
-use Rattle.account.specs.Account.{noRecord, standing, opened}
+use Rattle.account.specs.Account.{noRecord, standing, opened, farmOf}
 use Rattle.book.specs.State.{holding}
 use Rattle.book.specs.Run.{run}
 use Rattle.promises.specs.Paper.{verdictOf, verdict}
@@ -55,7 +55,7 @@ from records bytes told =
     (verdictOf
     (run
     (holding
-    (standing (opened noRecord (record { ch4 = 21; n2o = 310 })) 1 records (noRecord .refusal))
+    (standing (opened noRecord (farmOf 1 (0 ∷ 2010 ∷ 1 ∷ []))) 1 records (noRecord .refusal))
     [])
     bytes
     .state .account))
