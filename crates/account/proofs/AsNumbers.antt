@@ -1,9 +1,9 @@
 -- An account as numbers: in range they fit their bytes, and there and back it is the same.
 -- Assumes nothing.
-use Prim.Native.Nat.{ℕ, zero, suc, _+_, _^_, _%_, _≤_, _<_}
+use Prim.Native.Nat.{ℕ, zero, suc, _+_, _^_, _≤_, _<_}
 use mathlib.Core.Path.{_≡_, refl, sym, _∙_}
 use mathlib.Core.List.{List, [], _∷_}
-use mathlib.Core.Bool.{Bool, true, false, _&&_, _||_}
+use mathlib.Core.Bool.{Bool, true, _&&_, _||_}
 use mathlib.Core.Logic.{_⊎_, inl, inr, ⊎-elim}
 use native.Mathlib.Omega.{arith}
 use native.Mathlib.Nat.{mod-eq-of-lt, pow-suc}
@@ -12,7 +12,7 @@ use lib.ListN.{length, getD, drop, drop-of-length-le}
 use lib.Seq.{drop-cons}
 use lib.Dec.{eqb}
 use Rattle.base.specs.Choice.{pick}
-use Rattle.base.proofs.Tests.{and-l, and-r, or-cases, by-test, lt-or-ge}
+use Rattle.base.proofs.Tests.{and-l, and-r, or-cases, by-test}
 use Rattle.codec.specs.declared.Field.{Field}
 use Rattle.codec.specs.Codec.{bytesHold, Fit}
 use Rattle.codec.proofs.Within.{none}

@@ -6,11 +6,10 @@ use mathlib.Core.Path.{_≡_, refl, sym, ap, _∙_, subst}
 use mathlib.Core.List.{List, [], _∷_}
 use mathlib.Core.Bool.{Bool, true, false, _&&_, not}
 use native.Mathlib.Omega.{arith}
-use borrow.Author.Tests.{leb-false, lt-leb, le-ltb, ltb-false, eqb-true, eqb-false, ne-eqb}
-use lib.ListN.{getD}
+use borrow.Author.Tests.{leb-false, lt-leb, eqb-false, ne-eqb}
 use lib.Dec.{eqb}
 use Rattle.base.specs.Choice.{pick}
-use Rattle.base.proofs.Tests.{by-test, of-choice, no-bool, not-true, not-false, and-l, and-r, or-l, or-r}
+use Rattle.base.proofs.Tests.{no-bool, not-true, not-false, and-l, and-r, or-l, or-r}
 use Rattle.codec.specs.Table.{lastRow}
 use Rattle.grams.specs.Units.{gramsN2o, plusCo2, gramsGrazed}
 use Rattle.grams.specs.declared.units.Co2.{Co2}

@@ -4,7 +4,6 @@ use Prim.Native.Nat.{ℕ, zero, suc, _+_, _≤_, _<_}
 use mathlib.Core.Path.{_≡_, refl}
 use mathlib.Core.List.{List, [], _∷_, _++_, append-nil}
 use mathlib.Core.Bool.{Bool, true, false, _&&_, _||_, not}
-use mathlib.Core.Logic.{_⊎_, inl, inr, ⊎-elim}
 use native.Mathlib.Omega.{arith}
 use borrow.Author.Tests.{leb-true, eqb-true, eqb-false, eq-eqb, ne-eqb}
 use lib.ListN.{length, getD}
@@ -13,7 +12,7 @@ use Rattle.base.specs.Choice.{pick}
 use Rattle.base.proofs.Tests.{no-bool, and-l, and-r, or-l, or-r, not-false, not-true, of-choice}
 use Rattle.codec.proofs.EachKind.{row-of-kind}
 use Rattle.codec.specs.declared.Field.{Field}
-use Rattle.codec.specs.Table.{table, fields, lastRow, isRow}
+use Rattle.codec.specs.Table.{table, fields, isRow}
 use Rattle.codec.specs.Codec.{firstBad}
 use Rattle.codec.proofs.Within.{bad-position}
 use Rattle.line_bytes.specs.Lines.{lineSize, totalSize, linesMost}

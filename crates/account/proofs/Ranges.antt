@@ -6,7 +6,7 @@ use mathlib.Core.List.{List, [], _∷_}
 use native.Mathlib.Omega.{arith}
 use lib.ListN.{length, getD}
 use Rattle.codec.specs.declared.Field.{Field}
-use Rattle.codec.specs.Table.{table, fields, lastRow}
+use Rattle.codec.specs.Table.{table, fields}
 use Rattle.codec.specs.Codec.{firstBad}
 use Rattle.codec.proofs.Within.{Good, first-within}
 

@@ -6,14 +6,14 @@ use mathlib.Core.List.{List, [], _∷_}
 use mathlib.Core.Bool.{Bool, true, false, _&&_, _||_, not}
 use mathlib.Core.Logic.{_⊎_, inl, inr, ⊎-elim}
 use native.Mathlib.Omega.{arith}
-use borrow.Author.Tests.{leb-true, le-leb, eqb-true, eq-eqb, ne-eqb}
+use borrow.Author.Tests.{leb-true, le-leb, eqb-true, eq-eqb}
 use lib.Dec.{leb, eqb}
 use Rattle.base.proofs.Tests.{all-each, each-all, and-l, and-r, implied, implies, or-cases, both-true, same-test}
 use Rattle.account.specs.declared.Heading.{Heading}
 use Rattle.account.specs.declared.Subtotal.{Subtotal}
 use Rattle.account.specs.declared.Used.{Used}
 use Rattle.account.specs.Figures.{noSubtotal}
-use Rattle.account.specs.Range.{UsedMost, Headed, Unheaded, Grouped, Ungrouped, Under}
+use Rattle.account.specs.Range.{UsedMost, Headed, Unheaded, Grouped, Under}
 use Rattle.account.specs.Range.{usedTest, unusedTest, headedTest, unheadedTest, groupedTest, ungroupedTest, underTest}
 use Rattle.account.specs.Account.{noneUsed}
 use Rattle.account.proofs.Sums.{grouped-parts, grouped-test, ungrouped-parts, ungrouped-test, grouped-none, ungrouped-none, grouped-next}

@@ -1,16 +1,11 @@
 -- The table as the code has it, column by column: what stands there at a row and a field is what specs/Table.antt says.
 -- Assumes nothing.
 use Prim.Native.Nat.{ℕ, zero, suc, _-_, _<_}
-use mathlib.Core.Path.{_≡_, refl, sym, _∙_}
-use mathlib.Core.Bool.{Bool, true, false, _||_}
+use mathlib.Core.Path.{_≡_, refl, _∙_}
 use mathlib.Core.List.{List, [], _∷_, _++_, map}
-use mathlib.Core.Logic.{_⊎_, inl, inr}
 use native.Mathlib.Omega.{arith}
-use borrow.Author.Tests.{eqb-true}
-use lib.Dec.{T, leb, eqb, leb→le}
 use lib.ListN.{length, getD, replicate}
 use Rattle.codec.specs.declared.Field.{Field}
-use Rattle.codec.specs.Table.{table, fields, size}
 use Rattle.codec.specs.Codec.{inTwelve}
 use Rattle.codec.proofs.Within.{none}
 

@@ -1,12 +1,8 @@
 -- The code's widths are those of the specification, one after the other. Assumes nothing.
-use mathlib.Core.Path.{_≡_, refl, sym, _∙_}
-use mathlib.Core.List.{map}
-use mathlib.Core.Logic.{⊎-elim}
-use Prim.Native.Nat.{ℕ, _<_, _≤_}
+use mathlib.Core.Path.{refl}
 use native.Mathlib.Omega.{arith}
-use lib.ListN.{length, getD}
 use Rattle.codec.proofs.Columns.{of-field}
-use Rattle.account.specs.Account.{accountFields, widthOf}
+use Rattle.account.specs.Account.{accountFields}
 use Rattle.account.proofs.AsNumbers.{width-most}
 use Rattle.account.proofs.numbers.width.Statement.{statement}
 use Rattle.account.proofs.numbers.width.Tie as tie
