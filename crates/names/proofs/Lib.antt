@@ -1,5 +1,8 @@
+mod Chosen
 mod Examples
 mod Lines
 mod Shown
+mod UsualRanges
 pub mod Ranges
+pub mod Tables
 pub mod OneAnswer

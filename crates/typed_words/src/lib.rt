@@ -228,7 +228,8 @@ pub fn part(s: &[u8], sep: u8, n: usize) -> &[u8]
     part(behind_point(s, p), sep, n - 1)
 }
 
-fn index_of(s: &[u8], b: u8) -> usize
+// Where the first b stands, or the length where there is none.
+pub fn index_of(s: &[u8], b: u8) -> usize
     ensures { λ r. ⌜ r ≡ indexOf b (now (s .entry)) ⌝ }
     ensures { λ r. ⌜ r ≤ length (now (s .entry)) ⌝ }
 {
