@@ -8,22 +8,22 @@ use mathlib.Core.Bool.{Bool, true, false}
 use mathlib.Core.List.{List}
 use Rattle.base.specs.Choice.{pick}
 use Rattle.typed_words.specs.Words.{sameText}
-use Rattle.names.specs.Names.{choicesMost, choiceWord, chosenFrom}
+use Rattle.names.specs.Names.{choicesMost, wordFor, chosenFrom}
 
 -- r is what the test of the word after k told
-module _ (row i : ℕ) (w : List ℕ) (k : ℕ) (h : k < choicesMost) {r : Bool} (e : r ≡ sameText w (choiceWord row i (k + 1))) where
-  at-word : chosenFrom (choicesMost - k) k row i w ≡ pick r (k + 1) (chosenFrom (choicesMost - (k + 1)) (k + 1) row i w)
+module _ (words w : List ℕ) (k : ℕ) (h : k < choicesMost) {r : Bool} (e : r ≡ sameText w (wordFor words (k + 1))) where
+  at-word : chosenFrom (choicesMost - k) k words w ≡ pick r (k + 1) (chosenFrom (choicesMost - (k + 1)) (k + 1) words w)
   unfolding chosenFrom
   at-word =
       let left : choicesMost - k ≡ suc (choicesMost - (k + 1)) = omega arith in
       rw (left, e, add-one k) refl
 
-  pub chosen-here : r ≡ true → chosenFrom (choicesMost - k) k row i w ≡ k + 1
-  chosen-here t = at-word ∙ ap (λ (b : Bool). pick b (k + 1) (chosenFrom (choicesMost - (k + 1)) (k + 1) row i w)) t
+  pub chosen-here : r ≡ true → chosenFrom (choicesMost - k) k words w ≡ k + 1
+  chosen-here t = at-word ∙ ap (λ (b : Bool). pick b (k + 1) (chosenFrom (choicesMost - (k + 1)) (k + 1) words w)) t
 
-  pub chosen-on : r ≡ false → chosenFrom (choicesMost - k) k row i w ≡ chosenFrom (choicesMost - (k + 1)) (k + 1) row i w
-  chosen-on t = at-word ∙ ap (λ (b : Bool). pick b (k + 1) (chosenFrom (choicesMost - (k + 1)) (k + 1) row i w)) t
+  pub chosen-on : r ≡ false → chosenFrom (choicesMost - k) k words w ≡ chosenFrom (choicesMost - (k + 1)) (k + 1) words w
+  chosen-on t = at-word ∙ ap (λ (b : Bool). pick b (k + 1) (chosenFrom (choicesMost - (k + 1)) (k + 1) words w)) t
 
-pub chosen-none : (row i : ℕ) (w : List ℕ) (k : ℕ) → choicesMost ≤ k → chosenFrom (choicesMost - k) k row i w ≡ 0
+pub chosen-none : (words w : List ℕ) (k : ℕ) → choicesMost ≤ k → chosenFrom (choicesMost - k) k words w ≡ 0
 unfolding chosenFrom
-chosen-none row i w k h = let left : choicesMost - k ≡ 0 = omega arith in rw left refl
+chosen-none words w k h = let left : choicesMost - k ≡ 0 = omega arith in rw left refl

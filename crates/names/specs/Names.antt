@@ -79,14 +79,17 @@ choicesOf row i = cellOf row i choiceTable
 abbrev pub isChoice : ℕ → ℕ → Bool
 isChoice row i = ltb 0 (length (choicesOf row i))
 
--- the word for the number v
+-- the word for the number v, in a list of words
+abbrev pub wordFor : List ℕ → ℕ → List ℕ
+wordFor words v = nthWord 0 (nthPart 44 (v - 1) words)
+
 abbrev pub choiceWord : ℕ → ℕ → ℕ → List ℕ
-choiceWord row i v = nthWord 0 (nthPart 44 (v - 1) (choicesOf row i))
+choiceWord row i v = wordFor (choicesOf row i) v
 
 -- the number of the word w among the n words after the first k; 0 where it is none of them
-unfoldable pub chosenFrom : ℕ → ℕ → ℕ → ℕ → List ℕ → ℕ
-chosenFrom zero k row i w = 0
-chosenFrom (suc n) k row i w = pick (sameText w (choiceWord row i (suc k))) (suc k) (chosenFrom n (suc k) row i w)
+unfoldable pub chosenFrom : ℕ → ℕ → List ℕ → List ℕ → ℕ
+chosenFrom zero k words w = 0
+chosenFrom (suc n) k words w = pick (sameText w (wordFor words (suc k))) (suc k) (chosenFrom n (suc k) words w)
 
 -- no field has more words
 abbrev pub choicesMost : ℕ
@@ -94,7 +97,7 @@ choicesMost = 9
 
 -- the number of a word, capitals or not
 abbrev pub chosen : ℕ → ℕ → List ℕ → ℕ
-chosen row i w = chosenFrom choicesMost 0 row i (lowered w)
+chosen row i w = chosenFrom choicesMost 0 (choicesOf row i) (lowered w)
 
 -- ---- what is expected
 

@@ -14,8 +14,9 @@ ghost use Rattle.base.specs.Choice.{pick};
 ghost use Rattle.codec.specs.Table.{fields};
 ghost use Rattle.printing.specs.Ascii.{ascii};
 ghost use Rattle.printing.specs.Said.{Said};
-ghost use Rattle.typed_words.specs.Words.{nthPart, nthWord, sameText, lowered};
-ghost use Rattle.names.specs.Names.{lineOf, kindName, kindNames, fieldNames, fieldName, cellOf, isChoice, choicesOf, choiceWord, chosen};
+ghost use Rattle.typed_words.specs.Words.{sameText, lowered};
+ghost use Rattle.names.specs.Names.{lineOf, kindName, kindNames, fieldNames, fieldName, cellOf, isChoice, choicesOf, wordFor, choiceWord};
+ghost use Rattle.names.specs.Names.{choicesMost, chosenFrom, chosen};
 ghost use Rattle.names.specs.Names.{expectedTable, choicesText, expected, decimalsAt, unitText, valueText, className, sentence, printedByte, shown};
 
 // The line of what is no row of the book's table.
@@ -175,7 +176,7 @@ fn less_one(n: usize) -> usize
 
 // The word for the number v in a list of words.
 fn nth_choice(words: &[u8], v: usize) -> &[u8]
-    ensures { λ r. ⌜ now r ≡ nthWord 0 (nthPart 44 (v - 1) (now (words .entry))) ⌝ }
+    ensures { λ r. ⌜ now r ≡ wordFor (now (words .entry)) v ⌝ }
 {
     word(part(words, b',', less_one(v)), 0)
 }
@@ -188,18 +189,25 @@ pub fn say_choice(out: &mut [u8], at: usize, row: u64, i: usize, v: u64) -> usiz
     say(out, at, nth_choice(cell(&CHOICES, row, i), v as usize))
 }
 
-// The number of the word among those of field i, capitals or not; 0 where it is none of them.
-pub fn choice(typed: &[u8], row: u64, i: usize) -> u64
-    ensures { λ r. ⌜ r ≡ chosen row i (now (typed .entry)) ⌝ }
+// The number of the word in a list of words, capitals or not; 0 where it is none of them.
+fn choice_in(words: &[u8], typed: &[u8]) -> u64
+    ensures { λ r. ⌜ r ≡ chosenFrom choicesMost 0 (now (words .entry)) (lowered (now (typed .entry))) ⌝ }
 {
     let mut k: usize = 0;
     while k < CHOICES_MOST {
-        if is_name(typed, nth_choice(cell(&CHOICES, row, i), k + 1)) {
+        if is_name(typed, nth_choice(words, k + 1)) {
             return (k + 1) as u64;
         }
         k += 1;
     }
     0
+}
+
+// The number of the word among those of field i; 0 where it is none of them.
+pub fn choice(typed: &[u8], row: u64, i: usize) -> u64
+    ensures { λ r. ⌜ r ≡ chosen row i (now (typed .entry)) ⌝ }
+{
+    choice_in(cell(&CHOICES, row, i), typed)
 }
 
 fn say_range(out: &mut [u8], at: usize, row: u64, i: usize) -> usize

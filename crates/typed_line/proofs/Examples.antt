@@ -6,56 +6,65 @@ use Rattle.bytes.specs.Bytes.{indexOf, indexAfter}
 use Rattle.printing.specs.Ascii.{ascii}
 use Rattle.typed_words.specs.Words.{leadingOf, nthWord, sameText, lowered, nthPart}
 use Rattle.typed_words.specs.Amounts.{numberFrom, amountOf}
-use Rattle.names.specs.Names.{kindTable, decimalsTable}
+use Rattle.codec.specs.Table.{table}
+use Rattle.names.specs.Names.{kindTable, choiceTable, chosenFrom, decimalsTable}
 use Rattle.typed_line.specs.declared.Said.the-variants.{Nothing, Record, Wrong}
-use Rattle.typed_line.specs.Line.{namedFrom, kindOf, rowOfLine, valuesFrom, entry, noRecord, lineOf, completedOf}
+use Rattle.typed_line.specs.Line.{namedFrom, kindOf, rowOfLine, valueAt, valuesFrom, entry, noRecord, lineOf, completedOf}
 
 pub by-name : lineOf (ascii "heading 12 1 40") ≡ record { said = Record; entry = entry 2 (12 ∷ 1 ∷ 40 ∷ []) }
-unfolding lineOf kindOf rowOfLine kindTable namedFrom valuesFrom leadingOf nthWord sameText lowered amountOf numberFrom decimalsTable nthPart indexOf indexAfter
+unfolding lineOf kindOf rowOfLine kindTable namedFrom valuesFrom valueAt leadingOf nthWord sameText lowered amountOf numberFrom decimalsTable table
+    chosenFrom choiceTable nthPart indexOf indexAfter
 by-name = refl
 
-pub in-capitals : lineOf (ascii "HEADING 12 1 40") ≡ record { said = Record; entry = entry 2 (12 ∷ 1 ∷ 40 ∷ []) }
-unfolding lineOf kindOf rowOfLine kindTable namedFrom valuesFrom leadingOf nthWord sameText lowered amountOf numberFrom decimalsTable nthPart indexOf indexAfter
+-- names and choices in capitals or not
+pub in-capitals : lineOf (ascii "HEADING 12 Milking 40") ≡ record { said = Record; entry = entry 2 (12 ∷ 1 ∷ 40 ∷ []) }
+unfolding lineOf kindOf rowOfLine kindTable namedFrom valuesFrom valueAt leadingOf nthWord sameText lowered amountOf numberFrom decimalsTable table
+    chosenFrom choiceTable nthPart indexOf indexAfter
 in-capitals = refl
 
-pub by-number : lineOf (ascii "3 31 30000 650") ≡ record { said = Record; entry = entry 3 (31 ∷ 30000 ∷ 650 ∷ []) }
-unfolding lineOf kindOf rowOfLine kindTable namedFrom valuesFrom leadingOf nthWord sameText lowered amountOf numberFrom decimalsTable nthPart indexOf indexAfter
+-- always in the unit that people say
+pub by-number : lineOf (ascii "3 31 340 6.5") ≡ record { said = Record; entry = entry 3 (31 ∷ 34000 ∷ 650 ∷ []) }
+unfolding lineOf kindOf rowOfLine kindTable namedFrom valuesFrom valueAt leadingOf nthWord sameText lowered amountOf numberFrom decimalsTable table
+    chosenFrom choiceTable nthPart indexOf indexAfter
 by-number = refl
 
-pub with-points : lineOf (ascii "enteric 31 300.00 6.5") ≡ record { said = Record; entry = entry 3 (31 ∷ 30000 ∷ 650 ∷ []) }
-unfolding lineOf kindOf rowOfLine kindTable namedFrom valuesFrom leadingOf nthWord sameText lowered amountOf numberFrom decimalsTable nthPart indexOf indexAfter
+pub with-points : lineOf (ascii "enteric 31 340.00 6.50") ≡ record { said = Record; entry = entry 3 (31 ∷ 34000 ∷ 650 ∷ []) }
+unfolding lineOf kindOf rowOfLine kindTable namedFrom valuesFrom valueAt leadingOf nthWord sameText lowered amountOf numberFrom decimalsTable table
+    chosenFrom choiceTable nthPart indexOf indexAfter
 with-points = refl
 
-pub close-alone : lineOf (ascii "close") ≡ record { said = Record; entry = entry 8 [] }
-unfolding lineOf kindOf rowOfLine kindTable namedFrom valuesFrom leadingOf nthWord sameText lowered amountOf numberFrom decimalsTable nthPart indexOf indexAfter
+pub close-alone : lineOf (ascii "close") ≡ record { said = Record; entry = entry 8 ([]) }
+unfolding lineOf kindOf rowOfLine kindTable namedFrom valuesFrom valueAt leadingOf nthWord sameText lowered amountOf numberFrom decimalsTable table
+    chosenFrom choiceTable nthPart indexOf indexAfter
 close-alone = refl
 
--- the area in hundredths of a hectare, or in hectares
-pub tillage : lineOf (ascii "tillage 1 2 3 10 5000") ≡ record { said = Record; entry = entry 9 (1 ∷ 2 ∷ 3 ∷ 10 ∷ 5000 ∷ []) }
-unfolding lineOf kindOf rowOfLine kindTable namedFrom valuesFrom leadingOf nthWord sameText lowered amountOf numberFrom decimalsTable nthPart indexOf indexAfter
+pub tillage : lineOf (ascii "tillage 5 medium intensive-to-no 10 50") ≡ record { said = Record; entry = entry 9 (5 ∷ 2 ∷ 3 ∷ 10 ∷ 5000 ∷ []) }
+unfolding lineOf kindOf rowOfLine kindTable namedFrom valuesFrom valueAt leadingOf nthWord sameText lowered amountOf numberFrom decimalsTable table
+    chosenFrom choiceTable nthPart indexOf indexAfter
 tillage = refl
 
-pub by-hectares : lineOf (ascii "Tillage 1 2 3 10 50.00") ≡ record { said = Record; entry = entry 9 (1 ∷ 2 ∷ 3 ∷ 10 ∷ 5000 ∷ []) }
-unfolding lineOf kindOf rowOfLine kindTable namedFrom valuesFrom leadingOf nthWord sameText lowered amountOf numberFrom decimalsTable nthPart indexOf indexAfter
-by-hectares = refl
-
--- half of the year's intake, in hundredths of a per cent or in per cent
-pub grazing : lineOf (ascii "grazing 3 1 600 5000") ≡ record { said = Record; entry = entry 10 (3 ∷ 1 ∷ 600 ∷ 5000 ∷ []) }
-unfolding lineOf kindOf rowOfLine kindTable namedFrom valuesFrom leadingOf nthWord sameText lowered amountOf numberFrom decimalsTable nthPart indexOf indexAfter
+-- half of the year's intake
+pub grazing : lineOf (ascii "grazing Ontario cows 600 50.00") ≡ record { said = Record; entry = entry 10 (3 ∷ 1 ∷ 600 ∷ 5000 ∷ []) }
+unfolding lineOf kindOf rowOfLine kindTable namedFrom valuesFrom valueAt leadingOf nthWord sameText lowered amountOf numberFrom decimalsTable table
+    chosenFrom choiceTable nthPart indexOf indexAfter
 grazing = refl
-
-pub by-percent : lineOf (ascii "10 3 1 600 50.00") ≡ record { said = Record; entry = entry 10 (3 ∷ 1 ∷ 600 ∷ 5000 ∷ []) }
-unfolding lineOf kindOf rowOfLine kindTable namedFrom valuesFrom leadingOf nthWord sameText lowered amountOf numberFrom decimalsTable nthPart indexOf indexAfter
-by-percent = refl
 
 -- a farm record of version 1, and with four values one of version 2
 pub farm-set : lineOf (ascii "farm 7 2010 1") ≡ record { said = Record; entry = entry 1 (7 ∷ 2010 ∷ 1 ∷ []) }
-unfolding lineOf kindOf rowOfLine kindTable namedFrom valuesFrom leadingOf nthWord sameText lowered amountOf numberFrom decimalsTable nthPart indexOf indexAfter
+unfolding lineOf kindOf rowOfLine kindTable namedFrom valuesFrom valueAt leadingOf nthWord sameText lowered amountOf numberFrom decimalsTable table
+    chosenFrom choiceTable nthPart indexOf indexAfter
 farm-set = refl
 
 pub farm-factors : lineOf (ascii "farm 7 2010 21 310") ≡ record { said = Record; entry = entry 1 (7 ∷ 2010 ∷ 21 ∷ 310 ∷ []) }
-unfolding lineOf kindOf rowOfLine kindTable namedFrom valuesFrom leadingOf nthWord sameText lowered amountOf numberFrom decimalsTable nthPart indexOf indexAfter
+unfolding lineOf kindOf rowOfLine kindTable namedFrom valuesFrom valueAt leadingOf nthWord sameText lowered amountOf numberFrom decimalsTable table
+    chosenFrom choiceTable nthPart indexOf indexAfter
 farm-factors = refl
+
+-- a word after the last field is counted and not read
+pub word-too-many : lineOf (ascii "enteric 31 300 6.5 hay") ≡ record { said = Record; entry = entry 3 (31 ∷ 30000 ∷ 650 ∷ 0 ∷ []) }
+unfolding lineOf kindOf rowOfLine kindTable namedFrom valuesFrom valueAt leadingOf nthWord sameText lowered amountOf numberFrom decimalsTable table
+    chosenFrom choiceTable nthPart indexOf indexAfter
+word-too-many = refl
 
 -- exactly four words make it version 2, numbers or not
 pub rows : (rowOfLine 1 (ascii "farm 7 2010 x 310") ≡ 11) × (rowOfLine 1 (ascii "farm 7 2010 x") ≡ 1)
@@ -65,15 +74,23 @@ unfolding rowOfLine leadingOf nthWord
 rows = (refl, refl, refl, refl)
 
 pub no-kind : lineOf (ascii "cow 1") ≡ noRecord (Wrong 0 1)
-unfolding lineOf kindOf rowOfLine kindTable namedFrom valuesFrom leadingOf nthWord sameText lowered amountOf numberFrom decimalsTable nthPart indexOf indexAfter
+unfolding lineOf kindOf rowOfLine kindTable namedFrom valuesFrom valueAt leadingOf nthWord sameText lowered amountOf numberFrom decimalsTable table
+    chosenFrom choiceTable nthPart indexOf indexAfter
 no-kind = refl
 
 pub no-number : lineOf (ascii "soil 1x") ≡ noRecord (Wrong 7 2)
-unfolding lineOf kindOf rowOfLine kindTable namedFrom valuesFrom leadingOf nthWord sameText lowered amountOf numberFrom decimalsTable nthPart indexOf indexAfter
+unfolding lineOf kindOf rowOfLine kindTable namedFrom valuesFrom valueAt leadingOf nthWord sameText lowered amountOf numberFrom decimalsTable table
+    chosenFrom choiceTable nthPart indexOf indexAfter
 no-number = refl
 
+pub no-choice : lineOf (ascii "grazing Bavaria cows 600 50") ≡ noRecord (Wrong 10 2)
+unfolding lineOf kindOf rowOfLine kindTable namedFrom valuesFrom valueAt leadingOf nthWord sameText lowered amountOf numberFrom decimalsTable table
+    chosenFrom choiceTable nthPart indexOf indexAfter
+no-choice = refl
+
 pub no-word : lineOf (ascii " ") ≡ noRecord Nothing
-unfolding lineOf kindOf rowOfLine kindTable namedFrom valuesFrom leadingOf nthWord sameText lowered amountOf numberFrom decimalsTable nthPart indexOf indexAfter
+unfolding lineOf kindOf rowOfLine kindTable namedFrom valuesFrom valueAt leadingOf nthWord sameText lowered amountOf numberFrom decimalsTable table
+    chosenFrom choiceTable nthPart indexOf indexAfter
 no-word = refl
 
 -- a close after five records, typed without its count

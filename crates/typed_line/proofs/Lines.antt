@@ -7,17 +7,17 @@ use mathlib.Core.Bool.{Bool, true, false, _&&_, not}
 use native.Mathlib.Omega.{arith}
 use native.Mathlib.Numerals.{add-one}
 use mathlib.Core.Logic.{⊎-elim}
-use borrow.Author.Tests.{eq-eqb, ne-eqb, lt-ltb, le-ltb, lt-leb, le-leb}
+use borrow.Author.Tests.{eq-eqb, ne-eqb, lt-ltb, le-ltb, lt-leb, le-leb, eqb-true}
 use lib.ListN.{length, set, replicate, length-append}
 use lib.Seq.{take-all, take-append-le, set-at, append-snoc}
 use lib.Dec.{eqb, ltb}
 use Rattle.base.specs.Choice.{pick}
-use Rattle.base.proofs.Tests.{lt-or-ge}
+use Rattle.base.proofs.Tests.{by-test, lt-or-ge}
 use Rattle.codec.specs.Table.{lastKind, lastRow}
 use Rattle.typed_words.specs.declared.Whole.{Whole}
 use Rattle.typed_words.specs.Words.{nthWord, sameText, lowered}
-use Rattle.typed_words.specs.Amounts.{amountOf}
-use Rattle.names.specs.Names.{kindName}
+use Rattle.typed_words.specs.Amounts.{aWhole, amountOf}
+use Rattle.names.specs.Names.{kindName, chosen, decimalsAt}
 use Rattle.book.specs.declared.State.{State}
 use Rattle.make_record.specs.declared.Written.{Written}
 use Rattle.make_record.specs.Write.{write, writtenOf, laid}
@@ -25,7 +25,7 @@ use Rattle.typed_line.specs.declared.Values.{Values}
 use Rattle.typed_line.specs.declared.Entry.{Entry}
 use Rattle.typed_line.specs.declared.Said.the-variants.{Nothing, Record, Wrong}
 use Rattle.typed_line.specs.Line.{namedFrom, kindOf, rowOfLine, Read, nothingMore, wrongAt, with, valueAt, valuesFrom, padded, listed, entry}
-use Rattle.typed_line.specs.Line.{noRecord, byKind, lineOf, completedOf, valuesIn, writeEntry}
+use Rattle.typed_line.specs.Line.{hasField, byChoice, noRecord, byKind, lineOf, completedOf, valuesIn, writeEntry}
 
 -- ---- a word among the names of the kinds
 
@@ -75,6 +75,25 @@ module _ (kind : ℕ) (line : List ℕ) where
     pub row-kind : eqb kind 1 && (not (eqb (length w) 0) && eqb (length x) 0) ≡ false → kind ≡ rowOfLine kind line
     unfolding rowOfLine
     row-kind t = rw (le-ltb _ _ h, ← e, ← f, t)
+
+-- ---- a value
+
+pub chosen-value : (k : ℕ) → record { good = not (eqb k 0); value = k } ≡ byChoice k
+chosen-value k = by-test (eqb k 0) (λ t. rw (t, eqb-true k 0 t) refl) (λ f. rw f refl)
+
+module _ (row i : ℕ) (w : List ℕ) where
+  pub not-read : hasField row i ≡ false → aWhole 0 ≡ valueAt row i w
+  unfolding valueAt
+  not-read f = rw f refl
+
+  module _ (has : hasField row i ≡ true) {x : Whole} (n : x ≡ amountOf (decimalsAt row i) w) where
+    pub number-value : x .good ≡ true → x ≡ valueAt row i w
+    unfolding valueAt
+    number-value g = rw (has, ← n, g) refl
+
+    pub choice-value : x .good ≡ false → {k : ℕ} → k ≡ chosen row i w → {y : Whole} → y ≡ byChoice k → y ≡ valueAt row i w
+    unfolding valueAt
+    choice-value g e f = rw (f, e, has, ← n, g) refl
 
 -- ---- the values, one after the other
 

@@ -2,6 +2,7 @@
 -- those of the source itself: Learnt is what a caller learns from a function's `ensures`, Asked what its `requires` ask.
 -- Assumes nothing.
 use Prim.Native.Nat.{ℕ}
+use mathlib.Core.Bool.{Bool}
 use mathlib.Core.Path.{_≡_, sym, _∙_}
 use contract.Lifetimes.{Lfts}
 use borrow.Fn.Kinds.{Dens, endedOf}
@@ -11,6 +12,8 @@ use Rattle.make_record.specs.declared.Written.{Written}
 use Rattle.typed_line.specs.declared.Line.{Line}
 use Rattle.typed_line.proofs.read_line.Kinds as line
 use Rattle.typed_line.proofs.read_line.Reads as line-contract
+use Rattle.typed_line.proofs.has_field.Kinds as field
+use Rattle.typed_line.proofs.has_field.Reads as field-contract
 use Rattle.typed_line.proofs.row_of_line.Kinds as row
 use Rattle.typed_line.proofs.row_of_line.Reads as row-contract
 use Rattle.typed_line.proofs.write_entry.Kinds as entry
@@ -39,3 +42,11 @@ one-row κs args f g e e′ p q = p ∙ sym q
 pub one-entry : (κs : Lfts 1) (args : Dens κs entry.ps) (f g : Written) (e e′ : AtExit (endedOf 1 entry.ps entry.r) κs)
     → entry-contract.Learnt κs args f e → entry-contract.Learnt κs args g e′ → (f ≡ g) × (now (e .1 .1 .0) ≡ now (e′ .1 .1 .0))
 one-entry κs args f g e e′ p q = (p .0 ∙ sym (q .0), p .1 .0 ∙ sym (q .1 .0))
+
+pub has-field-asks-nothing : (κs : Lfts 0) (args : Dens κs field.ps) → field-contract.Asked κs args
+has-field-asks-nothing κs args = tt
+
+-- Whether a row has a field.
+pub one-has-field : (κs : Lfts 0) (args : Dens κs field.ps) (f g : Bool) (e e′ : AtExit (endedOf 0 field.ps field.r) κs)
+    → field-contract.Learnt κs args f e → field-contract.Learnt κs args g e′ → f ≡ g
+one-has-field κs args f g e e′ p q = p ∙ sym q

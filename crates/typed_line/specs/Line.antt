@@ -6,11 +6,12 @@ use mathlib.Core.List.{List, [], _∷_, _++_}
 use lib.ListN.{length, take, replicate}
 use lib.Dec.{eqb, leb, ltb}
 use Rattle.base.specs.Choice.{pick}
-use Rattle.codec.specs.Table.{lastKind, lastRow}
+use Rattle.codec.specs.Table.{fields, lastKind, lastRow}
 use Rattle.typed_words.specs.declared.Whole.{Whole}
 use Rattle.typed_words.specs.Words.{nthWord, sameText, lowered}
-use Rattle.typed_words.specs.Amounts.{amountOf}
-use Rattle.names.specs.Names.{kindName, decimalsAt}
+use Rattle.typed_words.specs.Numbers.{noWhole}
+use Rattle.typed_words.specs.Amounts.{aWhole, amountOf}
+use Rattle.names.specs.Names.{kindName, chosen, decimalsAt}
 use Rattle.book.specs.declared.State.{State}
 use Rattle.make_record.specs.Write.{Write, write}
 use Rattle.typed_line.specs.declared.Values.{Values}
@@ -43,7 +44,7 @@ rowOfLine kind line = pick (ltb lastKind kind) 0 (pick (eqb kind 1 && fourWords 
 
 -- ---- the values
 
--- the values read, and the place of the first word that is no whole number, counted from 1; 0 where each is one
+-- the values read, and the place of the first word that is no value of its field, counted from 1; 0 where each is one
 pub record Read : Type 0 where
   pub values : List ℕ
   pub wrong : ℕ
@@ -57,9 +58,19 @@ wrongAt place = record { values = []; wrong = place }
 abbrev pub with : ℕ → Read → Read
 with v r = record { values = v ∷ r .values; wrong = r .wrong }
 
--- a word as the value of a row's field i, counted from 0: digits alone are the book's unit, a number with a point the unit that people say
-abbrev pub valueAt : ℕ → ℕ → List ℕ → Whole
-valueAt row i word = amountOf (decimalsAt row i) word
+-- the row has a field i, counted from 0
+abbrev pub hasField : ℕ → ℕ → Bool
+hasField row i = ltb i (length (fields row))
+
+-- the number k of a choice; 0 is none
+abbrev pub byChoice : ℕ → Whole
+byChoice k = pick (eqb k 0) noWhole (aWhole k)
+
+-- a word as the value of a row's field i: a number in the unit that people say, or the word of a choice. A word after the last field is counted
+-- and not read
+unfoldable pub valueAt : ℕ → ℕ → List ℕ → Whole
+valueAt row i word =
+    pick (hasField row i) (pick (amountOf (decimalsAt row i) word .good) (amountOf (decimalsAt row i) word) (byChoice (chosen row i word))) (aWhole 0)
 
 -- at most n values of a row, from field i on: the words behind the kind's
 unfoldable pub valuesFrom : ℕ → ℕ → ℕ → List ℕ → Read

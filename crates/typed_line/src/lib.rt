@@ -8,7 +8,8 @@ ghost use lib.ListN.{length};
 ghost use Rattle.codec.specs.Table.{lastKind};
 ghost use Rattle.typed_words.specs.Words.{lowered};
 ghost use Rattle.make_record.specs.Write.{writtenOf, laid};
-ghost use Rattle.typed_line.specs.Line.{namedFrom, kindOf, rowOfLine, valuesFrom, listed, noRecord, lineOf, completedOf, writeEntry};
+ghost use Rattle.typed_line.specs.Line.{namedFrom, kindOf, rowOfLine, hasField, byChoice, valueAt, valuesFrom, listed, noRecord, lineOf};
+ghost use Rattle.typed_line.specs.Line.{completedOf, writeEntry};
 
 // How many values are typed and the first 13 of them, zeros behind; the place of a word that is no number, counted from 1, or 0.
 struct Values {
@@ -80,6 +81,39 @@ pub fn row_of_line(kind: u64, line: &[u8]) -> u64
     kind
 }
 
+pub fn has_field(row: u64, i: usize) -> bool
+    ensures { λ r. ⌜ r ≡ hasField row i ⌝ }
+{
+    i < codec::kinds::values_of(row)
+}
+
+// The number of a choice; 0 is none.
+fn by_choice(k: u64) -> Whole
+    ensures { λ r. ⌜ r ≡ byChoice k ⌝ }
+{
+    Whole {
+        good: k != 0,
+        value: k,
+    }
+}
+
+// A word as the value of field i; one after the last field is not read.
+fn read_value(word: &[u8], row: u64, i: usize) -> Whole
+    ensures { λ r. ⌜ r ≡ valueAt row i (now (word .entry)) ⌝ }
+{
+    if !has_field(row, i) {
+        return Whole {
+            good: true,
+            value: 0,
+        };
+    }
+    let number = typed_words::read_amount(word, names::decimals(row, i));
+    if number.good {
+        return number;
+    }
+    by_choice(names::choice(word, row, i))
+}
+
 // The words behind the kind, as numbers: a line has no more than 512 words.
 fn read_values(line: &[u8], row: u64) -> Values
     ensures { λ r. ⌜ r ≡ listed (valuesFrom 512 0 row (now (line .entry))) ⌝ }
@@ -95,7 +129,7 @@ fn read_values(line: &[u8], row: u64) -> Values
                 wrong: 0,
             };
         }
-        let number = typed_words::read_amount(word, names::decimals(row, count));
+        let number = read_value(word, row, count);
         if !number.good {
             return Values {
                 values: values,

@@ -16,10 +16,10 @@ abbrev μ-loop : tie.MeasureT-loop
 
 again : tie.Need-loop-again Inv-loop μ-loop
 again c =
-    let turn = c .before .before .before .before .before in
+    let turn = c .before .before .before .before in
     let inv = turn .before .before .before .loop .inv in
     let good = not-false _ (c .before .if2 .left) in
-    let number = rw (c .before .before .before .before .decimals .ensures .0) at (c .before .before .before .read-amount .ensures) in
+    let number = c .before .before .before .read-value .ensures in
     ⊎-elim (λ p. read-in inv (omega arith) (turn .before .word .ensures) (turn .if1 .left) number good (p .0 .taken) (p .1))
     (λ p. read-past inv (omega arith) (turn .before .word .ensures) (turn .if1 .left) number good (p .0 .left) (p .1)) (c .if3 .came)
 
@@ -34,12 +34,9 @@ read-values-spec =
     (λ c κs. search needs)
     (λ c. read-end (c .before .before .before .loop .inv) (omega arith) (c .before .word .ensures) (c .if1 .taken))
     (λ c κs. search needs)
-    (λ c κs. search needs)
     (λ c. omega arith)
-    (λ c. read-wrong (c .before .before .before .before .before .before .before .loop .inv) (omega arith)
-    (c .before .before .before .before .before .word .ensures)
-    (c .before .before .before .before .if1 .left) (rw (c .before .before .before .decimals .ensures .0) at (c .before .before .read-amount .ensures))
-    (not-true _ (c .if2 .taken)))
+    (λ c. read-wrong (c .before .before .before .before .before .before .loop .inv) (omega arith) (c .before .before .before .before .word .ensures)
+    (c .before .before .before .if1 .left) (c .before .before .read-value .ensures) (not-true _ (c .if2 .taken)))
     (λ c. omega arith)
     (λ c. search needs)
     (λ c. omega arith)
