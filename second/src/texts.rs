@@ -2,11 +2,12 @@
 
 use crate::books::{after, in_either_version, right_close, right_record, wrong_record};
 use crate::dice::Dice;
+use crate::fields::spoken_of;
 use crate::kind;
 use crate::plain::{plain_rows, plain_values};
 use crate::record::{fields_with, values_of};
 use crate::state::{State, MOST_RECORDS};
-use crate::words::{kind_name, spoken_of};
+use crate::words::kind_name;
 
 const MARK: &[u8] = b"\xef\xbb\xbf";
 

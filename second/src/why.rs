@@ -5,13 +5,14 @@ use crate::books::{
 };
 use crate::damages::damaged;
 use crate::dice::Dice;
+use crate::fields::spoken_of;
 use crate::judge::judge;
 use crate::kind;
 use crate::plain::{plain_rows, plain_values};
 use crate::record::{fields_of, fields_with, length_of, record_of, values_of, LENGTHS};
 use crate::state::{State, CLOSED, MOST_RECORDS};
 use crate::warmings::{of_no_version, of_wrong_length};
-use crate::words::{kind_name, sentence, spoken_of};
+use crate::words::{kind_name, sentence};
 
 /// What is asked of the value, to be right.
 enum Asked {

@@ -5,7 +5,8 @@ use crate::plain::sample;
 use crate::state::{State, CLOSED, OPEN};
 use crate::texts::text;
 use crate::typed::{enter, Entered};
-use crate::words::{kind_name, spoken_of};
+use crate::fields::spoken_of;
+use crate::words::kind_name;
 
 const NONE_WRITTEN: &str = "not closed: 0 written, 0 refused, 0 not read, 0 without heading\n";
 

@@ -4,7 +4,8 @@ use super::typed::{record_typed, remarks, said, verdict};
 use crate::plain::{plain_rows, plain_values, sample};
 use crate::record::{fields_with, record_of};
 use crate::typed::enter;
-use crate::words::{kind_name, shown, spoken_of, KINDS};
+use crate::fields::spoken_of;
+use crate::words::{kind_name, shown, KINDS};
 
 #[test]
 fn the_sample_in_other_dresses() {
@@ -105,7 +106,7 @@ fn every_field_has_its_decimals() {
             (spoken_of(kind.into(), plain.len()), fields_with(kind, plain.len()));
         assert_eq!(spoken.len(), fields.len());
         for (place, (f, field)) in spoken.iter().zip(fields).enumerate() {
-            let expected = highest_expected(f.expected);
+            let expected = highest_expected(&f.expected());
             let scale = 10_u64.pow(f.decimals as u32);
             let high = u64::from(field.high);
             let with_point = format!("{}.{:02$}", high / scale, high % scale, f.decimals);
