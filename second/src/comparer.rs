@@ -8,6 +8,7 @@ mod cases;
 mod damages;
 mod desk;
 mod dice;
+mod doubts;
 mod feed;
 mod fields;
 mod figures;

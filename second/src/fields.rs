@@ -168,6 +168,14 @@ impl Spoken {
             unit => format!("{} {unit}", self.said(value)),
         }
     }
+
+    /// A value of the book as it is typed again: a choice by its word.
+    pub fn typed(&self, value: u128) -> String {
+        match self.choices {
+            [] => self.said(value),
+            words => words[value as usize - 1].to_string(),
+        }
+    }
 }
 
 /// So many of a unit's decimal parts, with a point before them.

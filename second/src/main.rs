@@ -6,6 +6,7 @@ mod cases;
 mod damages;
 mod desk;
 mod dice;
+mod doubts;
 mod feed;
 mod fields;
 mod figures;
@@ -225,7 +226,7 @@ fn say_why() -> Result<(), String> {
 
 fn some_doubtful(seed: &str, index: &str) -> Result<(), String> {
     let (seed, index) = (whole_number(seed)?, whole_number(index)?);
-    write_bytes(&why::doubtful(seed, index))
+    write_bytes(&doubts::doubtful(seed, index))
 }
 
 /// Writes what a program of sheets writes, says what it says, and ends as it ends.

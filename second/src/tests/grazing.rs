@@ -4,6 +4,7 @@ use super::typed::{record_typed, remarks, said};
 use super::{accepted, adds, all, no_group, refused_by, under, with_group};
 use crate::books::{after, right_close, wrong_record};
 use crate::dice::Dice;
+use crate::doubts::doubtful;
 use crate::feed::{feed, Answer};
 use crate::figures::Figures;
 use crate::grazing::factor;
@@ -15,7 +16,7 @@ use crate::record::record_of;
 use crate::salvage::tell;
 use crate::state::{Heading, State, CLOSED};
 use crate::states::right_state;
-use crate::why::{doubtful, why};
+use crate::why::why;
 
 /// Table 2.4.6 of source document 000, copied.
 const PRINT: &str = "Atl Prov.\t1.90\t1.34\t1.16

@@ -5,6 +5,7 @@ use super::{accepted, all, refused_by, under, COW};
 use crate::books::{after, right_close};
 use crate::cases;
 use crate::damages;
+use crate::doubts::doubtful;
 use crate::feed::Answer;
 use crate::figures::Figures;
 use crate::kind;
@@ -20,7 +21,7 @@ use crate::trial::{hex, Case};
 use crate::typed::enter;
 use crate::warming::{factors, Factors, NONE, SET_1, SET_2};
 use crate::warmings::{of_no_version, of_wrong_length, with_farm};
-use crate::why::{doubtful, why};
+use crate::why::why;
 use crate::writer::write;
 use std::collections::BTreeSet;
 
