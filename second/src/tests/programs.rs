@@ -4,10 +4,10 @@ use crate::plain::sample;
 use crate::programs::{listed, retyped};
 
 const SAMPLE_TYPED: &str = "farm 7 2010 1
-heading 12 1 40
-enteric 31 30000 650
-energy 1 125 70000
-enteric 28 30000 650
+heading 12 milking 40
+enteric 31 300.00 6.50
+energy 1 12.5 70000
+enteric 28 300.00 6.50
 close 5
 ";
 
