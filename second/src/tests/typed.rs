@@ -3,10 +3,13 @@
 use crate::books::after;
 use crate::fields::spoken_of;
 use crate::plain::sample;
+use crate::programs::retyped;
 use crate::state::{State, CLOSED, OPEN};
 use crate::texts::text;
 use crate::typed::{enter, Entered};
 use crate::words::kind_name;
+use crate::writes::records_of;
+use std::collections::BTreeSet;
 
 /// A farm record and a heading of milking cows, in lines 1 and 2.
 pub const MILKING: &str = "farm 7 2010 1\nheading 12 milking 40\n";
@@ -65,6 +68,33 @@ fn the_sample() {
         "group 12 milking, 40 head: enteric 59 days of 365; CH4 826.954 kg, 20.7 kg a head\n\
         closed: 6 written, 0 refused, 0 not read, 0 without heading, 0 unusual\n";
     assert_eq!(entered.said, wanted);
+}
+
+/// A record of every kind, a whole year in each group, nothing unusual.
+#[test]
+fn the_farm() {
+    let entered = enter(include_bytes!("../../../samples/farm.txt"));
+    assert!(entered.right);
+    let kinds: BTreeSet<u8> = records_of(&entered.book).iter().map(|record| record[3]).collect();
+    assert_eq!(kinds, (1..=10).collect());
+    let (groups, rest): (Vec<&str>, Vec<&str>) =
+        entered.said.lines().partition(|line| line.starts_with("group "));
+    assert_eq!(rest, ["closed: 27 written, 0 refused, 0 not read, 0 without heading, 0 unusual"]);
+    // Of the milking cows: 38000 x 650 x 60 x 212 / 55650 is 5645714.29, 36500 x 650 x 60 x 153 / 55650 is 3913665.77.
+    let milking = "group 10 milking, 60 head: enteric 365 days, cattle 365 days; CH4 9559.380 kg, 159.3 kg a head; N2O ";
+    assert!(groups[0].starts_with(milking), "{}", groups[0]);
+    for (group, words) in groups.iter().zip([
+        "group 10 milking, 60 head: enteric 365 days, cattle 365 days; CH4 ",
+        "group 20 dry, 10 head: enteric 365 days, cattle 365 days; CH4 ",
+        "group 30 heifer, 25 head: enteric 365 days, cattle 365 days; CH4 ",
+        "group 40 heifer, 18 head: enteric 365 days, cattle 365 days; CH4 ",
+        "group 50 pig, 120 head: pig 365 days; CH4 ",
+    ]) {
+        assert!(group.starts_with(words), "{group}");
+    }
+    assert_eq!(groups.len(), 5);
+    let again = retyped(&entered.book).printed;
+    assert_eq!(enter(again.as_bytes()).book, entered.book);
 }
 
 #[test]
