@@ -73,8 +73,10 @@ pub fn doubtful(seed: u64, index: u64) -> Vec<u8> {
     let count = dice.between(1, 30);
     match index % 20 {
         0 => {
+            // Now and then one byte alone is missing.
             let mut book = closed_run(dice, &start, count);
-            book.truncate(dice.below(book.len() as u64) as usize);
+            let anywhere = dice.below(book.len() as u64) as usize;
+            book.truncate(if dice.one_in(4) { book.len() - 1 } else { anywhere });
             book
         }
         1 => closed_run(dice, &start, count),

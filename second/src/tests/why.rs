@@ -261,6 +261,7 @@ fn books_by_chance_come_to_everything() {
         "the sum of the volatilised and leached parts is 1.",
         "the sum of fractions with this record is 1",
         "more bytes\n",
+        "needs 1 more byte\n",
         "; bytes stand after its close, from byte ",
     ] {
         assert!(said.contains(words), "{words}");
