@@ -14,9 +14,9 @@ use Rattle.base.proofs.Tests.{by-test}
 use Rattle.typed_words.specs.Amounts.{isDigit, aWhole, amountOf, allDigits, valueAfter, Writes}
 use Rattle.typed_words.proofs.TypedExact.{all-more, exact-read}
 use Rattle.printing.specs.Decimal.{digit, decimal, lastDigits, withoutLast, pointed}
-use Rattle.printing.proofs.Digits.{decimal-small, decimal-more, length-small, length-more, amount-fits}
+use Rattle.printing.proofs.Digits.{decimal-small, decimal-more, amount-fits}
 use Rattle.printing.proofs.Points.{last-length}
-use Rattle.printing.proofs.PointedLength.{pointed-length}
+use Rattle.printing.proofs.PointedLength.{decimal-some, pointed-length}
 use Rattle.codec.specs.Table.{fields, fieldAt}
 use Rattle.codec.proofs.EachKind.{no-fields}
 use Rattle.names.specs.Names.{noRow, isChoice, choiceWord, chosen, decimalsAt}
@@ -79,12 +79,6 @@ cut-digits (suc d) n =
     rw (← append-assoc (decimal (withoutLast d (n / 10))) (lastDigits d (n / 10)) (digit (n % 10) ∷ []))
     (more (decimal (withoutLast d (n / 10)) ++ lastDigits d (n / 10)) n (n / 10) refl (cut-digits d (n / 10)))
 
-some-digits : (n : ℕ) → 1 ≤ length (decimal n)
-some-digits n =
-    by-test (ltb n 10)
-    (λ t. omega (arith, length-small n (ltb-true n 10 t)))
-    (λ f. omega (arith, length-more n (ltb-false n 10 f)))
-
 abbrev Form : ℕ → ℕ → Type 0
 Form d n =
     ((pointed d n ≡ decimal (withoutLast d n)) × (lastDigits d n ≡ []))
@@ -106,7 +100,7 @@ writes d n =
     record {
       whole = decimal (withoutLast d n);
       places = lastDigits d n;
-      some = some-digits (withoutLast d n);
+      some = decimal-some (withoutLast d n);
       most = omega (arith, long);
       digits = g .all;
       form = form d n;

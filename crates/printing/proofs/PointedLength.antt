@@ -1,9 +1,8 @@
--- How long a number with decimals is: at most one byte more than its digits are, or than d + 1.
+-- How long a number is: it has a digit, and with d decimals at most one byte more than its digits are, or than d + 1.
 -- Assumes nothing.
-use Prim.Native.Nat.{ℕ, zero, suc, _+_, _-_, _/_, _<_, _≤_}
+use Prim.Native.Nat.{ℕ, zero, suc, _+_, _/_, _<_, _≤_}
 use native.Mathlib.Omega.{arith}
-use mathlib.Core.Path.{_≡_, ap, _∙_}
-use mathlib.Core.List.{List, _∷_, _++_}
+use mathlib.Core.List.{_∷_}
 use lib.ListN.{length, length-append}
 use lib.Dec.{ltb}
 use borrow.Author.Tests.{ltb-true, ltb-false}
@@ -11,6 +10,12 @@ use Rattle.base.proofs.Tests.{by-test}
 use Rattle.printing.specs.Decimal.{decimal, lastDigits, withoutLast, pointed}
 use Rattle.printing.proofs.Digits.{length-small, length-more}
 use Rattle.printing.proofs.Points.{last-length}
+
+pub decimal-some : (n : ℕ) → 0 < length (decimal n)
+decimal-some n =
+    by-test (ltb n 10)
+    (λ t. omega (arith, length-small n (ltb-true n 10 t)))
+    (λ f. omega (arith, length-more n (ltb-false n 10 f)))
 
 -- one digit fewer, where there is more than one
 fewer : (n m : ℕ) → length (decimal n) ≤ suc m → 1 ≤ m → length (decimal (n / 10)) ≤ m

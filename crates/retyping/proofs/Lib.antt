@@ -1,6 +1,7 @@
 pub mod Words
 pub mod Decimals
 pub mod Tables
+pub mod Values
 pub mod Record
 pub mod SameBytes
 pub mod Steps
