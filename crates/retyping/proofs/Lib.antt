@@ -2,6 +2,7 @@ pub mod Words
 pub mod Decimals
 pub mod Tables
 pub mod Values
+pub mod Close
 pub mod Record
 pub mod SameBytes
 pub mod Steps
