@@ -16,7 +16,7 @@ use Rattle.names.specs.Names.{kindName, valueText}
 use Rattle.text_lines.specs.Lines.{has, kept, unmarked, isMarked}
 use Rattle.text_lines.proofs.Bytes.{before-all, has-behind}
 use Rattle.codec.specs.Table.{table, fields, rowKind, Of, isKind, lastKind, lastRow}
-use Rattle.base.proofs.Tests.{by-test, not-false}
+use Rattle.base.proofs.Tests.{and-false, by-test, not-false}
 use Rattle.account.specs.Judge.{WholeRecord, versionOf, kindByte, kindOf, valuesOf, judge}
 use Rattle.book.specs.declared.State.{State}
 use Rattle.book.specs.State.{holding}
@@ -171,10 +171,6 @@ module _ (k : ℕ) (v : List ℕ) (least : 1 ≤ k) (most : k ≤ lastRow) (coun
       not-marked [] s p h = absurd (omega arith)
       not-marked (b ∷ w) s p h = let e : b ≡ 239 → ⊥ = λ q. omega (arith, p .0 .1) in rw (ne-eqb b 239 e)
 
-      and-false : (b : Bool) → (b && false) ≡ false
-      and-false true = refl
-      and-false false = refl
-
   -- the values of the entry, and its own count
   entry-values : (j : ℕ) → valuesIn (entry j v) ≡ v
   entry-values j =
@@ -184,11 +180,7 @@ module _ (k : ℕ) (v : List ℕ) (least : 1 ≤ k) (most : k ≤ lastRow) (coun
   own-count : (j records : ℕ) → completedOf (entry j v) records ≡ entry j v
   own-count j records =
       let n : length v ≡ 0 → ⊥ = λ q. omega (arith, fields-some k least most) in
-      sym (entry-kept (entry j v) records (rw (ne-eqb _ _ n) (false-right (eqb j 8))))
-    where
-      false-right : (b : Bool) → (b && false) ≡ false
-      false-right true = refl
-      false-right false = refl
+      sym (entry-kept (entry j v) records (rw (ne-eqb _ _ n) (and-false (eqb j 8))))
 
   pub written : (j : ℕ) (s : State) (room : ℕ) → writeEntry s (entry j v) room ≡ write s j v room
   written j s room = rw (own-count j (s .account .records), entry-values j)

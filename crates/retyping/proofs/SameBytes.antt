@@ -2,10 +2,10 @@
 -- Assumes nothing.
 use Prim.Native.Nat.{ℕ}
 use mathlib.Core.Path.{_≡_, refl, ap, _∙_}
-use mathlib.Core.Bool.{Bool, true, false, _&&_}
 use mathlib.Core.List.{List, [], _∷_, _++_, map, append-assoc}
 use lib.Dec.{eqb}
 use Rattle.base.specs.Choice.{oneMore}
+use Rattle.base.proofs.Tests.{and-false}
 use Rattle.bytes.specs.Bytes.{indexOf}
 use Rattle.text_lines.specs.Lines.{kept, linesOf, unmarked}
 use Rattle.text_lines.specs.Parts.{Numbered, numbered}
@@ -44,11 +44,7 @@ from t n text = typedBy t (numbered n (map kept (linesOf text)))
 -- behind the last line feed there is an empty line, which says nothing
 nothing-left : (t : Typist) (n : ℕ) → from t n [] ≡ record { typist = t; turns = record { typist = t; fate = Nothing; bytes = [] } ∷ [] }
 unfolding linesOf numbered typedBy turn lineOf nthWord leadingOf unmarked indexOf
-nothing-left t n = rw (no-mark (eqb n 1))
-  where
-    no-mark : (b : Bool) → (b && false) ≡ false
-    no-mark true = refl
-    no-mark false = refl
+nothing-left t n = rw (and-false (eqb n 1))
 
 -- x is what becomes of the first line
 line-then : (t : Typist) (n : ℕ) (line rest : List ℕ) (x : Turn) → linesOf (line ++ (10 ∷ rest)) ≡ line ∷ linesOf rest

@@ -43,7 +43,7 @@ fn row_at(bytes: &[u8]) -> u64
     row as u64
 }
 
-// The values of the row's fields, each as a person types it, with a blank before it. A word of a choice has 20 bytes at most, as a number has.
+// The values of a row, each as a person types it, with a blank before it: at most 21 bytes a value.
 fn put_values(out: &mut [u8], at: usize, row: u64, values: &[u64]) -> usize
     requires { ⌜ Of row (now values) ⌝ }
     requires { ⌜ firstBad (fields row) (now values) 0 ≡ 0 ⌝ }
