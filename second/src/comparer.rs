@@ -1,4 +1,5 @@
-//! Document 02, W9 and W14: what differs between two books, once more, from the written decision alone; and pairs of books by chance, a book and an edited copy.
+//! Document 02, W9 and W14: what differs between two books, once more, from the written decision alone; and pairs of books by chance, a book and an
+//! edited copy.
 //! A program of its own, on the second program's reader.
 #![allow(dead_code)]
 
@@ -8,7 +9,9 @@ mod cases;
 mod damages;
 mod desk;
 mod dice;
+mod doubts;
 mod feed;
+mod fields;
 mod figures;
 mod grazing;
 mod grazings;
@@ -30,6 +33,7 @@ mod tillage;
 mod tillages;
 mod trial;
 mod typed;
+mod usual;
 mod warming;
 mod warmings;
 mod why;

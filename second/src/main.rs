@@ -6,7 +6,9 @@ mod cases;
 mod damages;
 mod desk;
 mod dice;
+mod doubts;
 mod feed;
+mod fields;
 mod figures;
 mod grazing;
 mod grazings;
@@ -29,6 +31,7 @@ mod tillage;
 mod tillages;
 mod trial;
 mod typed;
+mod usual;
 mod warming;
 mod warmings;
 mod why;
@@ -223,7 +226,7 @@ fn say_why() -> Result<(), String> {
 
 fn some_doubtful(seed: &str, index: &str) -> Result<(), String> {
     let (seed, index) = (whole_number(seed)?, whole_number(index)?);
-    write_bytes(&why::doubtful(seed, index))
+    write_bytes(&doubts::doubtful(seed, index))
 }
 
 /// Writes what a program of sheets writes, says what it says, and ends as it ends.

@@ -4,6 +4,7 @@ use crate::books::closed_run;
 use crate::desk::{long_book, many_groups, some_book};
 use crate::dice::Dice;
 use crate::feed::{feed, Answer};
+use crate::fields::spoken_of;
 use crate::lister::list;
 use crate::record::{number, values_of};
 use crate::state::{State, LARGE};
@@ -89,11 +90,12 @@ fn first_record(bytes: &[u8]) -> &[u8] {
     &bytes[..size.min(bytes.len())]
 }
 
-/// The kind's name and its values in the book's units.
+/// The kind's name and its values as people say them.
 fn typed_line(record: &[u8]) -> String {
-    let mut line = kind_name(u64::from(record[3])).to_string();
-    for value in values_of(record) {
-        line += &format!(" {value}");
+    let (kind, values) = (u64::from(record[3]), values_of(record));
+    let mut line = kind_name(kind).to_string();
+    for (field, &value) in spoken_of(kind, values.len()).iter().zip(&values) {
+        line += &format!(" {}", field.typed(value));
     }
     line + "\n"
 }

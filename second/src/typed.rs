@@ -1,15 +1,13 @@
 //! The typed book: a text's lines one after the other, the bytes that they write and what is said of them.
 
+mod line;
+mod remarks;
+
 use crate::kind;
-use crate::state::{Heading, Refusal, State, CLOSED, OPEN};
-use crate::words::{class_name, kind_name, names_of, sentence, shown, spoken_of, KINDS};
-use crate::writer::write;
-
-/// The bytes that a line may have before its comment.
-const LONGEST: usize = 1_023;
-
-/// The most messages on lines that are shown.
-const MOST_SHOWN: usize = 20;
+use crate::state::{Refusal, State, CLOSED, OPEN};
+use crate::writer::{write, Wrote};
+use line::{read, Reading, Typed};
+use remarks::{group_text, refusal_text, Remarks};
 
 /// The byte order mark that some editors put before a text.
 const MARK: &[u8] = b"\xef\xbb\xbf";
@@ -17,7 +15,7 @@ const MARK: &[u8] = b"\xef\xbb\xbf";
 /// Room for any record.
 const ROOM: usize = 64;
 
-/// What a whole text gives: the book's bytes, what is said, and whether all was well.
+/// What a whole text gives: the book's bytes, what is said, and whether the book is closed.
 pub struct Entered {
     pub book: Vec<u8>,
     pub said: String,
@@ -34,85 +32,18 @@ pub fn enter(text: &[u8]) -> Entered {
     clerk.end()
 }
 
-/// A line that has a word.
-enum Reading<'a> {
-    NotRead(u64, String),
-    Read(Typed<'a>),
+/// Why the heading is lost.
+#[derive(Clone, Copy)]
+enum Lost {
+    Heading,
+    NotRead,
+    Refused,
 }
 
-/// A line's kind, its values, and the words that they were typed as.
-struct Typed<'a> {
-    kind: u64,
-    values: Vec<u64>,
-    words: Vec<&'a [u8]>,
-}
-
-/// Reads a line; none where it has no word. A line that is too long is not read, whatever it holds. A kind that can't be told is 0, which is none of the book's.
-fn read(line: &[u8]) -> Option<Reading<'_>> {
-    let line = line.split(|&byte| byte == b'#').next().unwrap_or(line);
-    let blank = |byte: &u8| [b' ', b'\t', b'\r'].contains(byte);
-    if line.len() > LONGEST {
-        let why = format!("the line is too long: at most {LONGEST} bytes before its #");
-        return Some(Reading::NotRead(0, why));
-    }
-    let mut words = line.split(blank).filter(|word| !word.is_empty());
-    let first = words.next()?;
-    let Some(kind) = kind_of(first) else {
-        let names = KINDS.join(", ");
-        let why =
-            format!("\"{}\" is no kind of record; expected {names} or its number", shown(first));
-        return Some(Reading::NotRead(0, why));
-    };
-    Some(read_values(kind, words.collect()))
-}
-
-/// A farm line's count of words says which version it is.
-fn read_values(kind: u64, words: Vec<&[u8]>) -> Reading<'_> {
-    let fields = spoken_of(kind, words.len());
-    let mut values = Vec::new();
-    for (place, word) in words.iter().enumerate() {
-        let field = fields.get(place);
-        let decimals = field.map_or(0, |f| f.decimals);
-        match number_of(word, decimals) {
-            Some(value) => values.push(value),
-            None => {
-                let (kind_said, word) = (kind_name(kind), shown(word));
-                let whole = if decimals == 0 { "whole " } else { "" };
-                let (name, expected) = field.map_or_else(Default::default, |f| {
-                    (format!(", {}", f.name), format!("; expected {}", f.expected))
-                });
-                let why = format!("{kind_said}{name}: \"{word}\" is no {whole}number{expected}");
-                return Reading::NotRead(kind, why);
-            }
-        }
-    }
-    Reading::Read(Typed { kind, values, words })
-}
-
-/// A kind's name, capitals or not, or a whole number.
-fn kind_of(word: &[u8]) -> Option<u64> {
-    let named = (1..).zip(KINDS).find(|(_, name)| name.as_bytes().eq_ignore_ascii_case(word));
-    named.map(|(kind, _)| kind).or_else(|| whole(word))
-}
-
-/// Digits alone; a number too big for anything is the largest there is.
-fn whole(word: &[u8]) -> Option<u64> {
-    let add = |n: u64, digit: &u8| n.saturating_mul(10).saturating_add(u64::from(digit - b'0'));
-    let all_digits = !word.is_empty() && word.iter().all(u8::is_ascii_digit);
-    all_digits.then(|| word.iter().fold(0, add))
-}
-
-/// A whole number in the book's unit, or one with a point in the unit that people say, as digits of the book's unit.
-fn number_of(word: &[u8], decimals: usize) -> Option<u64> {
-    let Some(point) = word.iter().position(|&byte| byte == b'.') else {
-        return whole(word);
-    };
-    let (front, behind) = (&word[..point], &word[point + 1..]);
-    if front.is_empty() || behind.is_empty() || behind.len() > decimals {
-        return None;
-    }
-    let zeros = vec![b'0'; decimals - behind.len()];
-    whole(&[front, behind, &zeros].concat())
+/// A right close that is written if no line comes after it.
+struct Waiting {
+    number: usize,
+    wrote: Wrote,
 }
 
 /// The book as it grows, and what is to be remembered of the lines before.
@@ -121,10 +52,14 @@ struct Clerk {
     state: State,
     year: u64,
     book: Vec<u8>,
-    said: String,
-    messages: usize,
+    remarks: Remarks,
     first_failed: Option<usize>,
-    lost_by: Option<usize>,
+    lost_by: Option<(usize, Lost)>,
+    /// The first and the last line of a run without heading that goes on.
+    run: Option<(usize, usize)>,
+    waiting: Option<Waiting>,
+    has_word: bool,
+    has_close: bool,
     written: usize,
     refused: usize,
     not_read: usize,
@@ -134,150 +69,153 @@ struct Clerk {
 impl Clerk {
     /// One line, by the first of the rules that applies.
     fn line(&mut self, number: usize, line: &[u8]) {
-        match read(line) {
-            None => (),
-            Some(Reading::NotRead(kind, why)) => self.note_not_read(number, kind, &why),
-            Some(Reading::Read(typed)) => {
-                match (kind::of(typed.kind), self.first_failed, self.lost_by) {
-                    (Some(kind::CLOSE), Some(failed), _) if self.state.stage == OPEN => {
-                        let why = "failed, and a book with a failed line is not closed";
-                        self.tell(number, &format!("close withheld: line {failed} {why}"));
-                    }
-                    (Some(kind), _, Some(lost_by)) if kind::of_group(kind) => {
-                        self.note_without_heading(number, lost_by)
-                    }
-                    _ => self.judge(number, typed),
-                }
+        let Some(reading) = read(line) else { return };
+        self.has_word = true;
+        self.has_close |= reading.kind() == Some(kind::CLOSE);
+        self.give_up_close(number);
+        match reading {
+            Reading::Read(typed) if self.is_without_heading(&typed) => self.run_goes_on(number),
+            Reading::Read(typed) => {
+                self.end_run();
+                self.judge(number, &typed);
+            }
+            Reading::NotRead { kind, why } => {
+                self.end_run();
+                self.note_not_read(number, kind, &why);
             }
         }
     }
 
-    /// A message on a line, shown where there have not been too many.
-    fn tell(&mut self, number: usize, words: &str) {
-        self.messages += 1;
-        if self.messages <= MOST_SHOWN {
-            self.said += &format!("line {number}: {words}\n");
+    /// A close that waits is too early where this line comes after it.
+    fn give_up_close(&mut self, number: usize) {
+        if let Some(Waiting { number: close, .. }) = self.waiting.take() {
+            self.fail(close, &format!("close too early: line {number} comes after it"));
         }
+    }
+
+    fn is_without_heading(&self, typed: &Typed) -> bool {
+        self.lost_by.is_some() && kind::of(typed.kind).is_some_and(kind::of_group)
+    }
+
+    fn run_goes_on(&mut self, number: usize) {
+        self.without_heading += 1;
+        let (first, _) = self.run.unwrap_or((number, number));
+        self.run = Some((first, number));
+    }
+
+    /// The one message on a run; the line that lost the heading has failed before it.
+    fn end_run(&mut self) {
+        let (Some((first, last)), Some((number, lost))) = (self.run.take(), self.lost_by) else {
+            return;
+        };
+        let lines = if first == last {
+            format!("line {first}")
+        } else {
+            format!("lines {first} to {last}")
+        };
+        let why = match lost {
+            Lost::Heading => format!("the heading in line {number} was not written"),
+            Lost::NotRead => format!("line {number}, which may have been a heading, was not read"),
+            Lost::Refused => format!("line {number}, which may have been a heading, was refused"),
+        };
+        self.remarks.tell(&format!("{lines}: without heading: {why}"));
     }
 
     fn fail(&mut self, number: usize, words: &str) {
         self.first_failed = self.first_failed.or(Some(number));
-        self.tell(number, words);
+        self.remarks.tell(&format!("line {number}: {words}"));
     }
 
     /// It may have been a heading, unless it is known to be of another kind of the book.
     fn note_not_read(&mut self, number: usize, kind: u64, why: &str) {
         self.not_read += 1;
-        if may_be_heading(kind) {
-            self.lost_by = Some(number);
+        match kind::of(kind) {
+            Some(kind::HEADING) => self.lost_by = Some((number, Lost::Heading)),
+            None => self.lost_by = Some((number, Lost::NotRead)),
+            _ => (),
         }
         self.fail(number, &format!("not read: {why}"));
     }
 
-    fn note_without_heading(&mut self, number: usize, lost_by: usize) {
-        self.without_heading += 1;
-        let why = format!("the heading in line {lost_by} was not written");
-        self.fail(number, &format!("without heading: {why}"));
-    }
-
-    /// Offers the line to the writer.
-    fn judge(&mut self, number: usize, mut typed: Typed) {
-        if kind::of(typed.kind) == Some(kind::CLOSE) && typed.values.is_empty() {
-            typed.values.push(self.state.records.into());
+    /// Offers the line to the writer, unless it is a close behind a failed line.
+    fn judge(&mut self, number: usize, typed: &Typed) {
+        let kind = kind::of(typed.kind);
+        if let (Some(kind::CLOSE), Some(failed), OPEN) = (kind, self.first_failed, self.state.stage)
+        {
+            let why = "failed, and a book with a failed line is not closed";
+            let words = format!("line {number}: close withheld: line {failed} {why}");
+            return self.remarks.tell(&words);
         }
-        match write(&self.state, typed.kind, &typed.values, ROOM) {
-            Ok(wrote) => {
-                self.note_written(&typed);
-                self.state = wrote.state;
-                self.book.extend(wrote.bytes);
+        let values = typed.offered(self.state.records);
+        match (write(&self.state, typed.kind, &values, ROOM), kind) {
+            (Ok(wrote), Some(kind::CLOSE)) => self.waiting = Some(Waiting { number, wrote }),
+            (Ok(wrote), Some(kind)) => {
+                self.note_written(number, kind, &values);
+                self.put(wrote);
             }
-            Err(refusal) => self.note_refused(number, &typed, refusal),
+            (Ok(_), None) => panic!("the writer writes kinds of the book alone"),
+            (Err(refusal), _) => self.note_refused(number, typed, refusal),
         }
     }
 
-    fn note_written(&mut self, typed: &Typed) {
-        self.written += 1;
-        match kind::of(typed.kind) {
-            Some(kind::FARM) => self.year = typed.values[1],
-            Some(kind::HEADING) => {
+    /// What is said of a line that is written.
+    fn note_written(&mut self, number: usize, kind: u8, values: &[u64]) {
+        match kind {
+            kind::FARM => self.year = values[1],
+            kind::HEADING => {
                 self.say_group();
                 self.lost_by = None;
             }
-            Some(kind::CLOSE) => self.say_group(),
-            _ => (),
+            _ => self.remarks.tell_unusual(number, kind, self.state.heading.class, values),
         }
+    }
+
+    fn put(&mut self, wrote: Wrote) {
+        self.written += 1;
+        self.state = wrote.state;
+        self.book.extend(wrote.bytes);
     }
 
     fn note_refused(&mut self, number: usize, typed: &Typed, refusal: Refusal) {
         self.refused += 1;
-        if kind::of(typed.kind) == Some(kind::HEADING) || refusal.code == 3 {
-            self.lost_by = Some(number);
+        if kind::of(typed.kind) == Some(kind::HEADING) {
+            self.lost_by = Some((number, Lost::Heading));
+        } else if refusal.code == 3 {
+            self.lost_by = Some((number, Lost::Refused));
         }
-        self.fail(number, &refusal_text(typed, refusal));
+        let words = refusal_text(&self.state, typed, refusal);
+        self.fail(number, &words);
     }
 
-    /// The group that ends here, where there is one: its days, with a word where they are not the year's.
+    /// The group that ends here, where there is one.
     fn say_group(&mut self) {
-        let Heading { group, class, head, days, .. } = self.state.heading;
-        if group == 0 {
-            return;
+        if self.state.heading.stands() {
+            self.remarks.say(&group_text(&self.state, self.year));
         }
-        let year = days_of(self.year);
-        let days_text = |(kind, days): (u8, u16)| {
-            let of = if days == year { String::new() } else { format!(" of {year}") };
-            format!("{} {days} days{of}", kind_name(kind.into()))
-        };
-        let kinds: Vec<String> =
-            kind::WITH_DAYS.zip(days).filter(|&(_, days)| days > 0).map(days_text).collect();
-        let kinds = if kinds.is_empty() { "no days".to_string() } else { kinds.join(", ") };
-        self.said += &format!("group {group} {}, {head} head: {kinds}\n", class_name(class));
     }
 
-    /// The end of the text: the last group of an open book, what was not shown, and the verdict.
+    /// The end of the text: what is still open, what was not shown, and the verdict.
     fn end(mut self) -> Entered {
-        if self.state.stage == OPEN {
-            self.say_group();
+        self.end_run();
+        self.say_group();
+        if let Some(Waiting { wrote, .. }) = self.waiting.take() {
+            self.put(wrote);
         }
-        if self.messages > MOST_SHOWN {
-            self.said += &format!("and {} more\n", self.messages - MOST_SHOWN);
+        self.remarks.tell_the_rest();
+        if self.has_word && !self.has_close {
+            self.remarks.say("no close: the text ends without one");
         }
         let closed = self.state.stage == CLOSED;
+        let verdict = self.verdict(if closed { "closed" } else { "not closed" });
+        self.remarks.say(&verdict);
+        Entered { book: self.book, said: self.remarks.said, right: closed }
+    }
+
+    fn verdict(&self, word: &str) -> String {
         let Clerk { written, refused, not_read, without_heading, .. } = self;
-        let word = if closed { "closed" } else { "not closed" };
-        self.said += &format!(
-            "{word}: {written} written, {refused} refused, {not_read} not read, {without_heading} without heading\n"
-        );
-        let right = closed && refused + not_read + without_heading == 0;
-        Entered { book: self.book, said: self.said, right }
-    }
-}
-
-/// Whether a line of this kind may have been meant as a heading: it is one, or none of the book's.
-fn may_be_heading(kind: u64) -> bool {
-    matches!(kind::of(kind), None | Some(kind::HEADING))
-}
-
-fn refusal_text(typed: &Typed, refusal: Refusal) -> String {
-    let fields = spoken_of(typed.kind, typed.values.len());
-    match refusal.code {
-        4 => format!("refused 4: a wrong count of values; expected {}", names_of(typed.kind)),
-        7 => {
-            let place = usize::from(refusal.field) - 1;
-            let (f, word) = (&fields[place], shown(typed.words[place]));
-            format!(
-                "refused 7 field {}: {}: \"{word}\" is out of its range; expected {}",
-                refusal.field, f.name, f.expected
-            )
-        }
-        code => format!("refused {code}: {}", sentence(code)),
-    }
-}
-
-fn days_of(year: u64) -> u16 {
-    let leap = year % 4 == 0 && (year % 100 != 0 || year % 400 == 0);
-    if leap {
-        366
-    } else {
-        365
+        let unusual = self.remarks.unusual;
+        let failed =
+            format!("{refused} refused, {not_read} not read, {without_heading} without heading");
+        format!("{word}: {written} written, {failed}, {unusual} unusual")
     }
 }

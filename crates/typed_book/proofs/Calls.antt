@@ -4,7 +4,7 @@ use Prim.Native.Nat.{ℕ, _≤_}
 use native.Mathlib.Omega.{arith}
 use mathlib.Core.Path.{_≡_, refl, ap, _∙_}
 use mathlib.Core.List.{List}
-use mathlib.Core.Bool.{true, false}
+use mathlib.Core.Bool.{Bool, true, false}
 use lib.ListN.{length, drop, length-append, length-drop}
 use Rattle.printing.specs.Said.{Said}
 use Rattle.printing.proofs.Sayings.{said-none}
@@ -15,19 +15,12 @@ use Rattle.typed_book.specs.declared.Typist.{Typist}
 use Rattle.typed_book.specs.declared.Typing.{Typing}
 use Rattle.typed_book.specs.declared.Entered.{Entered}
 use Rattle.typed_book.specs.declared.Lined.{Lined}
-use Rattle.typed_book.specs.Typist.{Turn, turn, enteredOf, laid}
-use Rattle.typed_book.specs.Remarks.{remarkText}
-use Rattle.typed_book.specs.Parts.{byTurn, lineBy, goesOn, hasEnded, inBuffer, byCutting, callOf, laidIn}
-
--- e and out′ are what the turn x gives; then x's remark is said
-line-done : (t : Typist) (n : ℕ) (xs : List ℕ) (x : Turn) (out : List ℕ) {out′ before after : List ℕ} {told : ℕ} {e : Entered} → e ≡ enteredOf x
-    → out′ ≡ laid x out
-    → Said before after 0 (remarkText (e .fate) t n xs) told
-    → (e .typist ≡ byTurn x t n xs .typist)
-    × ((e .written ≡ length (byTurn x t n xs .bytes)) × ((out′ ≡ laidIn (byTurn x t n xs .bytes) out) × Said before after 0
-    (byTurn x t n xs .remark) told))
-line-done t n xs x out p q s =
-    (ap (λ (y : Entered). y .typist) p, (ap (λ (y : Entered). y .written) p, (q, rw (ap (λ (y : Entered). y .fate) p) at s)))
+use Rattle.typed_line.specs.declared.Line.{Line}
+use Rattle.typed_line.specs.Line.{lineOf}
+use Rattle.typed_book.specs.Typist.{Turn, bySaid, turn, endTurn, enteredOf, laid}
+use Rattle.typed_book.specs.Remarks.{remarkText, endRemark}
+use Rattle.typed_book.proofs.Fates.{said-turn}
+use Rattle.typed_book.specs.Parts.{lineBy, endOf, goesOn, hasEnded, inBuffer, byCutting, callOf, laidIn}
 
 -- ---- a call over a part
 
@@ -74,14 +67,37 @@ module _ (g : Typing) (line part : List ℕ) (room : ℕ) {c : Cutting} (e : c �
       let p = rw is at q in
       rw (line-ended f) (rw (p .0, n), (refl, (p .1 .0, (l, (p .1 .1 .0, (p .1 .1 .1, h))))))
 
--- the line itself
-pub line-typed : (t : Typist) (n : ℕ) (xs : List ℕ) (room : ℕ) (out : List ℕ) {out′ before after : List ℕ} {told : ℕ} {e : Entered}
-    → e ≡ enteredOf (turn t n xs room)
-    → out′ ≡ laid (turn t n xs room) out → Said before after 0 (remarkText (e .fate) t n xs) told
-    → (e .typist ≡ lineBy t n xs room .typist)
-    × ((e .written ≡ length (lineBy t n xs room .bytes)) × ((out′ ≡ laidIn (lineBy t n xs room .bytes) out) × Said before after 0
-    (lineBy t n xs room .remark) told))
-line-typed t n xs room out p q s = line-done t n xs (turn t n xs room) out p q s
+-- ---- a line, and the end
+
+module _ (t : Typist) (n : ℕ) (xs : List ℕ) (room : ℕ) (out : List ℕ) {out′ before after : List ℕ} {told : ℕ} {e : Entered} {line : Line}
+    (is : line ≡ lineOf xs) where
+  pub line-typed : e ≡ enteredOf (bySaid (line .said) t n (line .entry) room) → out′ ≡ laid (bySaid (line .said) t n (line .entry) room) out
+      → Said before after 0 (remarkText (e .fate) t n (line .entry) xs) told
+      → (e .typist ≡ lineBy t n xs room .typist)
+      × ((e .written ≡ length (lineBy t n xs room .bytes))
+      × ((out′ ≡ laidIn (lineBy t n xs room .bytes) out) × Said before after 0 (lineBy t n xs room .remark) told))
+  line-typed p q s =
+      let x = turn t n xs room in
+      let same = said-turn t n xs room is in
+      let entered : e ≡ enteredOf x = p ∙ ap enteredOf same in (
+        ap (λ (y : Entered). y .typist) entered,
+        (
+          ap (λ (y : Entered). y .written) entered,
+          (
+            q ∙ ap (λ (y : Turn). laid y out) same,
+            rw (is, ap (λ (y : Entered). y .fate) entered) at s,
+          ),
+        ),
+      )
+
+pub end-typed : (good : Bool) (t : Typist) (out : List ℕ) {out′ before after : List ℕ} {told : ℕ} {e : Entered}
+    → e ≡ enteredOf (endTurn good t (length out)) → out′ ≡ laid (endTurn good t (length out)) out
+    → Said before after 0 (endRemark (e .fate) t) told
+    → (e .typist ≡ endOf good t (length out) .typist)
+    × ((e .written ≡ length (endOf good t (length out) .bytes))
+    × ((out′ ≡ laidIn (endOf good t (length out) .bytes) out) × Said before after 0 (endOf good t (length out) .remark) told))
+end-typed good t out p q s =
+    (ap (λ (y : Entered). y .typist) p, (ap (λ (y : Entered). y .written) p, (q, rw (ap (λ (y : Entered). y .fate) p) at s)))
 
 -- what is laid at a buffer's start fits it
 pub written-fits : (bytes out : List ℕ) {out′ : List ℕ} → out′ ≡ laidIn bytes out → length out′ ≡ length out → length bytes ≤ length out

@@ -9,11 +9,12 @@ use Rattle.base.specs.Choice.{pick}
 use Rattle.text_lines.specs.Lines.{most, firstCut, cuttingOf, unmarked}
 use Rattle.text_lines.specs.Parts.{Numbered, Cutter, Found, inHand, finishing, cutOnce, nextLine, cutPart, cutAll, together, allFound}
 use Rattle.text_lines.proofs.SameLines.{same-lines}
+use Rattle.codec.specs.Table.{recordMost}
 use Rattle.book.specs.declared.State.{State}
 use Rattle.typed_book.specs.declared.Typist.{Typist}
 use Rattle.typed_book.specs.Typist.{beginning}
 use Rattle.typed_book.specs.Text.{textLines, typedBy, bytesTyped}
-use Rattle.typed_book.specs.Parts.{lineBy, Output, behind, output, Calls, oneCall, andThen, callsIn, callsOver, withLast}
+use Rattle.typed_book.specs.Parts.{lineBy, endOf, Output, behind, output, whole, Calls, oneCall, andThen, callsIn, callsOver, withLast, withEnd}
 use Rattle.typed_book.proofs.Calls.{line-open, line-ended}
 
 -- what the lines of a found text do, and the cutter behind them
@@ -29,7 +30,7 @@ output-append : (xs ys : List Numbered) (t : Typist) → output t (xs ++ ys) ≡
 unfolding output
 output-append [] ys t = refl
 output-append (x ∷ xs) ys t =
-    let l = lineBy t (x .number) (unmarked (x .number) (x .bytes)) 28 in
+    let l = lineBy t (x .number) (unmarked (x .number) (x .bytes)) recordMost in
     ap (behind l) (output-append xs ys (l .typist)) ∙ simp append-assoc
 
 -- ---- a part
@@ -96,3 +97,18 @@ pub bytes-typed : (t : Typist) (ls : List Numbered) → output t ls .bytes ≡ b
 unfolding output typedBy bytesTyped
 bytes-typed t [] = refl
 bytes-typed t (l ∷ ls) = ap (λ (r : List ℕ). lineBy t (l .number) (unmarked (l .number) (l .bytes)) 28 .bytes ++ r) (bytes-typed _ ls)
+
+-- and so with the end of the text
+pub whole-in-parts : (line : List ℕ) → most ≤ length line → (s : State) (parts : List (List ℕ))
+    → withEnd (callsOver (beginning s) (record { line = line; cut = firstCut }) parts) ≡ whole (beginning s) (textLines (together parts))
+whole-in-parts line h s parts =
+    ap
+    (λ (o : Output).
+    let x = endOf true (o .typist) recordMost in
+    record { typist = x .typist; bytes = o .bytes ++ x .bytes; said = o .said ++ x .remark }) (typed-in-parts line h s parts)
+
+-- the typist after the lines
+pub typist-typed : (t : Typist) (ls : List Numbered) → output t ls .typist ≡ typedBy t ls .typist
+unfolding output typedBy
+typist-typed t [] = refl
+typist-typed t (l ∷ ls) = typist-typed _ ls

@@ -1,4 +1,4 @@
--- One answer: new, type_part, type_last, say_verdict and status ask nothing of their callers, and two answers that meet a contract are equal. The
+-- One answer: new, type_part, type_last, type_end, say_verdict and status ask nothing of their callers, and two answers that meet a contract are equal. The
 -- contracts are those of the source itself: Learnt is what a caller learns from a function's `ensures`, Asked what its `requires` ask.
 -- Assumes nothing.
 use Prim.Native.Nat.{ℕ}
@@ -15,6 +15,8 @@ use Rattle.typed_book.proofs.Typist.new.Kinds as beginning
 use Rattle.typed_book.proofs.Typist.new.Reads as beginning-contract
 use Rattle.typed_book.proofs.type_part.Kinds as part
 use Rattle.typed_book.proofs.type_part.Reads as part-contract
+use Rattle.typed_book.proofs.type_end.Kinds as end
+use Rattle.typed_book.proofs.type_end.Reads as end-contract
 use Rattle.typed_book.proofs.type_last.Kinds as last
 use Rattle.typed_book.proofs.type_last.Reads as last-contract
 use Rattle.typed_book.proofs.remarks.say_verdict.Kinds as verdict
@@ -74,3 +76,14 @@ one-part κs args f g e e′ p q = (
   p .1 .1 .1 .1 .0 ∙ sym (q .1 .1 .1 .1 .0),
   one-put (p .1 .1 .1 .1 .1 .0 .put) (q .1 .1 .1 .1 .1 .0 .put),
 )
+
+pub type-end-asks-nothing : (κs : Lfts 2) (args : Dens κs end.ps) → end-contract.Asked κs args
+type-end-asks-nothing κs args = tt
+
+-- Two ends: the typist, the counts, and both buffers at the end (the third and fourth parameters, out and remarks).
+pub one-end : (κs : Lfts 2) (args : Dens κs end.ps) (f g : Lined) (e e′ : AtExit (endedOf 2 end.ps end.r) κs)
+    → end-contract.Learnt κs args f e → end-contract.Learnt κs args g e′
+    → (f .typist ≡ g .typist) × (f .written ≡ g .written) × (now (e .1 .1 .0) ≡ now (e′ .1 .1 .0))
+    × ((f .told ≡ g .told) × (now (e .1 .1 .1 .0) ≡ now (e′ .1 .1 .1 .0)))
+one-end κs args f g e e′ p q =
+    (p .0 ∙ sym (q .0), p .1 .0 ∙ sym (q .1 .0), p .1 .1 .0 ∙ sym (q .1 .1 .0), one-put (p .1 .1 .1 .put) (q .1 .1 .1 .put))

@@ -3,3 +3,4 @@ pub mod Parts
 pub mod Remarks
 pub mod Text
 pub mod Typist
+pub mod Unusual

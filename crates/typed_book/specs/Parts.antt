@@ -1,5 +1,6 @@
 -- A typed text that arrives in parts: what one call over a part does. A call goes up to the end of a line, or of the part where no line ends in it.
 use Prim.Native.Nat.{ℕ, zero, suc}
+use mathlib.Core.Bool.{Bool, true}
 use mathlib.Core.List.{List, [], _∷_, _++_}
 use lib.ListN.{length, take, drop}
 use Rattle.base.specs.Choice.{pick}
@@ -8,10 +9,11 @@ use Rattle.text_lines.specs.declared.Cut.{Cut}
 use Rattle.text_lines.specs.declared.Cutting.{Cutting}
 use Rattle.text_lines.specs.Lines.{nextOf, cuttingOf, cutIn, unmarked}
 use Rattle.text_lines.specs.Parts.{Numbered, Cutter}
+use Rattle.typed_line.specs.Line.{lineOf}
 use Rattle.typed_book.specs.declared.Typist.{Typist}
 use Rattle.typed_book.specs.declared.Typing.{Typing}
-use Rattle.typed_book.specs.Typist.{Turn, turn}
-use Rattle.typed_book.specs.Remarks.{remarkText}
+use Rattle.typed_book.specs.Typist.{Turn, turn, endTurn}
+use Rattle.typed_book.specs.Remarks.{remarkText, endRemark}
 
 -- what a line does: the typist behind it, the bytes written and what is said
 pub record Line : Type 0 where
@@ -20,7 +22,7 @@ pub record Line : Type 0 where
   pub remark : List ℕ
 
 abbrev pub byTurn : Turn → Typist → ℕ → List ℕ → Line
-byTurn x t n xs = record { typist = x .typist; bytes = x .bytes; remark = remarkText (x .fate) t n xs }
+byTurn x t n xs = record { typist = x .typist; bytes = x .bytes; remark = remarkText (x .fate) t n (lineOf xs .entry) xs }
 
 -- line n with the text xs, for a buffer of room bytes
 abbrev pub lineBy : Typist → ℕ → List ℕ → ℕ → Line
@@ -57,6 +59,13 @@ callOf typing line part room =
 abbrev pub lastOf : Typing → List ℕ → ℕ → Line
 lastOf typing line room = lineBy (typing .typist) (typing .cut .number) (inBuffer line (typing .cut)) room
 
+-- and the close that waits is written, where all of the text was read
+abbrev pub byEnd : Turn → Typist → Line
+byEnd x t = record { typist = x .typist; bytes = x .bytes; remark = endRemark (x .fate) t }
+
+abbrev pub endOf : Bool → Typist → ℕ → Line
+endOf good t room = byEnd (endTurn good t room) t
+
 -- a buffer with the bytes at its start; those past them stay
 abbrev pub laidIn : List ℕ → List ℕ → List ℕ
 laidIn bytes out = bytes ++ drop (length bytes) out
@@ -87,7 +96,7 @@ pub record Calls : Type 0 where
 -- what one call over a part gives
 abbrev pub oneCall : Typist → Cutter → List ℕ → Calls
 oneCall t c part =
-    let r = callOf (record { typist = t; cut = c .cut }) (c .line) part 28 in
+    let r = callOf (record { typist = t; cut = c .cut }) (c .line) part recordMost in
     record {
       output = record { typist = r .typing .typist; bytes = r .bytes; said = r .remark };
       cutter = record { line = cutIn (c .line) (c .cut) part; cut = r .typing .cut };
@@ -115,8 +124,22 @@ callsOver t c (part ∷ parts) =
     let first = callsIn (suc (length part)) t c part in
     andThen first (callsOver (first .output .typist) (first .cutter) parts)
 
+-- and a whole text: its lines, then its end
+abbrev pub whole : Typist → List Numbered → Output
+whole t ls =
+    let o = output t ls in
+    let x = endOf true (o .typist) recordMost in
+    record { typist = x .typist; bytes = o .bytes ++ x .bytes; said = o .said ++ x .remark }
+
 -- at the end of the text the unfinished line is entered
 abbrev pub withLast : Calls → Output
 withLast c =
     let x = lastOf (record { typist = c .output .typist; cut = c .cutter .cut }) (c .cutter .line) recordMost in
     record { typist = x .typist; bytes = c .output .bytes ++ x .bytes; said = c .output .said ++ x .remark }
+
+-- and then its end comes
+abbrev pub withEnd : Calls → Output
+withEnd c =
+    let o = withLast c in
+    let x = endOf true (o .typist) recordMost in
+    record { typist = x .typist; bytes = o .bytes ++ x .bytes; said = o .said ++ x .remark }

@@ -1,6 +1,9 @@
 // A book typed line by line: what becomes of each line, and what the person who types is told.
-mod enter;
-pub mod remarks;
+mod enter; // enter.rt: what becomes of a line, and of the end
+mod lines; // lines.rt: what is told of a line that failed
+mod groups; // groups.rt: what is told of a group
+mod unusual; // unusual.rt: values that are unusual
+pub mod remarks; // remarks.rt: what is told, and the verdict
 
 use account::Refusal;
 use book::State;
@@ -12,20 +15,46 @@ ghost use Rattle.text_lines.specs.Lines.{cutIn};
 ghost use Rattle.printing.specs.Said.{Said};
 ghost use Rattle.typed_book.specs.Typist.{beginning};
 ghost use Rattle.typed_book.specs.Remarks.{verdictText, statusOf};
-ghost use Rattle.typed_book.specs.Parts.{lineBy, callOf, lastOf, laidIn};
+ghost use Rattle.typed_book.specs.Parts.{lineBy, callOf, lastOf, endOf, laidIn};
 
-// The state after the records written; the days of the book's year, 0 before its farm record; the line that lost the heading and the first line that
-// failed, 0 where none did; how many lines were written, refused, not read and without heading; and how many failed or withheld lines there were.
-pub struct Typist {
-    pub state: State,
-    pub year: u64,
-    pub lost: u64,
-    pub failed: u64,
+// The line that lost the heading, 0 where none did; its kind is a heading (0), or it may have been one and was not read (1) or refused (2).
+pub struct Lost {
+    pub line: u64,
+    pub cause: u64,
+}
+
+// The line of a close that waits for the end of the text, and the first and the last line of a run without heading; 0 where there is none.
+pub struct Waiting {
+    pub close: u64,
+    pub first: u64,
+    pub last: u64,
+}
+
+// How many lines were written, refused, not read and without heading, how many values were unusual, and how many messages there were.
+pub struct Counts {
     pub written: u64,
     pub refused: u64,
     pub unread: u64,
     pub without: u64,
+    pub unusual: u64,
     pub told: u64,
+}
+
+// Whether some line had a word, and whether one was a close.
+pub struct Heard {
+    pub words: bool,
+    pub close: bool,
+}
+
+// The state after the records written; the days of the book's year, 0 before its farm record; and the first line that failed, 0 where none did.
+pub struct Typist {
+    pub state: State,
+    pub year: u64,
+    pub lost: Lost,
+    pub failed: u64,
+    pub waiting: Waiting,
+    pub counts: Counts,
+    pub heard: Heard,
 }
 
 // What becomes of a line. Not read: the kind, 0 where it can't be read, and the place of the wrong word, counted from 1, 0 where the line is too
@@ -34,6 +63,7 @@ pub enum Fate {
     Nothing,
     Unread(u64, usize),
     Withheld,
+    Waits,
     Without,
     Refused(u64, Refusal),
     Wrote(u64),
@@ -74,13 +104,25 @@ impl Typist {
         Self {
             state: state,
             year: 0,
-            lost: 0,
+            lost: Lost { line: 0, cause: 0 },
             failed: 0,
-            written: 0,
-            refused: 0,
-            unread: 0,
-            without: 0,
-            told: 0,
+            waiting: Waiting {
+                close: 0,
+                first: 0,
+                last: 0,
+            },
+            counts: Counts {
+                written: 0,
+                refused: 0,
+                unread: 0,
+                without: 0,
+                unusual: 0,
+                told: 0,
+            },
+            heard: Heard {
+                words: false,
+                close: false,
+            },
         }
     }
 }
@@ -93,10 +135,12 @@ fn type_line(t: Typist, number: u64, text: &[u8], out: &mut [u8], remarks: &mut 
     ensures remark { λ r. ⌜ Said (now (remarks .entry)) (now (remarks .exit)) 0
         (lineBy t number (now (text .entry)) (length (now (out .entry))) .remark) (r .told) ⌝ }
 {
-    let e = enter::enter(t, number, text, out);
+    let line = typed_line::read_line(text);
+    let e = enter::enter(t, number, line, out);
     let fate = e.fate;
     let typist = e.typist;
-    let told = remarks::say_remark(remarks, t, number, fate, text);
+    let entry = line.entry;
+    let told = remarks::say_remark(remarks, t, number, fate, entry, text);
     Lined {
         typist: typist,
         written: e.written,
@@ -164,4 +208,22 @@ pub fn type_last(typing: Typing, line: &[u8], out: &mut [u8], remarks: &mut [u8]
     let t = typing.typist;
     let cut = typing.cut;
     type_line(t, cut.number, text_lines::whole(line, cut), out, remarks)
+}
+
+// The end of the text, all of which was read where it is good: a close that waits goes to the start of out.
+pub fn type_end(t: Typist, good: bool, out: &mut [u8], remarks: &mut [u8]) -> Lined
+    ensures typist { λ r. ⌜ r .typist ≡ endOf good t (length (now (out .entry))) .typist ⌝ }
+    ensures written { λ r. ⌜ r .written ≡ length (endOf good t (length (now (out .entry))) .bytes) ⌝ }
+    ensures record { λ r. ⌜ now (out .exit) ≡ laidIn (endOf good t (length (now (out .entry))) .bytes) (now (out .entry)) ⌝ }
+    ensures remark { λ r. ⌜ Said (now (remarks .entry)) (now (remarks .exit)) 0 (endOf good t (length (now (out .entry))) .remark) (r .told) ⌝ }
+{
+    let e = enter::end(t, good, out);
+    let fate = e.fate;
+    let typist = e.typist;
+    let told = remarks::say_end_remark(remarks, t, fate);
+    Lined {
+        typist: typist,
+        written: e.written,
+        told,
+    }
 }

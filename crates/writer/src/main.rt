@@ -53,7 +53,7 @@ fn take_line(line: &mut [u8], rest: &[u8], from: Work) -> Work
     ensures { λ r. ⌜ r .taken ≤ length (now (rest .entry)) ⌝ }
 {
     let mut out = [0u8; 28];
-    let mut remarks = [0u8; 1024];
+    let mut remarks = [0u8; 4096];
     let typing = from.typing;
     let r = typed_book::type_part(typing, line, rest, &mut out, &mut remarks);
     let next = r.typing;
@@ -117,13 +117,31 @@ fn last_line(line: &[u8], w: Work) -> Work {
         return w;
     }
     let mut out = [0u8; 28];
-    let mut remarks = [0u8; 1024];
+    let mut remarks = [0u8; 4096];
     let typing = w.typing;
     let cut = typing.cut;
     let l = typed_book::type_last(typing, line, &mut out, &mut remarks);
     let typist = l.typist;
     let moved = Typing {
         typist: typist,
+        cut: cut,
+    };
+    let mut next = w;
+    next.typing = moved;
+    send(up_to(&out, l.written), up_to(&remarks, l.told), next)
+}
+
+// The end of the text: a close that waits is written, where all of it was read.
+fn end_text(w: Work) -> Work {
+    let mut out = [0u8; 28];
+    let mut remarks = [0u8; 4096];
+    let typing = w.typing;
+    let cut = typing.cut;
+    let typist = typing.typist;
+    let l = typed_book::type_end(typist, w.good, &mut out, &mut remarks);
+    let ended = l.typist;
+    let moved = Typing {
+        typist: ended,
         cut: cut,
     };
     let mut next = w;
@@ -159,5 +177,5 @@ fn main() {
             good: true,
         },
     );
-    say_end(last_line(&line, last));
+    say_end(end_text(last_line(&line, last)));
 }

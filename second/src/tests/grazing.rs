@@ -4,6 +4,7 @@ use super::typed::{record_typed, remarks, said};
 use super::{accepted, adds, all, no_group, refused_by, under, with_group};
 use crate::books::{after, right_close, wrong_record};
 use crate::dice::Dice;
+use crate::doubts::doubtful;
 use crate::feed::{feed, Answer};
 use crate::figures::Figures;
 use crate::grazing::factor;
@@ -15,7 +16,7 @@ use crate::record::record_of;
 use crate::salvage::tell;
 use crate::state::{Heading, State, CLOSED};
 use crate::states::right_state;
-use crate::why::{doubtful, why};
+use crate::why::why;
 
 /// Table 2.4.6 of source document 000, copied.
 const PRINT: &str = "Atl Prov.\t1.90\t1.34\t1.16
@@ -206,16 +207,16 @@ fn the_bound_of_the_sixth_sum() {
 #[test]
 fn grazing_as_it_is_typed() {
     let record = Some(record_of(kind::GRAZING, &[3, 1, 600, 5_000]));
-    for line in ["grazing 3 1 600 5000", "GRAZING 3 1 600 50.0", "10 3 1 600 50.00"] {
+    for line in ["grazing 3 1 600 50", "GRAZING Ontario 1 600 50.0", "10 3 cows 600 50.00"] {
         assert_eq!(record_typed(1, line), record);
     }
     let place = "refused 6: out of its place: a book begins with its one farm record; \
         enteric, cattle and grazing stand under a heading of class 1 to 3, pig under one of class 4";
-    let shares = "refused 10: cattle shares must be 100.00 per cent together, grazing fractions under a heading at most that; \
-        a pig's volatilised and leached parts at most 1.000";
+    let fractions = "refused 10: fraction: 99.99 and 0.02 make 100.01, and 100.00 are the most";
     for (line, words) in [
-        ("grazing 3 1 600\n", "refused 4: a wrong count of values; expected region, column, live weight, fraction"),
-        ("grazing 8 1 600 5\n", "refused 7 field 1: region: \"8\" is out of its range; expected 1 to 7"),
+        ("grazing 3 1 600\n", "refused 4: grazing takes 4 values, and 3 are here; expected region, column, live weight, fraction"),
+        ("grazing 8 1 600 5\n", "refused 7 field 1: region: \"8\" is out of its range; expected 1 to 7 (atlantic, quebec, \
+            ontario, manitoba, saskatchewan, alberta, british-columbia)"),
         ("grazing 3 4 600 5\n", "refused 7 field 2: column: \"4\" is out of its range; expected 1 to 3 (cows, heifers, calves)"),
         ("grazing 3 1 2001 5\n", "refused 7 field 3: live weight: \"2001\" is out of its range; expected 0 to 2000 kg"),
         ("grazing 3 1 600 100.01\n", "refused 7 field 4: fraction: \"100.01\" is out of its range; expected 0 to 100.00 per cent"),
@@ -224,14 +225,15 @@ fn grazing_as_it_is_typed() {
         assert_eq!(remarks(line), format!("line 3: {words}\n"));
     }
     let told = remarks("grazing 3 1 600 99.99\ngrazing 3 1 600 0.02\n");
-    assert_eq!(told, format!("line 4: {shares}\n"));
-    let told = remarks("heading 13 4 40\ngrazing 3 1 600 5000\n");
+    assert_eq!(told, format!("line 4: {fractions}\n"));
+    let told = remarks("heading 13 4 40\ngrazing 3 1 600 50\n");
     assert_eq!(told, format!("line 4: {place}\n"));
     // Under a lost heading it is not judged; and it has no days to speak of.
     let told = remarks("headng\ngrazing 9 9 9 9\ngrazing\n");
-    let lost = |n| format!("line {n}: without heading: the heading in line 3 was not written\n");
-    assert!(told.ends_with(&(lost(4) + &lost(5))), "{told}");
-    let told = said("farm 7 2010 1\nheading 1 1 1\ngrazing 1 1 1 1\nclose\n");
+    let lost =
+        "lines 4 to 5: without heading: line 3, which may have been a heading, was not read\n";
+    assert!(told.ends_with(lost), "{told}");
+    let told = said("farm 7 2010 1\nheading 1 1 1\ngrazing 1 1 600 1\nclose\n");
     assert!(told.starts_with("group 1 milking, 1 head: no days\n"));
 }
 
@@ -242,7 +244,7 @@ fn grazing_in_the_other_tools() {
     let grazing = record_of(kind::GRAZING, &[3, 1, 600, 5_000]);
     let close = record_of(kind::CLOSE, &[3]);
     let book = [farm.clone(), heading.clone(), grazing.clone(), close.clone()].concat();
-    let typed = "farm 7 2010 1\nheading 5 1 40\ngrazing 3 1 600 5000\nclose 3\n";
+    let typed = "farm 7 2010 1\nheading 5 milking 40\ngrazing ontario cows 600 50.00\nclose 3\n";
     assert_eq!(retyped(&book).printed, typed);
     let wrong_heading = record_of(kind::HEADING, &[6, 9, 40]);
     let saved = tell(
@@ -255,7 +257,7 @@ fn grazing_in_the_other_tools() {
     let too_much = record_of(kind::GRAZING, &[3, 1, 600, 5_001]);
     let (said, _) = why(&[farm.clone(), heading.clone(), grazing, too_much.clone()].concat());
     let wanted = "refused 10 record 3 bytes 30 to 39 value 10001 limit 10000\n\
-        record 3 (grazing), bytes 30 to 39: the sum of fractions with this record is 10001; it must be at most 10000\n";
+        record 3 (grazing, group 5): the sum of fractions with this record is 100.01 per cent; it must be at most 100.00\n";
     assert_eq!(said, wanted);
     assert!(tell(&[farm, heading, too_much.clone(), too_much].concat())
         .said
@@ -275,6 +277,6 @@ fn too_much_grazing_is_drawn() {
     assert!(met > 100, "{met}");
     for index in [13, 53, 93] {
         let (said, _) = why(&doubtful(1, index));
-        assert!(said.starts_with("refused 10 ") && said.contains("(grazing)"), "{said}");
+        assert!(said.starts_with("refused 10 ") && said.contains("(grazing, group 12)"), "{said}");
     }
 }

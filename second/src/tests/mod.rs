@@ -15,8 +15,15 @@ mod states;
 mod subtotals;
 mod tillage;
 mod typed;
+mod typed_choices;
+mod typed_closes;
+mod typed_groups;
 mod typed_lines;
+mod typed_lost;
+mod typed_numbers;
+mod typed_unusual;
 mod warming;
+mod why;
 mod writer;
 
 use crate::feed::{feed, Answer, Reply};

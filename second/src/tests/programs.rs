@@ -1,13 +1,17 @@
 //! What the lister and retype print and say of the sample, of nothing, of a typed text, and of a book with bytes behind it.
 
+use crate::books::closed_run;
+use crate::dice::Dice;
 use crate::plain::sample;
 use crate::programs::{listed, retyped};
+use crate::state::State;
+use crate::typed::enter;
 
 const SAMPLE_TYPED: &str = "farm 7 2010 1
-heading 12 1 40
-enteric 31 30000 650
-energy 1 125 70000
-enteric 28 30000 650
+heading 12 milking 40
+enteric 31 300.00 6.50
+energy 1 12.5 70000
+enteric 28 300.00 6.50
 close 5
 ";
 
@@ -41,5 +45,17 @@ fn no_bytes_and_half_a_record_are_unfinished() {
     for book in [&sample()[..0], &sample()[..1], &sample()[..15]] {
         assert_eq!(retyped(book).said, "unfinished\n");
         assert_eq!(listed(book).printed, "unfinished\n");
+    }
+}
+
+/// What retype prints, typed again, gives the same bytes.
+#[test]
+fn books_typed_again_are_the_same() {
+    let mut dice = Dice::of_case(16, 1);
+    for _ in 0..500 {
+        let count = dice.between(1, 30);
+        let book = closed_run(&mut dice, &State::default(), count);
+        let entered = enter(retyped(&book).printed.as_bytes());
+        assert_eq!((entered.book, entered.right), (book, true));
     }
 }

@@ -208,23 +208,30 @@ fn each_field_is_held_to_its_range() {
 #[test]
 fn tillage_as_it_is_typed() {
     let record = Some(record_of(kind::TILLAGE, &[1, 2, 3, 10, 5_000]));
-    for line in ["tillage 1 2 3 10 5000", "TILLAGE 1 2 3 10 50.0", "9 1 2 3 10 50.00"] {
+    for line in
+        ["tillage 1 2 3 10 50", "TILLAGE 1 Medium 3 10 50.0", "9 1 2 intensive-to-no 10 50.00"]
+    {
         assert_eq!(record_typed(1, line), record);
     }
     for (line, words) in [
-        ("tillage 1 2 3 10\n", "refused 4: a wrong count of values; expected zone, texture, change, years, area"),
-        ("tillage 0 2 3 10 5\n", "refused 7 field 1: zone: \"0\" is out of its range; expected 1 to 9"),
+        ("tillage 1 2 3 10\n", "refused 4: tillage takes 5 values, and 4 are here; expected zone, texture, change, years, area"),
+        ("tillage 0 2 3 10 5\n", "refused 7 field 1: zone: \"0\" is out of its range; \
+            expected 1 to 9 (boreal-shield-west, atlantic-maritime, boreal-plains, boreal-shield-east, \
+            mixedwood-plains, semiarid-prairies, montane-cordillera, pacific-maritime, subhumid-prairies)"),
         ("tillage 1 4 3 10 5\n", "refused 7 field 2: texture: \"4\" is out of its range; expected 1 to 3 (coarse, medium, fine)"),
-        ("tillage 1 2 7 10 5\n", "refused 7 field 3: change: \"7\" is out of its range; expected 1 to 6"),
+        ("tillage 1 2 7 10 5\n", "refused 7 field 3: change: \"7\" is out of its range; expected 1 to 6 (intensive-to-reduced, reduced-to-no, \
+            intensive-to-no, reduced-to-intensive, no-to-reduced, no-to-intensive)"),
         ("tillage 1 2 3 101 5\n", "refused 7 field 4: years: \"101\" is out of its range; expected 1 to 100"),
         ("tillage 1 2 3 10 100000.01\n", "refused 7 field 5: area: \"100000.01\" is out of its range; expected 0 to 100000.00 ha"),
-        ("tillage 1 coarse 3 10 5\n", "not read: tillage, texture: \"coarse\" is no whole number; expected 1 to 3 (coarse, medium, fine)"),
+        ("tillage 1 course 3 10 5\n", "not read: tillage, texture: \"course\" is none of coarse, medium, fine"),
     ] {
         assert_eq!(remarks(line), format!("line 3: {words}\n"));
     }
     // The heading stays lost, and tillage needs none.
-    let told = remarks("headng\ntillage 1 2 3 10 5000\nenteric 1 1 1\n");
-    assert!(told.ends_with("\nline 5: without heading: the heading in line 3 was not written\n"));
+    let told = remarks("headng\ntillage 1 2 3 10 50\nenteric 1 1 1\n");
+    assert!(told.ends_with(
+        "\nline 5: without heading: line 3, which may have been a heading, was not read\n"
+    ));
     assert_eq!(told.lines().count(), 2);
 }
 
@@ -234,7 +241,10 @@ fn tillage_in_the_other_tools() {
     let tillage = record_of(kind::TILLAGE, &[1, 2, 3, 10, 5_000]);
     let close = record_of(kind::CLOSE, &[2]);
     let book = [farm.clone(), tillage.clone(), close.clone()].concat();
-    assert_eq!(retyped(&book).printed, "farm 7 2010 1\ntillage 1 2 3 10 5000\nclose 2\n");
+    assert_eq!(
+        retyped(&book).printed,
+        "farm 7 2010 1\ntillage boreal-shield-west medium intensive-to-no 10 50.00\nclose 2\n"
+    );
     let heading = record_of(kind::HEADING, &[5, 9, 40]);
     let ration = record_of(kind::ENTERIC, &plain_values(kind::ENTERIC));
     let saved = tell(&[farm.clone(), heading, ration, tillage].concat());
@@ -243,10 +253,10 @@ fn tillage_in_the_other_tools() {
     let late = record_of(kind::TILLAGE, &[1, 2, 3, 101, 5_000]);
     let (said, _) = why(&[farm.clone(), late].concat());
     let wanted = "refused 7 record 1 bytes 11 to 23 field 4 value 101 limit 100\n\
-        record 1 (tillage), bytes 11 to 23: years is 101; it must be at most 100\n";
+        record 1 (tillage): years is 101; it must be at most 100\n";
     assert_eq!(said, wanted);
     let (said, _) = why(&[farm, vec![0, 4, 1, 11, 0, 0]].concat());
     let wanted = "refused 3 record 1 bytes 11 to 16 value 11 limit 10\n\
-        record 1, bytes 11 to 16: the kind is 11; it must be at most 10\n";
+        record 1: the kind is 11; it must be at most 10\n";
     assert_eq!(said, wanted);
 }

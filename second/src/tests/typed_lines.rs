@@ -1,10 +1,11 @@
 //! One line of a typed text: its bytes, its words and its numbers, and what is said of it.
 
-use super::typed::{record_typed, remarks, said, verdict};
+use super::typed::{messages, record_typed, remarks, said, verdict};
+use crate::fields::spoken_of;
 use crate::plain::{plain_rows, plain_values, sample};
 use crate::record::{fields_with, record_of};
 use crate::typed::enter;
-use crate::words::{kind_name, shown, spoken_of, KINDS};
+use crate::words::{kind_name, shown, KINDS};
 
 #[test]
 fn the_sample_in_other_dresses() {
@@ -13,12 +14,13 @@ fn the_sample_in_other_dresses() {
         plain.to_uppercase(),
         plain.replace('\n', "\r\n"),
         plain.replace(' ', "\t"),
+        plain.replace('\n', " \t\t \n"),
         plain.trim_end().to_string(),
         format!("\u{feff}{plain}"),
         plain.replace('#', &format!("#{}", "x".repeat(5_000))),
         plain.replace("enteric", "3").replace("close", "8 5").replace("heading", "0002"),
-        plain.replace("30000 650", "300.0 6.5").replace(" 125 ", " 12.5 "),
-        plain.replace("30000 650", "0300.00 00000000000000000000650"),
+        plain.replace("300 6.5", "300.00 6.50").replace("milking", "1"),
+        plain.replace("300 6.5", "0300.0 00000000000000000000006.5").replace("milking", "0001"),
     ];
     for text in dresses {
         let entered = enter(text.as_bytes());
@@ -46,56 +48,14 @@ fn lines_of_1023_and_1024_bytes() {
     assert_eq!(remarks(&soil(1_024, "#")), too_long);
     assert_eq!(remarks(&soil(1_023, "\r")), too_long);
     assert_eq!(remarks(&soil(3_000, "")), too_long);
+    assert_eq!(remarks(&" ".repeat(1_023)), "");
+    assert_eq!(remarks(&" ".repeat(1_024)), too_long);
     let marked = |length: usize| format!("\u{feff}farm{}7 2010 1", " ".repeat(length - 12));
-    assert_eq!(
-        verdict(&marked(1_023)),
-        "not closed: 1 written, 0 refused, 0 not read, 0 without heading"
-    );
-    assert_eq!(
-        verdict(&marked(1_024)),
-        "not closed: 0 written, 0 refused, 1 not read, 0 without heading"
-    );
-}
-
-#[test]
-fn what_is_a_number() {
-    for word in ["0", "7", "650", "0650", "6.5", "6.50", "6.05", "0.0", "00006.5"] {
-        let value = match word.split_once('.') {
-            None => word.parse().unwrap(),
-            Some((front, behind)) => format!("{front}{behind:0<2}").parse().unwrap(),
-        };
-        let record = record_typed(1, &format!("enteric 1 30000 {word}"));
-        assert_eq!(record, Some(record_of(3, &[1, 30_000, value])), "{word}");
-    }
-    for word in [
-        ".5", "5.", ".", "1.234", "6,5", "-1", "+1", "1e2", "0x1", "1.2.3", "1..2", "½", "x", "\0",
-        "1\u{b}",
-    ] {
-        let wanted = format!(
-            "line 3: not read: enteric, Ym: \"{}\" is no number; expected 0 to 20.00 per cent\n",
-            shown(word.as_bytes())
-        );
-        assert_eq!(remarks(&format!("enteric 1 1 {word}\n")), wanted);
-    }
-}
-
-#[test]
-fn numbers_of_any_count_of_digits() {
-    let wrapped = (1_u128 << 64) + 5;
-    for word in ["1234567890123456", "99999999999999999999", &wrapped.to_string(), &"8".repeat(900)]
-    {
-        let seen = &word[..word.len().min(24)];
-        let wanted = format!("line 3: refused 7 field 1: area: \"{seen}\" is out of its range; expected 0 to 100000.00 ha\n");
-        assert_eq!(remarks(&format!("soil {word}\n")), wanted);
-    }
-    let point = format!("soil {}.99\n", "9".repeat(19));
-    assert!(remarks(&point)
-        .starts_with("line 3: refused 7 field 1: area: \"9999999999999999999.99\" is out"));
-    let third = (1_u128 << 64) + 3;
-    assert_eq!(
-        remarks(&format!("{third} 1 1 1\n")),
-        "line 3: refused 3: no such kind of record: kinds are 1 to 10\n"
-    );
+    let counts = |written, not_read| {
+        format!("not closed: {written} written, 0 refused, {not_read} not read, 0 without heading, 0 unusual")
+    };
+    assert_eq!(verdict(&marked(1_023)), counts(1, 0));
+    assert_eq!(verdict(&marked(1_024)), counts(0, 1));
 }
 
 #[test]
@@ -105,7 +65,7 @@ fn every_field_has_its_decimals() {
             (spoken_of(kind.into(), plain.len()), fields_with(kind, plain.len()));
         assert_eq!(spoken.len(), fields.len());
         for (place, (f, field)) in spoken.iter().zip(fields).enumerate() {
-            let expected = highest_expected(f.expected);
+            let expected = highest_expected(&f.expected());
             let scale = 10_u64.pow(f.decimals as u32);
             let high = u64::from(field.high);
             let with_point = format!("{}.{:02$}", high / scale, high % scale, f.decimals);
@@ -114,6 +74,7 @@ fn every_field_has_its_decimals() {
                 if f.decimals == 0 { high.to_string() } else { with_point },
                 "{kind} {place}"
             );
+            assert!(!f.is_choice() || f.choices.len() as u64 == high, "{kind} {place}");
         }
     }
 }
@@ -128,24 +89,38 @@ fn highest_expected(expected: &str) -> String {
     behind.split(' ').next().expect("it is not empty").to_string()
 }
 
+/// Words behind the last field are counted and not read; those before are read first.
 #[test]
-fn every_word_is_looked_at() {
-    assert_eq!(remarks("soil 1 2 3 x\n"), "line 3: not read: soil: \"x\" is no whole number\n");
-    assert_eq!(remarks("soil 1 2.5\n"), "line 3: not read: soil: \"2.5\" is no whole number\n");
-    assert_eq!(
-        remarks("soil 1 2\n"),
-        "line 3: refused 4: a wrong count of values; expected area\n"
-    );
-    assert_eq!(remarks("77 1 2.5\n"), "line 3: not read: record: \"2.5\" is no whole number\n");
-    assert_eq!(remarks("0 x\n"), "line 3: not read: record: \"x\" is no whole number\n");
-    assert_eq!(
-        remarks("soil y x\n"),
-        "line 3: not read: soil, area: \"y\" is no number; expected 0 to 100000.00 ha\n"
-    );
-    assert_eq!(
-        remarks(&format!("soil {}\n", "1 ".repeat(400))),
-        "line 3: refused 4: a wrong count of values; expected area\n"
-    );
+fn words_are_read_as_far_as_there_are_fields() {
+    for (line, words) in [
+        ("enteric 31 300 6.5 hay", "refused 4: enteric takes 3 values, and 4 are here; expected days, GE, Ym"),
+        ("enteric 31 x 6.5 hay", "not read: enteric, GE: \"x\" is no number; expected 0 to 1000.00 MJ per head and day"),
+        ("enteric 31 x", "not read: enteric, GE: \"x\" is no number; expected 0 to 1000.00 MJ per head and day"),
+        ("enteric 31", "refused 4: enteric takes 3 values, and 1 is here; expected days, GE, Ym"),
+        ("enteric", "refused 4: enteric takes 3 values, and 0 are here; expected days, GE, Ym"),
+        ("enteric 400 30000", "refused 4: enteric takes 3 values, and 2 are here; expected days, GE, Ym"),
+        ("soil", "refused 4: soil takes 1 value, and 0 are here; expected area"),
+        ("soil 5 ha", "refused 4: soil takes 1 value, and 2 are here; expected area"),
+        ("soil y x", "not read: soil, area: \"y\" is no number; expected 0 to 100000.00 ha"),
+        ("close 2 3", "refused 4: close takes 1 value, and 2 are here; expected records before it"),
+        ("close 2 x", "refused 4: close takes 1 value, and 2 are here; expected records before it"),
+        ("heading 13 dry", "refused 4: heading takes 3 values, and 2 are here; expected group, class, head"),
+        ("energy 1 2 3 4", "refused 4: energy takes 3 values, and 4 are here; expected source, amount, factor"),
+        ("cattle 31 20", "refused 4: cattle takes 9 values, and 2 are here; \
+            expected days, feed, protein, milk, milk protein, gain, solid share, liquid share, pasture share"),
+        ("pig 31", "refused 4: pig takes 12 values, and 1 is here; expected days, feed, VS excretion, VS factor, MCF, protein, N factor, \
+            direct EF, volatilised part, volatilised EF, leached part, leached EF"),
+        ("farm 7 2010 1 2 3", "refused 4: farm takes 3 or 4 values, and 5 are here; \
+            expected farm number, year, warming set, or farm number, year, CH4 factor, N2O factor"),
+        ("77", "refused 3: no such kind of record: kinds are 1 to 10"),
+        ("77 1 2.5", "refused 3: no such kind of record: kinds are 1 to 10"),
+        ("0 x y", "refused 3: no such kind of record: kinds are 1 to 10"),
+    ] {
+        assert_eq!(remarks(&format!("{line}\n")), format!("line 3: {words}\n"));
+    }
+    let many = format!("soil {}\n", "1 ".repeat(400));
+    let wanted = "line 3: refused 4: soil takes 1 value, and 400 are here; expected area\n";
+    assert_eq!(remarks(&many), wanted);
 }
 
 #[test]
@@ -160,41 +135,66 @@ fn each_refusal_has_its_words() {
     let cattle = |shares: &str, gain: u64| format!("cattle 1 0 0 0 0 {gain} {shares}\n");
     let cases = [
         ("11 1\n".to_string(), "3: no such kind of record: kinds are 1 to 10"),
-        ("enteric 1 2\n".to_string(), "4: a wrong count of values; expected days, GE, Ym"),
         ("farm 7 2010 1\n".to_string(), "6: out of its place: a book begins with its one farm record; \
              enteric, cattle and grazing stand under a heading of class 1 to 3, pig under one of class 4"),
         ("enteric 0 2 3\n".to_string(), "7 field 1: days: \"0\" is out of its range; expected 1 to 366"),
-        ("heading 12 1 1\n".to_string(), "8: the group number must be above that of the heading before"),
-        (cattle("0 0 99.99", 0), "10: cattle shares must be 100.00 per cent together, grazing fractions under a heading at most that; \
-             a pig's volatilised and leached parts at most 1.000"),
-        (cattle("0 0 100.00", 1), "11: more nitrogen in milk and gain than in the feed"),
+        ("enteric 367 2 3\n".to_string(), "7 field 1: days: \"367\" is out of its range; expected 1 to 366"),
+        ("energy 9 2 3\n".to_string(), "7 field 1: source: \"9\" is out of its range; expected 1 to 8 (the documents give no names)"),
+        ("heading 12 dry 1\n".to_string(), "8: the group number must be above that of the heading before"),
+        (cattle("0 0 90", 0), "10: the three shares must make 100.00 per cent: together 90.00"),
+        (cattle("0 0 99.99", 0), "10: the three shares must make 100.00 per cent: together 99.99"),
+        (cattle("100 100 100", 0), "10: the three shares must make 100.00 per cent: together 300.00"),
+        (cattle("0 0 0", 0), "10: the three shares must make 100.00 per cent: together 0.00"),
+        (cattle("0 0 100", 1), "11: more nitrogen in milk and gain than in the feed"),
         ("close 3\n".to_string(), "12: the close counts other records than there are before it; left out, the count is filled in"),
     ];
     for (line, words) in cases {
         assert_eq!(remarks(&line), format!("line 3: refused {words}\n"));
     }
-    assert_eq!(
-        remarks("enteric 366 1 1\nenteric 1 1 1\n"),
-        "line 4: refused 9: more than 366 days of this kind under the heading\n"
-    );
-    assert_eq!(remarks("close\nsoil 1\n"), "line 4: refused 22: the book is closed already\n");
-    assert_eq!(remarks("close\n11\n"), "line 4: refused 22: the book is closed already\n");
+}
+
+#[test]
+fn sums_under_a_heading_are_told() {
+    let days = "enteric 350 300 6.5\nsoil 1\nenteric 31 300 6.5\n";
+    let wanted = "line 5: refused 9: days: 350 and 31 make 381, and 366 are the most\n";
+    assert_eq!(remarks(days), wanted);
+    let cattle = "cattle 366 0 0 0 0 0 0 0 100\nenteric 366 300 6.5\ncattle 1 0 0 0 0 0 0 0 90\n";
+    let wanted = "line 5: refused 9: days: 366 and 1 make 367, and 366 are the most\n";
+    assert_eq!(remarks(cattle), wanted);
+    let grazing = "grazing ontario cows 600 60\ngrazing ontario cows 600 50\n";
+    let wanted =
+        "line 4: refused 10: fraction: 60.00 and 50.00 make 110.00, and 100.00 are the most\n";
+    assert_eq!(remarks(grazing), wanted);
+    let pig = |parts: &str| {
+        let lines =
+            format!("farm 7 2010 1\nheading 12 pig 40\npig 1 2 0.1 1 0.2 18 1 0.002 {parts}\n");
+        messages(&lines)
+    };
+    let wanted = |sum: &str| {
+        format!("line 3: refused 10: the volatilised and the leached part must make at most 1.000: together {sum}\n")
+    };
+    assert_eq!(pig("0.6 0.01 0.5 0"), wanted("1.100"));
+    assert_eq!(pig("1 0.01 0.001 0"), wanted("1.001"));
+    assert_eq!(pig("1 0.01 1 0"), wanted("2.000"));
+    assert_eq!(pig("0.6 0.01 0.4 0"), "");
 }
 
 #[test]
 fn names_in_capitals_or_not() {
     for (kind, name) in (1..).zip(KINDS) {
         assert_eq!(kind_name(kind), name);
-        let values: Vec<String> = plain_values(kind as u8).iter().map(u64::to_string).collect();
-        let line = |first: &str| {
-            record_typed(if kind == 5 { 4 } else { 1 }, &format!("{first} {}", values.join(" ")))
-        };
+        let plain = plain_values(kind as u8);
+        let fields = spoken_of(kind, plain.len());
+        let words: Vec<String> =
+            fields.iter().zip(&plain).map(|(f, &value)| f.said(value.into())).collect();
+        let class = if kind == 5 { 4 } else { 1 };
+        let line = |first: &str| record_typed(class, &format!("{first} {}", words.join(" ")));
         let typed = line(name);
         assert_eq!(typed, line(&name.to_uppercase()));
         assert_eq!(typed, line(&format!("{}{}", name[..1].to_uppercase(), &name[1..])));
         assert_eq!(typed, line(&kind.to_string()));
         if kind >= 3 && kind != 8 {
-            assert_eq!(typed, Some(record_of(kind as u8, &plain_values(kind as u8))));
+            assert_eq!(typed, Some(record_of(kind as u8, &plain)));
         }
     }
 }

@@ -5,6 +5,7 @@ use super::{accepted, all, refused_by, under, COW};
 use crate::books::{after, right_close};
 use crate::cases;
 use crate::damages;
+use crate::doubts::doubtful;
 use crate::feed::Answer;
 use crate::figures::Figures;
 use crate::kind;
@@ -20,7 +21,7 @@ use crate::trial::{hex, Case};
 use crate::typed::enter;
 use crate::warming::{factors, Factors, NONE, SET_1, SET_2};
 use crate::warmings::{of_no_version, of_wrong_length, with_farm};
-use crate::why::{doubtful, why};
+use crate::why::why;
 use crate::writer::write;
 use std::collections::BTreeSet;
 
@@ -245,19 +246,35 @@ fn three_or_four_values_are_written() {
 }
 
 #[test]
+fn a_typed_farm_line_of_another_count() {
+    for (line, here) in [
+        ("farm", "0 are"),
+        ("farm 7", "1 is"),
+        ("farm 7 2010", "2 are"),
+        ("farm 7 2010 21 310 1", "5 are"),
+        ("farm 7 2010 1 x 1", "5 are"),
+    ] {
+        let wanted = format!(
+            "line 1: refused 4: farm takes 3 or 4 values, and {here} here; expected farm number, year, warming set, \
+             or farm number, year, CH4 factor, N2O factor\n"
+        );
+        assert!(said(line).starts_with(&wanted), "{line}: {}", said(line));
+    }
+}
+
+#[test]
 fn a_typed_farm_line() {
     for line in ["farm 7 2010 21 310", "FARM 0007 2010 021 00310 # abroad", "1\t7 2010 21 310\r"] {
         assert_eq!(enter(format!("{line}\nclose\n").as_bytes()).book[..14], farm_2(21, 310));
-        let wanted = "closed: 2 written, 0 refused, 0 not read, 0 without heading";
+        let wanted = "closed: 2 written, 0 refused, 0 not read, 0 without heading, 0 unusual";
         assert_eq!(verdict(&format!("{line}\nclose\n")), wanted);
     }
-    let count = "refused 4: a wrong count of values; expected farm number, year, warming set, \
-        or farm number, year, CH4 factor, N2O factor";
+    let no_set = "not read: farm, warming set: \"x\" is no whole number; \
+        expected 1 or 2 (or the CH4 and the N2O factor in its place)";
+    let wrong_set = "refused 7 field 3: warming set: \"21\" is out of its range; \
+        expected 1 or 2 (or the CH4 and the N2O factor in its place)";
     for (line, words) in [
-        ("farm", count),
-        ("farm 7 2010", count),
-        ("farm 7 2010 21 310 1", count),
-        ("farm 7 2010 21", "refused 7 field 3: warming set: \"21\" is out of its range; expected 1 or 2 (or the CH4 and the N2O factor in its place)"),
+        ("farm 7 2010 21", wrong_set),
         ("farm 7 2010 0 310", "refused 7 field 3: CH4 factor: \"0\" is out of its range; expected 1 to 1000"),
         ("farm 7 2010 1001 0", "refused 7 field 3: CH4 factor: \"1001\" is out of its range; expected 1 to 1000"),
         ("1 7 2010 1000 1001", "refused 7 field 4: N2O factor: \"1001\" is out of its range; expected 1 to 1000"),
@@ -265,9 +282,8 @@ fn a_typed_farm_line() {
         ("farm 4294967296 2010 1 1", "refused 7 field 1: farm number: \"4294967296\" is out of its range; expected 0 to 4294967295"),
         ("farm 7 2010 21.0 310", "not read: farm, CH4 factor: \"21.0\" is no whole number; expected 1 to 1000"),
         ("farm 7 2010 21 x", "not read: farm, N2O factor: \"x\" is no whole number; expected 1 to 1000"),
-        ("farm 7 2010 x", "not read: farm, warming set: \"x\" is no whole number; expected 1 or 2 (or the CH4 and the N2O factor in its place)"),
-        ("farm 7 2010 x 310 1", "not read: farm, warming set: \"x\" is no whole number; expected 1 or 2 (or the CH4 and the N2O factor in its place)"),
-        ("farm 7 2010 1 x 1", "not read: farm: \"x\" is no whole number"),
+        ("farm 7 2010 x", no_set),
+        ("farm 7 2010 x 310 1", no_set),
     ] {
         assert!(said(line).starts_with(&format!("line 1: {words}\n")), "{line}: {}", said(line));
     }
@@ -278,8 +294,9 @@ fn a_typed_farm_line() {
 
 #[test]
 fn retyped_as_it_was_typed() {
-    let typed = "farm 7 2010 21 310\nheading 1 1 1\nenteric 365 30000 650\nheading 2 1 10\n\
-        cattle 365 2000 1600 3000 320 0 2000 8000 0\nsoil 100\nclose 6\n";
+    let typed =
+        "farm 7 2010 21 310\nheading 1 milking 1\nenteric 365 300.00 6.50\nheading 2 milking 10\n\
+        cattle 365 20.00 16.00 30.00 3.20 0 20.00 80.00 0.00\nsoil 1.00\nclose 6\n";
     assert_eq!(retyped(&book(farm_2(21, 310))).printed, typed);
     assert_eq!(enter(typed.as_bytes()).book, book(farm_2(21, 310)));
 }
@@ -310,14 +327,14 @@ fn why_a_version_or_a_length_is_refused() {
         (long, 4, "0 to 13", " (farm)", 12, 9, "the length (of version 1) is 12; it must be 9"),
     ] {
         let wanted = format!(
-            "refused {code} record 0 bytes {bytes} value {value} limit {limit}\nrecord 0{name}, bytes {bytes}: {words}\n"
+            "refused {code} record 0 bytes {bytes} value {value} limit {limit}\nrecord 0{name}: {words}\n"
         );
         assert_eq!(why(&book), (wanted, false));
     }
     for (version, words) in [(0, "0; it must be 1"), (2, "2; it must be 1"), (3, "3; it must be 1")]
     {
         let wanted = format!(
-            "refused 2 record 1 bytes 14 to 22 value {version} limit 1\nrecord 1 (heading), bytes 14 to 22: the version is {words}\n"
+            "refused 2 record 1 bytes 14 to 22 value {version} limit 1\nrecord 1 (heading): the version is {words}\n"
         );
         assert_eq!(why(&heading(version)).0, wanted);
     }
@@ -332,7 +349,7 @@ fn why_a_factor_is_refused() {
         ((1_000, 65_535), 4, 65_535, 1_000, "N2O factor is 65535; it must be at most 1000"),
     ] {
         let wanted = format!(
-            "refused 7 record 0 bytes 0 to 13 field {field} value {value} limit {limit}\nrecord 0 (farm), bytes 0 to 13: {words}\n"
+            "refused 7 record 0 bytes 0 to 13 field {field} value {value} limit {limit}\nrecord 0 (farm): {words}\n"
         );
         assert_eq!(why(&farm_2(pair.0, pair.1)).0, wanted);
     }
@@ -404,14 +421,14 @@ fn why_is_asked_of_every_version() {
         assert!(said.contains(&format!(" value {value} limit {limit}\nrecord ")), "{value}");
     }
     for words in [
-        "(farm), bytes 0 to 10: the length (of version 2) is 9; it must be 12",
-        "(farm), bytes 0 to 13: the length (of version 1) is 12; it must be 9",
+        "(farm): the length (of version 2) is 9; it must be 12",
+        "(farm): the length (of version 1) is 12; it must be 9",
         "bytes 0 to 13 field 2 value 2201 limit 2200\n",
         "bytes 0 to 13 field 3 value 0 limit 1\n",
         "bytes 0 to 13 field 3 value 1001 limit 1000\n",
         "bytes 0 to 13 field 4 value 0 limit 1\n",
         "bytes 0 to 13 field 4 value 65535 limit 1000\n",
-        "(grazing), bytes 20 to 29: fraction is 65535; it must be at most 10000",
+        "(grazing, group 12): fraction is 655.35 per cent; it must be at most 100.00",
     ] {
         assert!(said.contains(words), "{words}");
     }

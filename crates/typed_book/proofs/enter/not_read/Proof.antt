@@ -1,4 +1,5 @@
 -- Field by field. Assumes nothing.
+use mathlib.Core.Path.{refl, sym, ap, _∙_}
 use borrow.Author.Needs.{needs}
 use Rattle.typed_book.proofs.enter.not_read.Statement.{statement}
 use Rattle.typed_book.proofs.enter.not_read.Tie as tie
@@ -12,10 +13,4 @@ not-read-spec =
     (λ c κs. search needs)
     (λ c κs. search needs)
     (λ c κs. search needs)
-    (λ c. rw (
-      c .one-more2 .ensures,
-      c .before .one-more .ensures,
-      c .before .before .first-failed .ensures,
-      c .before .before .before .chosen .ensures,
-      c .before .before .before .before .may-head .ensures,
-    )))
+    (λ c. rw (c .first-failed .ensures, c .before .one-unread .ensures, c .before .before .lost-by .ensures, c .before .before .before .chosen .ensures, c .before .before .before .before .may-head .ensures) refl))

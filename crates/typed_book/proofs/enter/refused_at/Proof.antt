@@ -1,4 +1,5 @@
 -- Field by field. Assumes nothing.
+use mathlib.Core.Path.{refl, sym, ap, _∙_}
 use borrow.Author.Needs.{needs}
 use Rattle.typed_book.proofs.enter.refused_at.Statement.{statement}
 use Rattle.typed_book.proofs.enter.refused_at.Tie as tie
@@ -11,9 +12,4 @@ refused-at-spec =
     (λ c κs. search needs)
     (λ c κs. search needs)
     (λ c κs. search needs)
-    (λ c. rw (
-      c .one-more2 .ensures,
-      c .before .one-more .ensures,
-      c .before .before .first-failed .ensures,
-      c .before .before .before .chosen .ensures,
-    )))
+    (λ c. rw (c .first-failed .ensures, c .before .one-refused .ensures, c .before .before .lost-by .ensures, c .before .before .before .chosen .ensures) refl))

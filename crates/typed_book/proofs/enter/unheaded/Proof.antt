@@ -1,4 +1,5 @@
 -- Field by field. Assumes nothing.
+use mathlib.Core.Path.{refl, sym, ap, _∙_}
 use borrow.Author.Needs.{needs}
 use Rattle.typed_book.proofs.enter.unheaded.Statement.{statement}
 use Rattle.typed_book.proofs.enter.unheaded.Tie as tie
@@ -10,4 +11,4 @@ unheaded-spec =
     (λ c κs. search needs)
     (λ c κs. search needs)
     (λ c κs. search needs)
-    (λ c. rw (c .one-more2 .ensures, c .before .one-more .ensures, c .before .before .first-failed .ensures)))
+    (λ c. rw (c .first-failed2 .ensures, c .before .first-failed .ensures, c .before .before .one-without .ensures) refl))

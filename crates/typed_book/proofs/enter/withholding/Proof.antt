@@ -1,4 +1,5 @@
 -- Field by field. Assumes nothing.
+use mathlib.Core.Path.{refl, sym, ap, _∙_}
 use borrow.Author.Needs.{needs}
 use Rattle.typed_book.proofs.enter.withholding.Statement.{statement}
 use Rattle.typed_book.proofs.enter.withholding.Tie as tie
@@ -8,4 +9,4 @@ withholding-spec =
     tie.close
     (tie.spec
     (λ c κs. search needs)
-    (λ c. rw (c .one-more .ensures)))
+    (λ c. rw (c .one-told .ensures) refl))

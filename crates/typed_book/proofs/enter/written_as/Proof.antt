@@ -1,4 +1,5 @@
 -- Field by field. Assumes nothing.
+use mathlib.Core.Path.{refl, sym, ap, _∙_}
 use borrow.Author.Needs.{needs}
 use Rattle.typed_book.proofs.enter.written_as.Statement.{statement}
 use Rattle.typed_book.proofs.enter.written_as.Tie as tie
@@ -12,9 +13,5 @@ written-as-spec =
     (λ c κs. search needs)
     (λ c κs. search needs)
     (λ c κs. search needs)
-    (λ c. rw (
-      c .one-more .ensures,
-      c .before .chosen2 .ensures,
-      c .before .before .chosen .ensures,
-      c .before .before .before .days-of-year .ensures,
-    )))
+    (λ c κs. search needs)
+    (λ c. rw (c .chosen .ensures, c .before .days-of-year .ensures, c .before .before .one-written .ensures, c .before .before .before .unusual-after .ensures, c .before .before .before .before .lost-by .ensures) refl))

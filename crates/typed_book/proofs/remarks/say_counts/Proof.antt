@@ -1,4 +1,4 @@
--- One text behind another. Assumes nothing.
+-- One text after another. Assumes nothing.
 use Rattle.printing.proofs.Sayings.{_⟫_}
 use borrow.Author.Needs.{needs}
 use Rattle.typed_book.proofs.remarks.say_counts.Statement.{statement}
@@ -16,16 +16,10 @@ say-counts-spec =
     (λ c κs. search needs)
     (λ c κs. search needs)
     (λ c. search needs)
-    (λ c κs. search needs)
-    (λ c κs. search needs)
-    (λ c. search needs)
     (λ c.
     let p1 = c .before .before in
     let p2 = p1 .before .before .before .before in
     let p3 = p2 .before .before .before .before .before in
     let p4 = p3 .before .before .before .before in
     let p5 = p4 .before .before .before .before .before in
-    let p6 = p5 .before .before .before .before in
-    let p7 = p6 .before .before .before .before .before in
-    p7 .say-number .ensures ⟫ p6 .say .ensures ⟫ p5 .say-number2 .ensures ⟫ p4 .say2 .ensures ⟫ p3 .say-number3 .ensures ⟫ p2 .say3 .ensures ⟫ p1
-    .say-without-count .ensures))
+    p5 .say-number .ensures ⟫ p4 .say .ensures ⟫ p3 .say-number2 .ensures ⟫ p2 .say2 .ensures ⟫ p1 .say-others .ensures))

@@ -1,6 +1,6 @@
--- A heading and the close end a group. Assumes nothing.
-use Rattle.typed_book.specs.Remarks.{endedText}
+-- A heading or the close. Assumes nothing.
 use Rattle.printing.proofs.Sayings.{said-none}
+use Rattle.typed_book.specs.Remarks.{endedText}
 use borrow.Author.Needs.{needs}
 use Rattle.typed_book.proofs.remarks.say_ended.Statement.{statement}
 use Rattle.typed_book.proofs.remarks.say_ended.Tie as tie
@@ -11,10 +11,6 @@ say-ended-spec =
     tie.close
     (tie.spec
     (λ c κs. search needs)
-    (λ c κs. search needs)
     (λ c. search needs)
-    (λ c. rw (
-      ← c .before .before .before .before .before .before .before .kind-written .ensures,
-      c .before .before .before .before .before .before .if1 .taken,
-    ) (c .before .before .say-group .ensures))
-    (λ c. rw (← c .before .kind-written .ensures, c .if1 .left) (said-none (c .before .before .before .pre))))
+    (λ c. rw (c .before .before .before .before .before .before .if1 .taken) (c .before .before .say-group .ensures))
+    (λ c. rw (c .if1 .left) (said-none (c .before .before .pre))))

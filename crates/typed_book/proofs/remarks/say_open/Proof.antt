@@ -1,8 +1,8 @@
--- Nothing where the book is not open. Assumes nothing.
+-- An open book. Assumes nothing.
 use native.Mathlib.Omega.{arith}
 use borrow.Author.Tests.{eq-eqb, ne-eqb}
-use Rattle.typed_book.specs.Remarks.{openText}
 use Rattle.printing.proofs.Sayings.{said-none}
+use Rattle.typed_book.specs.Remarks.{openText}
 use borrow.Author.Needs.{needs}
 use Rattle.typed_book.proofs.remarks.say_open.Statement.{statement}
 use Rattle.typed_book.proofs.remarks.say_open.Tie as tie

@@ -1,9 +1,9 @@
--- Twenty are told. Assumes nothing.
+-- A line with a word. Assumes nothing.
 use native.Mathlib.Omega.{arith}
-use mathlib.Core.Path.{sym, _∙_}
-use borrow.Author.Tests.{not-true, not-false, le-leb, lt-leb}
-use Rattle.typed_book.specs.Remarks.{remarkText}
+use mathlib.Core.Path.{refl, sym, ap, _∙_}
+use borrow.Author.Tests.{not-true, not-false}
 use Rattle.printing.proofs.Sayings.{_⟫_, said-none}
+use Rattle.typed_book.specs.Remarks.{remarkText}
 use borrow.Author.Needs.{needs}
 use Rattle.typed_book.proofs.remarks.say_remark.Statement.{statement}
 use Rattle.typed_book.proofs.remarks.say_remark.Tie as tie
@@ -14,26 +14,12 @@ say-remark-spec =
     tie.close
     (tie.spec
     (λ c κs. search needs)
-    (λ c κs. search needs)
-    (λ c. search needs)
-    (λ c.
-    let none = sym (c .before .before .before .before .before .failed .ensures) ∙ not-true _ (c .before .before .before .before .if1 .taken) in
-    rw none (c .before .before .say-ended .ensures))
-    (λ c.
-    let some = sym (c .before .before .before .failed .ensures) ∙ not-false _ (c .before .before .if1 .left) in
-    rw (some, le-leb _ _ (c .if2 .taken)) (said-none (omega arith)))
+    (λ c. rw (sym (c .before .has-word .ensures) ∙ not-true _ (c .if1 .taken)) (said-none (omega arith)))
     (λ c κs. search needs)
     (λ c κs. search needs)
-    (λ c. search needs)
     (λ c κs. search needs)
     (λ c. search needs)
     (λ c.
     let p1 = c .before .before in
     let p2 = p1 .before .before .before .before .before in
-    let p3 = p2 .before .before .before .before in
-    let some =
-    sym (c .before .before .before .before .before .before .before .before .before .before .before .before .before .before .before .before .failed
-    .ensures) ∙ not-false _ (c .before .before .before .before .before .before .before .before .before .before .before .before .before .before
-    .before .if1 .left) in
-    rw (some, lt-leb _ _ (c .before .before .before .before .before .before .before .before .before .before .before .before .before .if2 .left))
-    (p3 .say-line .ensures ⟫ p2 .say-words .ensures ⟫ p1 .say .ensures)))
+    rw (sym (p2 .before .before .before .has-word .ensures) ∙ not-false _ (p2 .before .before .if1 .left)) (rw (p1 .before .early .ensures) at (p2 .say-early .ensures ⟫ p1 .say-rest .ensures))))

@@ -1,6 +1,6 @@
 -- By what became of the line. Assumes nothing.
-use Rattle.typed_book.specs.Remarks.{wordsOf}
 use Rattle.printing.proofs.Sayings.{said-none}
+use Rattle.typed_book.specs.Remarks.{wordsOf}
 use borrow.Author.Needs.{needs}
 use Rattle.typed_book.proofs.remarks.say_words.Statement.{statement}
 use Rattle.typed_book.proofs.remarks.say_words.Tie as tie
@@ -17,7 +17,7 @@ say-words-spec =
     (λ c. search needs)
     (λ c κs. search needs)
     (λ c. search needs)
-    (λ c κs. search needs)
+    (λ c. search needs)
     (λ c. search needs)
     (λ c. search needs)
     (λ c. search needs)
@@ -25,8 +25,8 @@ say-words-spec =
     (λ c. search needs)
     (λ c. rw (c .before .before .before .before .enum-told .given .1) (c .before .before .say-withheld .ensures))
     (λ c. search needs)
-    (λ c. rw (c .before .before .before .before .enum-told2 .given .1) (c .before .before .say-without .ensures))
-    (λ c. search needs)
     (λ c. rw (c .before .before .before .before .before .fate2 .given .1) (c .before .before .say-refused .ensures))
-    (λ c. rw (c .enum-told3 .given .1) (said-none (c .before .before .before .before .pre)))
-    (λ c. rw (c .enum-told4 .given .1) (said-none (c .before .before .before .before .pre))))
+    (λ c. rw (c .enum-told2 .given .1) (said-none (c .before .before .before .before .before .before .pre .0)))
+    (λ c. rw (c .enum-told3 .given .1) (said-none (c .before .before .before .before .before .before .pre .0)))
+    (λ c. rw (c .enum-told4 .given .1) (said-none (c .before .before .before .before .before .before .pre .0)))
+    (λ c. rw (c .enum-told5 .given .1) (said-none (c .before .before .before .before .before .before .pre .0))))

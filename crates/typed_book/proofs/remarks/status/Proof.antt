@@ -1,4 +1,6 @@
--- By the tests. Assumes nothing.
+-- By the test. Assumes nothing.
+use mathlib.Core.Path.{refl, sym, ap, _∙_}
+use borrow.Author.Needs.{needs}
 use Rattle.typed_book.proofs.remarks.status.Statement.{statement}
 use Rattle.typed_book.proofs.remarks.status.Tie as tie
 
@@ -6,5 +8,5 @@ pub status-spec : {M : Type 1} → statement M
 status-spec =
     tie.close
     (tie.spec
-    (λ c. rw (c .if1 .taken))
-    (λ c. rw (c .if1 .left)))
+    (λ c. rw (c .if1 .taken) refl)
+    (λ c. rw (c .if1 .left) refl))
