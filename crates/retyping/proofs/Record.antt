@@ -15,12 +15,12 @@ use Rattle.typed_words.specs.Words.{nthWord}
 use Rattle.names.specs.Names.{kindName, valueText}
 use Rattle.text_lines.specs.Lines.{has, kept, unmarked, isMarked}
 use Rattle.text_lines.proofs.Bytes.{before-all, has-behind}
-use Rattle.codec.specs.Table.{table, fields, rowKind, Of, isKind, lastKind, lastRow}
+use Rattle.codec.specs.Table.{table, fields, rowKind, Of, isKind, lastKind, lastRow, recordMost}
 use Rattle.base.proofs.Tests.{and-false, by-test, not-false}
 use Rattle.account.specs.Judge.{WholeRecord, versionOf, kindByte, kindOf, valuesOf, judge}
 use Rattle.book.specs.declared.State.{State}
 use Rattle.book.specs.State.{holding}
-use Rattle.make_record.specs.Write.{write, Ready}
+use Rattle.make_record.specs.Write.{Write, write, Ready}
 use Rattle.make_record.specs.declared.Answer.the-variants as answers
 use Rattle.make_record.proofs.Rows.{kind-again}
 use Rattle.account.proofs.Refusals.{judged-passes}
@@ -30,13 +30,16 @@ use Rattle.typed_line.specs.declared.Said.the-variants as said
 use Rattle.typed_line.specs.Line.{rowOfLine, valuesFrom, entry, lineOf, completedOf, valuesIn, writeEntry}
 use Rattle.typed_line.proofs.Lines.{kept as entry-kept}
 use Rattle.typed_book.specs.declared.Typist.{Typist}
-use Rattle.typed_book.specs.declared.Fate.the-variants.{Wrote}
-use Rattle.typed_book.specs.Typist.{writtenAs, byWrite, inGroup, recordTurn, turn}
-use Rattle.typed_book.proofs.Fates.{is-judged, by-said}
+use Rattle.typed_book.specs.declared.Lost.{Lost}
+use Rattle.typed_book.specs.declared.Fate.the-variants.{Waits, Wrote}
+use Rattle.typed_book.specs.Typist.{inGroup, notLost, hears, early, runEnded, waits, writtenAs, byWrite, closeBy, withheld, judgedTurn}
+use Rattle.typed_book.specs.Typist.{recordTurn, turn, ownClose, endBy, closingTurn}
+use Rattle.typed_book.proofs.Fates.{is-close, is-judged, not-headless, said-turn}
 use Rattle.retyping.proofs.Words.{Word, first-is, past-is, none-in-word}
 use Rattle.retyping.specs.Typed.{valuesTyped}
 use Rattle.retyping.specs.Book.{Typable}
 use Rattle.retyping.proofs.Steps.{typable, typable-of}
+use Rattle.retyping.proofs.Close.{close-counts}
 use Rattle.retyping.proofs.Tables.{name-word, name-some, name-short, kind-back, fields-some, fields-few}
 use Rattle.retyping.proofs.Values.{AllBack, all-back, typed-ends, first-typed, next-typed, no-more-typed, none-in-typed, typed-length}
 
@@ -187,18 +190,30 @@ module _ (k : ℕ) (v : List ℕ) (least : 1 ≤ k) (most : k ≤ lastRow) (coun
 
 -- ---- a typist to whom nothing has happened
 
--- no line failed, and no heading is lost
+-- no line failed, no heading is lost, no close waits, no run is open, and nothing was told
 pub record Clean (t : Typist) : Type 0 where
-  pub lost : t .lost ≡ 0
+  pub lost : t .lost .line ≡ 0
   pub failed : t .failed ≡ 0
-  pub told : t .told ≡ 0
+  pub close : t .waiting .close ≡ 0
+  pub run : t .waiting .first ≡ 0
+  pub told : t .counts .told ≡ 0
 
-pub clean-on : (t : Typist) → Clean t → (e : Entry) (s : State) → Clean (writtenAs t e s)
-clean-on t c e s = record { lost = rw (c .lost) (both (eqb (e .kind) 2) 0); failed = c .failed; told = c .told }
+pub clean-on : (t : Typist) → Clean t → (k : ℕ) (e : Entry) (s : State) → Clean (writtenAs (hears t k) e s)
+clean-on t c k e s =
+    record { lost = still (eqb (e .kind) 2) (t .lost) (c .lost); failed = c .failed; close = c .close; run = c .run; told = c .told }
   where
-    both : (b : Bool) (n : ℕ) → pick b n n ≡ n
-    both true n = refl
-    both false n = refl
+    still : (b : Bool) (l : Lost) → l .line ≡ 0 → pick b notLost l .line ≡ 0
+    still true l z = refl
+    still false l z = z
+
+-- no close is too early, and no run has to end
+none-early : (t : Typist) → t .waiting .close ≡ 0 → early t ≡ t
+unfolding early
+none-early t z = rw (eq-eqb _ _ z) refl
+
+pub no-run : (t : Typist) → t .waiting .first ≡ 0 → runEnded t ≡ t
+unfolding runEnded
+no-run t z = rw (eq-eqb _ _ z) refl
 
 nothing-failed : (a b c : Bool) → c ≡ true → (a && (b && not c)) ≡ false
 nothing-failed true true c e = rw e
@@ -209,21 +224,41 @@ nothing-lost : (a c : Bool) → c ≡ true → (a && not c) ≡ false
 nothing-lost true c e = rw e
 nothing-lost false c e = refl
 
--- an entry of a clean typist goes to the writer
-pub goes-on : (t : Typist) → Clean t → (n : ℕ) (e : Entry) (room : ℕ) → recordTurn t n e room ≡ byWrite t n e (writeEntry (t .state) e room)
-goes-on t c n e room =
-    is-judged t n e room
-    (nothing-failed (eqb (e .kind) 8) (eqb (t .state .account .stage) 1) (eqb (t .failed) 0) (eq-eqb _ _ (c .failed)))
-    (nothing-lost (inGroup (e .kind)) (eqb (t .lost) 0) (eq-eqb _ _ (c .lost)))
+-- an entry of a clean typist is judged
+module _ (t : Typist) (c : Clean t) (n : ℕ) (e : Entry) (room : ℕ) where
+  abbrev hearing : Typist
+  hearing = hears t (e .kind)
+
+  is-judging : recordTurn (early hearing) n e room ≡ judgedTurn hearing n e room
+  is-judging =
+      ap (λ (x : Typist). recordTurn x n e room) (none-early hearing (c .close))
+      ∙ sym (not-headless hearing n e room (nothing-lost (inGroup (e .kind)) (eqb (t .lost .line) 0) (eq-eqb _ _ (c .lost))))
+      ∙ ap (λ (x : Typist). judgedTurn x n e room) (no-run hearing (c .run))
+
+  not-withheld : withheld hearing e ≡ false
+  not-withheld = nothing-failed (eqb (e .kind) 8) (eqb (t .state .account .stage) 1) (eqb (t .failed) 0) (eq-eqb _ _ (c .failed))
+
+  -- it goes to the writer, and a close waits where the writer would write it
+  pub goes-on : eqb (e .kind) 8 ≡ false → recordTurn (early hearing) n e room ≡ byWrite hearing n e (writeEntry (t .state) e room)
+  goes-on k = is-judging ∙ sym (is-judged hearing n e room not-withheld k)
+
+  pub goes-waiting : e .kind ≡ 8 → recordTurn (early hearing) n e room ≡ closeBy (writeEntry (t .state) e recordMost .answer) hearing n e
+  goes-waiting k = is-judging ∙ sym (is-close hearing n e room not-withheld k)
+
+-- the close at the end of the text counts the records before it
+own-close : (s : State) (room : ℕ) → writeEntry s ownClose room ≡ write s 8 (s .account .records ∷ []) room
+unfolding completedOf
+own-close s room = refl
 
 -- ---- one record
 
 module _ (s : State) (y : Ready s) (r : List ℕ) (w : WholeRecord r) (b : Bytes r) (h : judge (s .account) r .account .stage ≡ 3 → ⊥) where
-  long : length r ≤ 28
-  long = omega (arith, w .long, w .high)
+  -- the state after it
+  abbrev next : State
+  next = holding (judge (s .account) r .account) []
 
-  again : write s (kindByte r) (valuesOf r) 28 ≡ record { state = holding (judge (s .account) r .account) []; bytes = r; answer = answers.Wrote }
-  again = written-again s r 28 y b w h long
+  again : write s (kindByte r) (valuesOf r) recordMost ≡ record { state = next; bytes = r; answer = answers.Wrote }
+  again = written-again s r recordMost y b w h (omega (arith, w .long, w .high))
 
   kinds : isKind (kindByte r) ≡ true
   kinds = not-false _ (judged-passes (s .account) r h .kind)
@@ -237,22 +272,15 @@ module _ (s : State) (y : Ready s) (r : List ℕ) (w : WholeRecord r) (b : Bytes
   all : AllBack (kindOf r) 0 (valuesOf r)
   all = all-back (kindOf r) (valuesOf r) of (typed .ranges)
 
-  -- the law of one record: its line, typed in any line n by a clean typist with the reader's state, is written, and is the same bytes
-  pub record-again : (t : Typist) → Clean t → t .state ≡ s → (n : ℕ)
-      → turn t n (typedLine (kindOf r) (valuesOf r)) 28 ≡ record {
-        typist = writtenAs t (entry (kindByte r) (valuesOf r)) (holding (judge (s .account) r .account) []);
-        fate = Wrote (kindByte r);
-        bytes = r;
-      }
-  record-again t c e n =
-      let k = kindOf r in
-      let v = valuesOf r in
-      let own : rowKind k ≡ kindByte r = sym (kind-again (versionOf r) (kindByte r) kinds) in
-      let line = says k v (of .least) (of .most) (of .count) all ∙ ap (λ (j : ℕ). record { said = said.Record; entry = entry j v }) own in
-      by-said t n (typedLine k v) 28 (sym line) said.Record refl
-      ∙ goes-on t c n (entry (kindByte r) v) 28
-      ∙ ap (byWrite t n (entry (kindByte r) v)) (ap (λ (x : State). writeEntry x (entry (kindByte r) v) 28) e
-      ∙ written k v (of .least) (of .most) (of .count) all (kindByte r) s 28 ∙ again)
+  -- the entry that its line says
+  abbrev said′ : Entry
+  said′ = entry (kindByte r) (valuesOf r)
+
+  line-says : lineOf (typedLine (kindOf r) (valuesOf r)) ≡ record { said = said.Record; entry = said′ }
+  line-says =
+      let own : rowKind (kindOf r) ≡ kindByte r = sym (kind-again (versionOf r) (kindByte r) kinds) in
+      says (kindOf r) (valuesOf r) (of .least) (of .most) (of .count) all
+      ∙ ap (λ (j : ℕ). record { said = said.Record; entry = entry j (valuesOf r) }) own
 
   -- its line is kept whole, and has no line feed in it
   pub line-whole : (n : ℕ) → unmarked n (kept (typedLine (kindOf r) (valuesOf r))) ≡ typedLine (kindOf r) (valuesOf r)
@@ -262,3 +290,34 @@ module _ (s : State) (y : Ready s) (r : List ℕ) (w : WholeRecord r) (b : Bytes
 
   pub line-one : has 10 (typedLine (kindOf r) (valuesOf r)) ≡ false
   line-one = no-line-feed (kindOf r) (valuesOf r) (of .least) (of .most) (of .count) all
+
+  module _ (t : Typist) (e : t .state ≡ s) where
+    answered : writeEntry (t .state) said′ recordMost ≡ record { state = next; bytes = r; answer = answers.Wrote }
+    answered =
+        ap (λ (x : State). writeEntry x said′ recordMost) e
+        ∙ written (kindOf r) (valuesOf r) (of .least) (of .most) (of .count) all (kindByte r) s recordMost ∙ again
+
+    -- the law of one record: its line, typed in any line n by a clean typist with the reader's state, is written, and is the same bytes
+    pub record-again : Clean t → (n : ℕ) → eqb (kindByte r) 8 ≡ false
+        → turn t n (typedLine (kindOf r) (valuesOf r)) recordMost
+        ≡ record { typist = writtenAs (hears t (kindByte r)) said′ next; fate = Wrote (kindByte r); bytes = r }
+    record-again c n k =
+        sym (said-turn t n (typedLine (kindOf r) (valuesOf r)) recordMost (sym line-says))
+        ∙ goes-on t c n said′ recordMost k ∙ ap (byWrite (hears t (kindByte r)) n said′) answered
+
+    -- a close waits
+    pub close-again : Clean t → (n : ℕ) → kindByte r ≡ 8
+        → turn t n (typedLine (kindOf r) (valuesOf r)) recordMost ≡ record { typist = waits (hears t (kindByte r)) n; fate = Waits; bytes = [] }
+    close-again c n k =
+        sym (said-turn t n (typedLine (kindOf r) (valuesOf r)) recordMost (sym line-says))
+        ∙ goes-waiting t c n said′ recordMost k ∙ ap (λ (x : Write). closeBy (x .answer) (hears t (kindByte r)) n said′) answered
+
+    -- and at the end of the text it is written, the same bytes
+    pub closed-again : kindByte r ≡ 8 → closingTurn t recordMost ≡ record { typist = writtenAs t ownClose next; fate = Wrote 8; bytes = r }
+    closed-again k =
+        let counts = close-counts (s .account) r h k in
+        let answer : writeEntry (t .state) ownClose recordMost ≡ record { state = next; bytes = r; answer = answers.Wrote } =
+        ap (λ (x : State). writeEntry x ownClose recordMost) e ∙ own-close s recordMost
+        ∙ ap (λ (j : ℕ). write s j (s .account .records ∷ []) recordMost) (sym k)
+        ∙ ap (λ (v : List ℕ). write s (kindByte r) v recordMost) (sym counts) ∙ again in
+        ap (λ (x : Write). endBy (x .answer) t (x .state) (x .bytes)) answer

@@ -8,8 +8,11 @@ use Rattle.names.specs.Names.{kindName, valueText}
 use Rattle.account.specs.declared.Account.{Account}
 use Rattle.account.specs.Judge.{WholeRecord, kindOf, valuesOf, judge}
 use Rattle.account.specs.Line.{joined}
+use Rattle.book.specs.declared.State.{State}
 use Rattle.book.specs.State.{holding}
-use Rattle.typed_book.specs.Text.{Typed, bytesTyped}
+use Rattle.typed_book.specs.Typist.{beginning}
+use Rattle.typed_book.specs.Text.{textLines}
+use Rattle.typed_book.specs.Parts.{Output, whole}
 
 -- the values of a row, from field i on, with a blank before each
 unfoldable pub valuesTyped : ℕ → ℕ → List ℕ → List ℕ
@@ -42,9 +45,13 @@ unfoldable pub accountBehind : Account → List (List ℕ) → Account
 accountBehind a [] = a
 accountBehind a (r ∷ rs) = accountBehind (judge a r .account) rs
 
+-- what a text gives that is typed after the records of a state: its lines, and then its end, where a close that waited is written
+abbrev pub typedWhole : State → List ℕ → Output
+typedWhole s text = whole (beginning s) (textLines text)
+
 -- what typing their text gives: the records' own bytes and the reader's account; no line failed, and none is told of
-pub record SameBytes (a : Account) (rs : List (List ℕ)) (x : Typed) : Type 0 where
-  pub bytes : bytesTyped (x .turns) ≡ joined rs
+pub record SameBytes (a : Account) (rs : List (List ℕ)) (x : Output) : Type 0 where
+  pub bytes : x .bytes ≡ joined rs
   pub state : x .typist .state ≡ holding (accountBehind a rs) []
   pub failed : x .typist .failed ≡ 0
-  pub told : x .typist .told ≡ 0
+  pub told : x .typist .counts .told ≡ 0
