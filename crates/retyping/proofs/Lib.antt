@@ -1,4 +1,5 @@
 pub mod Words
+pub mod Examples
 pub mod Decimals
 pub mod Tables
 pub mod Values
