@@ -13,7 +13,9 @@ put-record-spec =
     tie.close
     (tie.spec
     (λ c κs. omega (arith, c .before .before .pre .0 .long))
-    (λ c κs. let s = c .before .before .before in values-there (s .args .bytes .now) (s .pre .0) (c .row-at .ensures))
+    (λ c κs.
+    let s = c .before .before .before in
+    let v = values-there (s .args .bytes .now) (s .pre .0) (c .row-at .ensures) in (v .0, omega (arith, v .1)))
     (λ c κs. search needs)
     (λ c κs. let c6 = c .before .before .before .before .before .before in omega (arith, c6 .pre .1))
     (λ c.
