@@ -13,7 +13,6 @@ use Rattle.typed_words.specs.Words.{leadingOf, nthWord, sameText, lowered, nthP
 use Rattle.typed_words.specs.Amounts.{numberFrom, amountOf}
 use Rattle.names.specs.Names.{kindTable, fieldTable, expectedTable, choiceTable, chosenFrom, decimalsTable}
 use Rattle.typed_line.specs.declared.Said.the-variants.{Record}
-use Rattle.typed_line.specs.declared.Line.{Line}
 use Rattle.typed_line.specs.Line.{namedFrom, kindOf, rowOfLine, valueAt, valuesFrom, valuesIn, lineOf}
 use Rattle.kinds_screen.specs.Screen.{exampleTable, exampleOf, fieldsFrom, rowsFrom, screenText}
 
