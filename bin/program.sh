@@ -1,6 +1,7 @@
 # Sourced by the scripts of the programs. They set $here (this folder), $name, $sample, $about and $example (for --help), $bytes (yes where
-# the program writes a book's bytes) and $heading (names of the columns, for a terminal). Runs the program on a file, on standard input (-)
-# or, with no argument, on the sample; builds it when it is not there or older than its source. --help says what the exit statuses mean.
+# the program writes a book's bytes), $heading (names of the columns, for a terminal) and $option (a word: with --WORD the program is given it
+# too and reads nothing). Runs the program on a file, on standard input (-) or, with no argument, on the sample; builds it when it is not there
+# or older than its source. --help says what the exit statuses mean.
 root=${here%/*}
 program=$root/target/bin/$name
 
@@ -39,11 +40,12 @@ version() {
 }
 
 [ $# -le 1 ] || misused "one argument at most"
-input=${1-$root/$sample}
+input=${1-$root/$sample} more=
 case $input in
 '') misused "the name of the file is empty" ;;
 -h | --help) help; exit 0 ;;
 --version) version; exit 0 ;;
+"--${option:-help}") more=$option input=/dev/null bytes='' heading='' ;; # a text, for a terminal too
 - | /dev/stdin) input=- ;;
 -*) misused "there is no option $input" ;;
 *)
@@ -94,7 +96,7 @@ fi
 # A program has no exit status: with the word `status` it writes, as its last act, 0 or 1 on descriptor 3. It is told of a closed pipe, and tells it.
 trap '' PIPE
 exec 4>&1
-status=$("$@" status 3>&1 >&4 4>&-) || status=
+status=$("$@" status ${more:+"$more"} 3>&1 >&4 4>&-) || status=
 case $status in
 0 | 1) exit "$status" ;;
 *) stop 1 "the program did not come to its end" ;;

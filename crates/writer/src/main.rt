@@ -1,4 +1,5 @@
-// Reads a typed book on standard input and writes its bytes on standard output; what is said goes to standard error.
+// Reads a typed book on standard input and writes its bytes on standard output; what is said goes to standard error. With two arguments it shows
+// the kinds on standard output and reads nothing.
 use book::State;
 use libc::STDERR_FILENO;
 use libc::STDIN_FILENO;
@@ -161,7 +162,19 @@ fn say_end(w: Work) {
     }
 }
 
-fn main() {
+// The kinds on a screen; the status is 0 where they were written.
+fn show_kinds() {
+    let mut text = [0u8; 4096];
+    let n = kinds_screen::say_screen(&mut text);
+    if io::write_all(STDOUT_FILENO, up_to(&text, n)) {
+        io::write_all(STATUS_FILENO, b"0");
+        return;
+    }
+    os::fail(b"standard output");
+    io::write_all(STATUS_FILENO, b"1");
+}
+
+fn type_book() {
     let mut line = [0u8; 1027];
     let typist = Typist::new(State::new());
     let typing = Typing {
@@ -178,4 +191,13 @@ fn main() {
         },
     );
     say_end(end_text(last_line(&line, last)));
+}
+
+// `writer status kinds` shows the kinds.
+fn main() {
+    if os::arg_count() == 3 {
+        show_kinds();
+    } else {
+        type_book();
+    }
 }

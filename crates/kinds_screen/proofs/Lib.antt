@@ -1,0 +1,3 @@
+mod Steps
+pub mod Examples
+pub mod OneAnswer
