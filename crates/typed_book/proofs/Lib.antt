@@ -1,6 +1,7 @@
 pub mod Calls
 mod Commas
 pub mod Fates
+pub mod HeadingTyped
 pub mod InParts
 pub mod OneAnswer
 mod Unusuals
