@@ -163,7 +163,7 @@ three s k v room r early c g =
       g,
     )
 
-completed-kind : (e : Entry) (records : ℕ) → completedOf e records .kind ≡ e .kind
+pub completed-kind : (e : Entry) (records : ℕ) → completedOf e records .kind ≡ e .kind
 unfolding completedOf
 completed-kind e records =
     of-choice (λ (d : Entry). d .kind ≡ e .kind) (eqb (e .kind) 8 && eqb (e .count) 0)
@@ -319,14 +319,14 @@ said-keeps m h t k n l (said.Wrong kind place) e =
       under = λ z early′. still-lost (mayHead kind) n (pick (eqb kind 2) 0 1) (x .lost) m h _ l z (λ w. y .under w early′);
     }
 
-line-keeps : (m : Mark) (h : List ℕ) (t : Typist) → Kept m h t → (l : Numbered) → 1 ≤ l .number
+pub line-keeps : (m : Mark) (h : List ℕ) (t : Typist) → Kept m h t → (l : Numbered) → 1 ≤ l .number
     → Kept (markLine m l) (pick (eqb (kindWritten (lineTurn t l .fate)) 2) (lineTurn t l .bytes) h) (lineTurn t l .typist)
 unfolding turn
 line-keeps m h t k l p = said-keeps m h t k (l .number) p (lineOf (textOf l) .said) (lineOf (textOf l) .entry)
 
 -- ---- all lines
 
-one-more : (n : ℕ) → 1 ≤ n → 1 ≤ oneMore n
+pub one-more : (n : ℕ) → 1 ≤ n → 1 ≤ oneMore n
 one-more n h = of-choice (λ (x : ℕ). 1 ≤ x) (ltb n 18446744073709551615) (λ _. omega arith) (λ _. h)
 
 pub lines-keep : (lines : List (List ℕ)) (n : ℕ) → 1 ≤ n → (m : Mark) (h : List ℕ) (t : Typist) → Kept m h t

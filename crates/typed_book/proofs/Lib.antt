@@ -1,5 +1,6 @@
 pub mod Calls
 mod Commas
+pub mod ClosedMeansAll
 pub mod Fates
 pub mod HeadingTyped
 pub mod InParts

@@ -1,3 +1,4 @@
+pub mod Closed
 pub mod Headings
 pub mod Parts
 pub mod Remarks
