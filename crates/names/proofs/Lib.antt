@@ -5,4 +5,5 @@ mod Shown
 mod UsualRanges
 pub mod Ranges
 pub mod Tables
+pub mod TypedBack
 pub mod OneAnswer

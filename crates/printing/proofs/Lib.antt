@@ -1,6 +1,7 @@
 pub mod Digits
 pub mod Examples
 pub mod Points
+pub mod PointedLength
 pub mod Joined
 pub mod Puts
 pub mod Sayings

@@ -24,8 +24,7 @@ use Rattle.book.proofs.Ranges.{range-test, range-idle}
 use Rattle.book.specs.Front.{Front, unfinished, badLength, whole, need, front}
 use Rattle.book.proofs.RecordRuns.{record-whole}
 use Rattle.book.specs.WholeRecords.{beginsWith, recordsBy, recordsOf}
-use Rattle.typed_book.specs.Text.{typedText, bytesTyped}
-use Rattle.retyping.specs.Typed.{lineTyped, textTyped, Accepted, AllAccepted, SameBytes}
+use Rattle.retyping.specs.Typed.{lineTyped, textTyped, Accepted, AllAccepted, typedWhole, SameBytes}
 use Rattle.retyping.specs.Book.{acceptedOf, acceptedIn, lengthBy, wholeLength, readOf, isReady, accepts}
 use Rattle.retyping.specs.Book.{Retyping, oneTyped, retypedBy}
 use Rattle.make_record.specs.Write.{Ready}
@@ -191,10 +190,10 @@ book-typed xs = typed-by (suc (length xs)) noRecord xs in-range-none
 
 -- the theorem: the text of a book's accepted records, typed again, gives the bytes that the book begins with, and no line fails
 module _ (xs : List ℕ) (b : Bytes xs) where
-  pub book-retyped : SameBytes noRecord (acceptedIn xs) (typedText noRecordYet (textTyped (acceptedIn xs)))
+  pub book-retyped : SameBytes noRecord (acceptedIn xs) (typedWhole noRecordYet (textTyped (acceptedIn xs)))
   unfolding recordsOf
   book-retyped = retyped (acceptedIn xs) (all-accepted noRecord (recordsOf xs) (sound-by (suc (length xs)) xs b))
 
-  pub book-begins : bytesTyped (typedText noRecordYet (textTyped (acceptedIn xs)) .turns) ≡ take (length (joined (acceptedIn xs))) xs
+  pub book-begins : typedWhole noRecordYet (textTyped (acceptedIn xs)) .bytes ≡ take (length (joined (acceptedIn xs))) xs
   unfolding recordsOf
   book-begins = book-retyped .bytes ∙ sym (begins (suc (length xs)) noRecord xs)

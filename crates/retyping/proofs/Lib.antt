@@ -1,6 +1,9 @@
 pub mod Words
+pub mod Examples
 pub mod Decimals
 pub mod Tables
+pub mod Values
+pub mod Close
 pub mod Record
 pub mod SameBytes
 pub mod Steps

@@ -3,27 +3,28 @@
 use Prim.Native.Nat.{ℕ, suc, _+_, _-_, _*_, _≤_, _<_}
 use native.Mathlib.Omega.{arith}
 use native.Mathlib.Nat.{zero-add, add-zero}
+use native.Mathlib.Numerals.{add-one}
 use mathlib.Core.Path.{_≡_, refl, sym, ap, _∙_}
 use mathlib.Core.Bool.{Bool, true, false, _&&_, not}
 use mathlib.Core.List.{List, [], _∷_, _++_, append-nil, append-assoc}
-use lib.ListN.{length, take, drop, replicate, length-drop}
-use lib.Seq.{drop-drop, take-all, take-at}
+use lib.ListN.{length, getD, take, drop, replicate, length-drop, drop-of-length-le}
+use lib.Seq.{drop-drop, drop-cons, take-all, take-at}
 use lib.Dec.{eqb, ltb}
 use borrow.Author.Tests.{eq-eqb, ne-eqb, eqb-true, eqb-false, ltb-true, lt-ltb, le-ltb, not-true, not-false}
 use Rattle.base.proofs.Tests.{and-l, and-r}
-use Rattle.printing.specs.Decimal.{decimal, spaced, joined, numbersLine, Put}
+use Rattle.printing.specs.Decimal.{decimal, spaced, joined, Put}
 use Rattle.printing.specs.Said.{Said}
 use Rattle.printing.proofs.Puts.{none, put-length, and-then}
 use Rattle.printing.specs.Ascii.{ascii}
-use Rattle.names.specs.Names.{kindName, sentence}
-use Rattle.codec.specs.Table.{fields, size, lengthOf, lastRow, isRow}
-use Rattle.codec.specs.Codec.{valAt, valuesAt, inTwelve}
+use Rattle.names.specs.Names.{kindName, valueText, sentence}
+use Rattle.codec.specs.Table.{fields, size, lengthOf, lastRow, isRow, Of}
+use Rattle.codec.specs.Codec.{valAt, valuesAt, inTwelve, firstBad}
 use Rattle.codec.proofs.Values.{values-length}
 use Rattle.line_bytes.specs.Lines.{linesMost}
 use Rattle.account.specs.declared.Account.{Account}
 use Rattle.account.specs.Judge.{versionOf, kindByte, WholeRecord, kindOf, valuesOf, judge}
 use Rattle.codec.proofs.EachKind.{row-least, row-most, row-of-kind}
-use Rattle.account.proofs.Refusals.{judged-passes}
+use Rattle.account.proofs.Refusals.{passed, judged-passes}
 use Rattle.book.specs.declared.State.{State}
 use Rattle.book.specs.declared.Fed.{Fed}
 use Rattle.book.specs.Front.{Front, unfinished, badLength, whole, need, front}
@@ -34,9 +35,10 @@ use Rattle.book.proofs.Ranges.{range-parts}
 use Rattle.book.proofs.RecordRuns.{record-whole, record-in}
 use Rattle.make_record.proofs.OneRecord.{call-one}
 use Rattle.retyping.specs.declared.Retyped.{Retyped}
-use Rattle.retyping.specs.Typed.{lineTyped}
+use Rattle.retyping.specs.Typed.{valuesTyped, lineTyped}
 use Rattle.make_record.specs.Write.{Ready}
-use Rattle.retyping.proofs.Tables.{name-short, fields-some, fields-few}
+use Rattle.retyping.proofs.Tables.{name-short, fields-few}
+use Rattle.retyping.proofs.Values.{ReadsBack}
 use Rattle.retyping.specs.Book.{lengthBy, wholeLength, readOf, isReady, accepts, Retyping, typedIf, oneTyped}
 use Rattle.retyping.specs.Book.{andThen, nothingYet, retypedBy, Retypes, Typable, refusedText, endText}
 
@@ -153,7 +155,11 @@ typable a r w h =
       least = row-least k row;
       most = row-most k row;
       long = w .long ∙ ap (λ (x : ℕ). x + 2) long;
+      ranges = passed a k (valuesOf r) (t .values) .ranges;
     }
+
+pub typable-of : (r : List ℕ) → Typable r → Of (kindOf r) (valuesOf r)
+typable-of r t = record { least = t .least; most = t .most; count = values-length (fields (kindOf r)) r 4 }
 
 -- ---- one record
 
@@ -279,10 +285,50 @@ module _ {s₀ : State} {xs out₀ out : List ℕ} {s : State} {at last left : �
 
 -- ---- a record's values and its line
 
-spaced-joined : (v : List ℕ) → 0 < length v → spaced v ≡ 32 ∷ joined v
-unfolding spaced joined
-spaced-joined [] h = absurd (omega arith)
-spaced-joined (n ∷ v) h = refl
+-- a text that fits is there whole
+whole-put : {xs ys : List ℕ} {at : ℕ} (s : List ℕ) {r : ℕ} → at + length s ≤ length xs → Said xs ys at s r → Put xs ys at s r
+whole-put {xs} {ys} {at} s h p = let l : length s ≤ length xs - at = omega arith in rw (take-all (length xs - at) s l) at (p .put)
+
+-- the first i of the values vs are put
+pub record Putting (row : ℕ) (vs out₀ out : List ℕ) (at last i : ℕ) : Type 0 where
+  pub so-far : List ℕ
+  pub put : Put out₀ out at so-far last
+  pub inside : i ≤ length vs
+  pub room : last ≤ at + 21 * i
+  pub is : valuesTyped row 0 vs ≡ so-far ++ valuesTyped row i (drop i vs)
+
+pub putting-none : (row : ℕ) (vs out : List ℕ) (at : ℕ) → at ≤ length out → Putting row vs out out at at 0
+putting-none row vs out at h = record { so-far = []; put = none out at h; inside = omega arith; room = omega arith; is = refl }
+
+one-value : (row i : ℕ) (vs : List ℕ) → i < length vs
+    → valuesTyped row i (drop i vs) ≡ (32 ∷ valueText row i (getD vs i 0)) ++ valuesTyped row (i + 1) (drop (i + 1) vs)
+unfolding valuesTyped
+one-value row i vs h = rw (add-one i, drop-cons vs i 0 h) refl
+
+module _ {row : ℕ} {vs out₀ out : List ℕ} {at last i : ℕ} (g : Putting row vs out₀ out at last i) where
+  -- there is room for what is left
+  pub putting-fits : i < length vs → at + 21 * length vs ≤ length out₀ → last + 21 ≤ length out
+  putting-fits h r = omega (arith, g .room, put-length (g .put))
+
+  pub putting-on : i < length vs → at + 21 * length vs ≤ length out₀ → ReadsBack row i (getD vs i 0)
+      → {o1 o2 : List ℕ} {a1 a2 : ℕ} → Put out o1 last (32 ∷ []) a1 → Said o1 o2 a1 (valueText row i (getD vs i 0)) a2
+      → Putting row vs out₀ o2 at a2 (i + 1)
+  putting-on h r b q s =
+      let w = valueText row i (getD vs i 0) in
+      let p = whole-put w (omega (arith, putting-fits h r, put-length q, q .next, b .short)) s in
+      record {
+        so-far = g .so-far ++ (32 ∷ w);
+        put = and-then (g .put) (and-then q p);
+        inside = omega arith;
+        room = omega (arith, g .room, q .next, p .next, b .short);
+        is =
+            g .is ∙ ap (λ (l : List ℕ). g .so-far ++ l) (one-value row i vs h)
+            ∙ sym (append-assoc (g .so-far) (32 ∷ w) (valuesTyped row (i + 1) (drop (i + 1) vs)));
+      }
+
+  pub putting-end : length vs ≤ i → Put out₀ out at (valuesTyped row 0 vs) last
+  unfolding valuesTyped
+  putting-end h = rw (g .is, drop-of-length-le vs h, append-nil) (g .put)
 
 module _ (r : List ℕ) (t : Typable r) {kind : ℕ} (b : kind ≡ kindOf r) where
   pub kind-byte : kind ≡ kindOf r
@@ -296,8 +342,10 @@ module _ (r : List ℕ) (t : Typable r) {kind : ℕ} (b : kind ≡ kindOf r) whe
   pub name-put : {out out′ : List ℕ} {at last : ℕ} → at + 261 ≤ length out → Said out out′ at (kindName kind) last
       → Put out out′ at (kindName (kindOf r)) last
   name-put {out} {out′} {at} h s =
-      let l : length (kindName (kindOf r)) ≤ length out - at = omega (arith, name-short (kindOf r) (t .least) (t .most)) in
-      rw (take-all (length out - at) (kindName (kindOf r)) l) at (rw kind-byte at (s .put))
+      whole-put (kindName (kindOf r)) (omega (arith, name-short (kindOf r) (t .least) (t .most))) (rw kind-byte at s)
+
+  pub name-end : {out out′ : List ℕ} {at last : ℕ} → Put out out′ at (kindName (kindOf r)) last → last ≤ at + 7
+  name-end p = omega (arith, p .next, name-short (kindOf r) (t .least) (t .most))
 
   module _ {n : ℕ} (c : n ≡ length (fields kind)) where
     pub count-most : n ≤ 12
@@ -308,11 +356,18 @@ module _ (r : List ℕ) (t : Typable r) {kind : ℕ} (b : kind ≡ kindOf r) whe
         let l : length (valuesOf r) ≡ n = values-length (fields (kindOf r)) r 4 ∙ ap (λ (i : ℕ). length (fields i)) (sym kind-byte) ∙ sym c in
         rw (e, b) (take-at (valuesOf r) (replicate (12 - length (valuesOf r)) 0) n l)
 
-  pub line-put : {out o1 o2 o3 : List ℕ} {at a1 a2 a3 : ℕ} → Put out o1 at (kindName (kindOf r)) a1 → Put o1 o2 a1 (32 ∷ []) a2
-      → {v : List ℕ} → v ≡ valuesOf r → Put o2 o3 a2 (numbersLine v) a3 → Put out o3 at (lineTyped (kindOf r) (valuesOf r)) a3
-  line-put p q e s =
-      let some : 0 < length (valuesOf r) = omega (arith, values-length (fields (kindOf r)) r 4, fields-some (kindOf r) (t .least) (t .most)) in
-      rw (spaced-joined (valuesOf r) some) (and-then p (and-then q (rw e at s)))
+  -- v are the values that are read of it
+  module _ {v : List ℕ} (e : v ≡ valuesOf r) where
+    pub values-typable : Of kind v × (firstBad (fields kind) v 0 ≡ 0)
+    values-typable = rw (e, kind-byte) (typable-of r t, t .ranges)
+
+    pub values-few : length v ≤ 12
+    values-few = let of = typable-of r t in omega (arith, ap length e ∙ of .count, fields-few (kindOf r) (of .least) (of .most))
+
+    pub line-put : {out o1 o2 o3 : List ℕ} {at a1 a2 a3 : ℕ} → Put out o1 at (kindName (kindOf r)) a1
+        → Put o1 o2 a1 (valuesTyped kind 0 v) a2 → Put o2 o3 a2 (10 ∷ []) a3
+        → Put out o3 at (lineTyped (kindOf r) (valuesOf r)) a3
+    line-put p q s = and-then p (and-then (rw (kind-byte, e) at q) s)
 
 -- ---- the last word
 

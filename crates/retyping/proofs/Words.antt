@@ -1,4 +1,4 @@
--- The words of a typed line: a name, and numbers with a blank before each.
+-- The words of a typed line: a name, and values with a blank before each.
 -- Assumes nothing.
 use Prim.Native.Nat.{ℕ, _+_, _≤_, _<_}
 use native.Mathlib.Omega.{arith}
@@ -13,16 +13,16 @@ use Rattle.typed_words.specs.Words.{isBlank, leadingOf, firstWord, pastWord}
 use Rattle.text_lines.specs.Lines.{has}
 use Rattle.text_lines.proofs.Bytes.{index-other, has-not}
 
--- each byte of s is a digit or a letter, or stands between them
+-- each byte of s is a digit, a letter, a hyphen or a point, or stands between them
 abbrev pub Word : List ℕ → Type 0
 Word [] = Unit {0}
-Word (b ∷ s) = ((48 ≤ b) × (b ≤ 122)) × Word s
+Word (b ∷ s) = ((45 ≤ b) × (b ≤ 122)) × Word s
 
 pub word-and : (s t : List ℕ) → Word s → Word t → Word (s ++ t)
 word-and [] t p q = q
 word-and (b ∷ s) t p q = (p .0, word-and s t (p .1) q)
 
-not-blank : (b : ℕ) → 48 ≤ b → isBlank b ≡ false
+not-blank : (b : ℕ) → 45 ≤ b → isBlank b ≡ false
 not-blank b h =
     let e32 : b ≡ 32 → ⊥ = λ e. omega arith in
     let e9 : b ≡ 9 → ⊥ = λ e. omega arith in
@@ -35,7 +35,7 @@ unfolding leadingOf
 word-length [] rest p e = e
 word-length (b ∷ w) rest p e = rw (not-blank b (p .0 .0), word-length w rest (p .1) e)
 
-no-blanks : (b : ℕ) (s : List ℕ) → 48 ≤ b → leadingOf true (b ∷ s) ≡ 0
+no-blanks : (b : ℕ) (s : List ℕ) → 45 ≤ b → leadingOf true (b ∷ s) ≡ 0
 unfolding leadingOf
 no-blanks b s h = rw (not-blank b h)
 
@@ -59,11 +59,11 @@ pub past-blank : (s : List ℕ) → pastWord (32 ∷ s) ≡ pastWord s
 unfolding leadingOf
 past-blank s = refl
 
--- b stands before the digits, and is in no word
-pub none-in-word : (b : ℕ) → b < 48 → (w : List ℕ) → Word w → has b w ≡ false
+-- b stands before the hyphen, and is in no word
+pub none-in-word : (b : ℕ) → b < 45 → (w : List ℕ) → Word w → has b w ≡ false
 none-in-word b h w p = has-not b w (index b h w p)
   where
-    index : (b : ℕ) → b < 48 → (w : List ℕ) → Word w → length w ≤ indexOf b w
+    index : (b : ℕ) → b < 45 → (w : List ℕ) → Word w → length w ≤ indexOf b w
     index b h [] p = omega arith
     index b h (c ∷ w) p =
         let e : c ≡ b → ⊥ = λ q. omega (arith, p .0 .0) in

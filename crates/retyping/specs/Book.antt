@@ -9,7 +9,8 @@ use Rattle.base.specs.Choice.{pick}
 use Rattle.printing.specs.Ascii.{ascii}
 use Rattle.printing.specs.Decimal.{joined, Put}
 use Rattle.names.specs.Names.{sentence}
-use Rattle.codec.specs.Table.{lengthOf, lastRow}
+use Rattle.codec.specs.Table.{fields, lengthOf, lastRow}
+use Rattle.codec.specs.Codec.{firstBad}
 use Rattle.line_bytes.specs.Lines.{linesMost}
 use Rattle.account.specs.declared.Account.{Account}
 use Rattle.account.specs.declared.Refusal.{Refusal}
@@ -100,11 +101,12 @@ pub record Retypes (x : Retyping) (out out′ : List ℕ) (at : ℕ) (r : Retype
   pub more : r .more ≡ x .more
   pub put : Put out out′ at (x .text) (r .written)
 
--- r is a record whose row is one of the table, with the length of its row
+-- r is a record whose row is one of the table, with the length of its row, and each value in its range
 pub record Typable (r : List ℕ) : Type 0 where
   pub least : 1 ≤ kindOf r
   pub most : kindOf r ≤ lastRow
   pub long : length r ≡ lengthOf (kindOf r) + 2
+  pub ranges : firstBad (fields (kindOf r)) (valuesOf r) 0 ≡ 0
 
 -- ---- the end
 

@@ -8,19 +8,21 @@ use book::State;
 use codec::numbers::be16;
 use names::say_kind;
 use names::say_sentence;
+use names::say_value;
 use printing::put_byte;
-use printing::put_numbers;
 use printing::say;
 use printing::say_number;
 ghost use mathlib.Core.Path.{_≡_};
-ghost use Prim.Native.Nat.{_+_, _≤_};
+ghost use Prim.Native.Nat.{_+_, _*_, _≤_};
 ghost use lib.ListN.{length, take, drop};
 ghost use mathlib.Core.List.{_∷_, []};
 ghost use Rattle.printing.specs.Decimal.{joined, Put};
 ghost use Rattle.printing.specs.Said.{Said};
+ghost use Rattle.codec.specs.Table.{fields, Of};
+ghost use Rattle.codec.specs.Codec.{firstBad};
 ghost use Rattle.account.specs.Judge.{kindOf, valuesOf};
 ghost use Rattle.book.specs.Call.{fedOf};
-ghost use Rattle.retyping.specs.Typed.{lineTyped};
+ghost use Rattle.retyping.specs.Typed.{valuesTyped, lineTyped};
 ghost use Rattle.retyping.specs.Book.{wholeLength, readOf, isReady, accepts, oneTyped, retypedBy, Retypes, Typable};
 ghost use Rattle.retyping.specs.Book.{refusedText, endText, statusByte};
 
@@ -41,6 +43,24 @@ fn row_at(bytes: &[u8]) -> u64
     row as u64
 }
 
+// The values of a row, each as a person types it, with a blank before it: at most 21 bytes a value.
+fn put_values(out: &mut [u8], at: usize, row: u64, values: &[u64]) -> usize
+    requires { ⌜ Of row (now values) ⌝ }
+    requires { ⌜ firstBad (fields row) (now values) 0 ≡ 0 ⌝ }
+    requires { ⌜ at + 21 * length (now values) ≤ length (now out) ⌝ }
+    ensures { λ r. ⌜ Put (now (out .entry)) (now (out .exit)) at (valuesTyped row 0 (now (values .entry))) r ⌝ }
+    ensures { λ r. ⌜ r ≤ at + 21 * length (now (values .entry)) ⌝ }
+{
+    let mut end = at;
+    let mut i = 0;
+    while i < values.len() {
+        let blank = put_byte(out, end, b' ');
+        end = say_value(out, blank, row, i, values[i]);
+        i += 1;
+    }
+    end
+}
+
 // The line that a person types for a record: its kind's name, its values, and the line feed.
 fn put_record(out: &mut [u8], at: usize, bytes: &[u8]) -> usize
     requires { ⌜ Typable (now bytes) ⌝ }
@@ -52,8 +72,8 @@ fn put_record(out: &mut [u8], at: usize, bytes: &[u8]) -> usize
     let values = codec::by_row::read(kind, bytes, 4);
     let n = codec::kinds::values_of(kind);
     let name = say_kind(out, at, kind);
-    let blank = put_byte(out, name, b' ');
-    put_numbers(out, blank, &values[..n])
+    let end = put_values(out, name, kind, &values[..n]);
+    put_byte(out, end, b'\n')
 }
 
 // The bytes of the record that lies whole at the front; 0 where none does.

@@ -1,13 +1,10 @@
--- The name, a blank, and the values with the line feed. Assumes nothing.
+-- The name, the values, and the line feed. Assumes nothing.
 use mathlib.Core.Path.{sym}
 use native.Mathlib.Omega.{arith}
 use borrow.Author.Needs.{needs}
-use lib.ListN.{length-take}
 use lib.Seq.{length-take-le}
-use Rattle.account.specs.Judge.{kindOf}
 use Rattle.printing.proofs.Puts.{put-length}
-use Rattle.retyping.proofs.Tables.{name-short}
-use Rattle.retyping.proofs.Steps.{values-there, name-put, count-most, values-first, line-put}
+use Rattle.retyping.proofs.Steps.{values-there, name-put, name-end, count-most, values-first, values-typable, values-few, line-put}
 use Rattle.retyping.proofs.put_record.Statement.{statement}
 use Rattle.retyping.proofs.put_record.Tie as tie
 
@@ -16,80 +13,62 @@ put-record-spec =
     tie.close
     (tie.spec
     (λ c κs. omega (arith, c .before .before .pre .0 .long))
-    (λ c κs. let s = c .before .before .before in values-there (s .args .bytes .now) (s .pre .0) (c .row-at .ensures))
+    (λ c κs.
+    let s = c .before .before .before in
+    let v = values-there (s .args .bytes .now) (s .pre .0) (c .row-at .ensures) in (v .0, omega (arith, v .1)))
     (λ c κs. search needs)
-    (λ c κs.
+    (λ c κs. let c6 = c .before .before .before .before .before .before in omega (arith, c6 .pre .1))
+    (λ c.
+    let c5 = c .before .before .before .before .before in
+    let c7 = c5 .before .before in
+    let s = c7 .before .before .before in
+    let m = count-most (s .args .bytes .now) (s .pre .0) (c7 .row-at .ensures) (c5 .values-of .ensures) in search needs)
+    (λ c.
     let c6 = c .before .before .before .before .before .before in
-    omega (arith, c6 .pre .1))
-    (λ c κs.
-    let c3 = c .before .before .before in
-    let c7 = c3 .before .before .before .before in
-    let c10 = c7 .before .before .before in
-    let s = c10 in
-    let t = s .pre .0 in
-    let e = c3 .say-kind .ensures in
-    let p = name-put (s .args .bytes .now) t (c7 .row-at .ensures) (s .pre .1) e in
-    omega (arith, p .next, name-short (kindOf (s .args .bytes .now)) (t .least) (t .most), e .long, s .pre .1))
-    (λ c.
-    let c9 = c .before .before .before .before .before .before .before .before .before in
-    let c11 = c9 .before .before in
-    let c14 = c11 .before .before .before in
-    let s = c14 in
-    let m = count-most (s .args .bytes .now) (s .pre .0) (c11 .row-at .ensures) (c9 .values-of .ensures) in search needs)
-    (λ c.
-    let c10 = c .before .before .before .before .before .before .before .before .before .before in
-    let c12 = c10 .before .before in
-    let c15 = c12 .before .before .before in
-    let s = c15 in
-    let m = count-most (s .args .bytes .now) (s .pre .0) (c12 .row-at .ensures) (c10 .values-of .ensures) in sym (length-take-le _ _ (search needs)))
+    let c8 = c6 .before .before in
+    let s = c8 .before .before .before in
+    let m = count-most (s .args .bytes .now) (s .pre .0) (c8 .row-at .ensures) (c6 .values-of .ensures) in sym (length-take-le _ _ (search needs)))
     (λ c κs.
     let c4 = c .before .before .before .before in
-    let c8 = c4 .before .before .before .before in
+    let c6 = c4 .before .before in
+    let c7 = c6 .before in
+    let c8 = c7 .before in
+    let s = c8 .before .before .before in
+    let r = s .args .bytes .now in
+    let t = s .pre .0 in
+    let k = c8 .row-at .ensures in
+    let v = values-first r t k (c6 .values-of .ensures) (c7 .read .ensures) in
+    let p = name-put r t k (s .pre .1) (c4 .say-kind .ensures) in
+    let of = values-typable r t k v in
+    (of .0, (of .1, omega (arith, s .pre .1, name-end r t k p, values-few r t k v, put-length p))))
+    (λ c κs.
+    let c3 = c .before .before .before in
+    let c8 = c3 .before .before .before .before .before in
     let c10 = c8 .before .before in
     let c11 = c10 .before in
     let c12 = c11 .before in
-    let c15 = c12 .before .before .before in
-    let s = c15 in
+    let s = c12 .before .before .before in
+    let r = s .args .bytes .now in
     let t = s .pre .0 in
-    let e = c8 .say-kind .ensures in
-    let p = name-put (s .args .bytes .now) t (c12 .row-at .ensures) (s .pre .1) e in
-    let q = c4 .put-byte .ensures in
-    let m = count-most (s .args .bytes .now) t (c12 .row-at .ensures) (c10 .values-of .ensures) in
-    omega (
-      arith,
-      length-take (c10 .values-of .result) (c11 .read .result),
-      m,
-      q .next,
-      put-length q,
-      p .next,
-      name-short (kindOf (s .args .bytes .now)) (t .least) (t .most),
-      e .long,
-      s .pre .1,
-    ))
+    let k = c12 .row-at .ensures in
+    let v = values-first r t k (c10 .values-of .ensures) (c11 .read .ensures) in
+    let p = name-put r t k (s .pre .1) (c8 .say-kind .ensures) in
+    let q = c3 .put-values .ensures in
+    omega (arith, s .pre .1, name-end r t k p, values-few r t k v, put-length p, put-length (q .0), q .1))
     (λ c. search needs)
     (λ c.
     let c2 = c .before .before in
-    let c7 = c2 .before .before .before .before .before in
-    let c11 = c7 .before .before .before .before in
+    let c6 = c2 .before .before .before .before in
+    let c11 = c6 .before .before .before .before .before in
     let c13 = c11 .before .before in
     let c14 = c13 .before in
     let c15 = c14 .before in
-    let c18 = c15 .before .before .before in
-    let s = c18 in
+    let s = c15 .before .before .before in
+    let r = s .args .bytes .now in
     let t = s .pre .0 in
     let k = c15 .row-at .ensures in
-    let n = c13 .values-of .ensures in
-    let p = name-put (s .args .bytes .now) t k (s .pre .1) (c11 .say-kind .ensures) in
-    let q = c7 .put-byte .ensures in
-    let w = c2 .put-numbers .ensures in (
-      line-put (s .args .bytes .now) t k p q (values-first (s .args .bytes .now) t k n (c14 .read .ensures)) (w .0),
-      omega (
-        arith,
-        w .1,
-        length-take (c13 .values-of .result) (c14 .read .result),
-        count-most (s .args .bytes .now) t k n,
-        q .next,
-        p .next,
-        name-short (kindOf (s .args .bytes .now)) (t .least) (t .most),
-      ),
-    )))
+    let v = values-first r t k (c13 .values-of .ensures) (c14 .read .ensures) in
+    let p = name-put r t k (s .pre .1) (c11 .say-kind .ensures) in
+    let q = c6 .put-values .ensures in
+    let e = c2 .put-byte .ensures in
+    (line-put r t k v p (q .0) e, omega (arith, e .next, name-end r t k p, values-few r t k v, q .1))))
