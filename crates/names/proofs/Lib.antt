@@ -1,4 +1,6 @@
 mod Examples
+mod FirstBytes
+pub mod HintAnswers
 mod Lines
 mod Shown
 pub mod Ranges

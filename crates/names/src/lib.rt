@@ -1,4 +1,6 @@
 // The names of kinds, fields and classes, what is expected of a field, and the sentences of the numbers: the one table of them, for every program.
+pub mod hints; // hints.rt: what was given in place of a book
+
 use printing::say;
 use typed_words::is_name;
 use typed_words::part;
