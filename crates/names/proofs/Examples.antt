@@ -2,8 +2,9 @@
 use mathlib.Core.Path.{_≡_, refl}
 use mathlib.Core.List.{[], _∷_}
 use Rattle.bytes.specs.Bytes.{indexOf, indexAfter}
-use Rattle.typed_words.specs.Words.{nthPart}
+use Rattle.typed_words.specs.Words.{leadingOf, nthPart, nthWord, sameText, lowered}
 use Rattle.printing.specs.Ascii.{ascii}
+use Rattle.printing.specs.Decimal.{digitsBy, decimal, withoutLast, lastDigits, pointed}
 use Rattle.names.specs.Names.{
   kindTable,
   kindName,
@@ -13,7 +14,14 @@ use Rattle.names.specs.Names.{
   fieldName,
   expectedTable,
   expected,
-  classTable,
+  choiceTable,
+  choiceWord,
+  chosenFrom,
+  chosen,
+  unitTable,
+  unitText,
+  decimalsTable,
+  valueText,
   className,
   sentenceTable,
   sentence,
@@ -45,12 +53,24 @@ unfolding fieldTable nthPart indexOf indexAfter
 fields-named = (refl, refl, refl, refl, refl, refl, refl)
 
 ranges-named : (expected 3 2 ≡ ascii " 0 to 20.00 per cent") × (expected 2 1 ≡ ascii " 1 to 4 (milking, dry, heifer, pig)")
-unfolding expectedTable nthPart indexOf indexAfter
-ranges-named = (refl, refl)
+    × (expected 6 0 ≡ ascii " 1 to 8 (the documents give no names)")
+unfolding expectedTable choiceTable nthPart indexOf indexAfter
+ranges-named = (refl, refl, refl)
 
 classes-named : (className 1 ≡ ascii "milking") × (className 4 ≡ ascii "pig") × (className 5 ≡ [])
-unfolding classTable nthPart indexOf indexAfter
+unfolding choiceTable nthPart nthWord leadingOf indexOf indexAfter
 classes-named = (refl, refl, refl)
+
+-- choices by their words, in capitals or not
+words-chosen : (chosen 10 0 (ascii "Ontario") ≡ 3) × (chosen 9 2 (ascii "no-to-intensive") ≡ 6) × (chosen 10 0 (ascii "Bavaria") ≡ 0)
+    × (chosen 3 0 (ascii "milking") ≡ 0)
+unfolding chosenFrom lowered sameText choiceTable nthPart nthWord leadingOf indexOf indexAfter
+words-chosen = (refl, refl, refl, refl)
+
+values-shown : (valueText 3 1 34050 ≡ ascii "340.50") × (valueText 2 1 3 ≡ ascii "heifer") × (valueText 6 1 7 ≡ ascii "0.7")
+    × (unitText 3 1 ≡ ascii " MJ") × (unitText 5 5 ≡ ascii " per cent") × (unitText 5 6 ≡ [])
+unfolding pointed withoutLast lastDigits decimal digitsBy decimalsTable unitTable choiceTable nthPart nthWord leadingOf indexOf indexAfter
+values-shown = (refl, refl, refl, refl, refl, refl)
 
 numbers-told : (sentence 0 ≡ ascii "closed") × (sentence 8 ≡ ascii "the group number must be above that of the heading before")
     × (sentence 2 ≡ ascii "the version is not 1, nor 2 of a farm record")

@@ -1,7 +1,10 @@
+mod Chosen
 mod Examples
 mod FirstBytes
 pub mod HintAnswers
 mod Lines
 mod Shown
+mod UsualRanges
 pub mod Ranges
+pub mod Tables
 pub mod OneAnswer

@@ -28,6 +28,23 @@ use Rattle.names.proofs.say_kinds.Kinds as kinds
 use Rattle.names.proofs.say_kinds.Reads as kinds-contract
 use Rattle.names.proofs.say_sentence.Kinds as sentence
 use Rattle.names.proofs.say_sentence.Reads as sentence-contract
+use Rattle.names.specs.declared.usual.Usual.{Usual}
+use Rattle.names.proofs.is_choice.Kinds as choosable
+use Rattle.names.proofs.is_choice.Reads as choosable-contract
+use Rattle.names.proofs.choice.Kinds as chosen
+use Rattle.names.proofs.choice.Reads as chosen-contract
+use Rattle.names.proofs.say_choices.Kinds as words
+use Rattle.names.proofs.say_choices.Reads as words-contract
+use Rattle.names.proofs.say_choice.Kinds as chosen-word
+use Rattle.names.proofs.say_choice.Reads as chosen-word-contract
+use Rattle.names.proofs.say_unit.Kinds as unit
+use Rattle.names.proofs.say_unit.Reads as unit-contract
+use Rattle.names.proofs.say_value.Kinds as value
+use Rattle.names.proofs.say_value.Reads as value-contract
+use Rattle.names.proofs.usual.usual_range.Kinds as usual
+use Rattle.names.proofs.usual.usual_range.Reads as usual-contract
+use Rattle.names.proofs.usual.say_usual.Kinds as usual-said
+use Rattle.names.proofs.usual.say_usual.Reads as usual-said-contract
 use Rattle.names.proofs.say_shown.Kinds as shown
 use Rattle.names.proofs.say_shown.Reads as shown-contract
 
@@ -86,3 +103,45 @@ one-say-sentence κs args f g e e′ p q = one-put (p .put) (q .put)
 pub one-say-shown : (κs : Lfts 2) (args : Dens κs shown.ps) (f g : ℕ) (e e′ : AtExit (endedOf 2 shown.ps shown.r) κs)
     → shown-contract.Learnt κs args f e → shown-contract.Learnt κs args g e′ → (f ≡ g) × (now (e .0) ≡ now (e′ .0))
 one-say-shown κs args f g e e′ p q = one-put (p .put) (q .put)
+
+-- The words of a field, its unit, a value as it is typed, and what is usual.
+pub is-choice-asks-nothing : (κs : Lfts 0) (args : Dens κs choosable.ps) → choosable-contract.Asked κs args
+is-choice-asks-nothing κs args = tt
+
+pub one-is-choice : (κs : Lfts 0) (args : Dens κs choosable.ps) (f g : Bool) (e e′ : AtExit (endedOf 0 choosable.ps choosable.r) κs)
+    → choosable-contract.Learnt κs args f e → choosable-contract.Learnt κs args g e′ → f ≡ g
+one-is-choice κs args f g e e′ p q = p ∙ sym q
+
+pub choice-asks-nothing : (κs : Lfts 1) (args : Dens κs chosen.ps) → chosen-contract.Asked κs args
+choice-asks-nothing κs args = tt
+
+pub one-choice : (κs : Lfts 1) (args : Dens κs chosen.ps) (f g : ℕ) (e e′ : AtExit (endedOf 1 chosen.ps chosen.r) κs)
+    → chosen-contract.Learnt κs args f e → chosen-contract.Learnt κs args g e′ → f ≡ g
+one-choice κs args f g e e′ p q = p ∙ sym q
+
+pub one-say-choices : (κs : Lfts 1) (args : Dens κs words.ps) (f g : ℕ) (e e′ : AtExit (endedOf 1 words.ps words.r) κs)
+    → words-contract.Learnt κs args f e → words-contract.Learnt κs args g e′ → (f ≡ g) × (now (e .0) ≡ now (e′ .0))
+one-say-choices κs args f g e e′ p q = one-put (p .put) (q .put)
+
+pub one-say-choice : (κs : Lfts 1) (args : Dens κs chosen-word.ps) (f g : ℕ) (e e′ : AtExit (endedOf 1 chosen-word.ps chosen-word.r) κs)
+    → chosen-word-contract.Learnt κs args f e → chosen-word-contract.Learnt κs args g e′ → (f ≡ g) × (now (e .0) ≡ now (e′ .0))
+one-say-choice κs args f g e e′ p q = one-put (p .put) (q .put)
+
+pub one-say-unit : (κs : Lfts 1) (args : Dens κs unit.ps) (f g : ℕ) (e e′ : AtExit (endedOf 1 unit.ps unit.r) κs)
+    → unit-contract.Learnt κs args f e → unit-contract.Learnt κs args g e′ → (f ≡ g) × (now (e .0) ≡ now (e′ .0))
+one-say-unit κs args f g e e′ p q = one-put (p .put) (q .put)
+
+pub one-say-value : (κs : Lfts 1) (args : Dens κs value.ps) (f g : ℕ) (e e′ : AtExit (endedOf 1 value.ps value.r) κs)
+    → value-contract.Learnt κs args f e → value-contract.Learnt κs args g e′ → (f ≡ g) × (now (e .0) ≡ now (e′ .0))
+one-say-value κs args f g e e′ p q = one-put (p .put) (q .put)
+
+pub usual-range-asks-nothing : (κs : Lfts 0) (args : Dens κs usual.ps) → usual-contract.Asked κs args
+usual-range-asks-nothing κs args = tt
+
+pub one-usual-range : (κs : Lfts 0) (args : Dens κs usual.ps) (f g : Usual) (e e′ : AtExit (endedOf 0 usual.ps usual.r) κs)
+    → usual-contract.Learnt κs args f e → usual-contract.Learnt κs args g e′ → f ≡ g
+one-usual-range κs args f g e e′ p q = p ∙ sym q
+
+pub one-say-usual : (κs : Lfts 1) (args : Dens κs usual-said.ps) (f g : ℕ) (e e′ : AtExit (endedOf 1 usual-said.ps usual-said.r) κs)
+    → usual-said-contract.Learnt κs args f e → usual-said-contract.Learnt κs args g e′ → (f ≡ g) × (now (e .0) ≡ now (e′ .0))
+one-say-usual κs args f g e e′ p q = one-put (p .put) (q .put)

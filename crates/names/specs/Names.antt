@@ -1,13 +1,14 @@
 -- Document 01's kinds, fields, classes and numbers in the words that people are told (document 02, W1: a book that is typed), in one table.
 use Prim.Native.Nat.{ℕ, zero, suc, _-_, min}
-use mathlib.Core.Bool.{_&&_}
+use mathlib.Core.Bool.{Bool, _&&_}
 use mathlib.Core.List.{List, [], _∷_, _++_}
-use lib.ListN.{getD, take}
-use lib.Dec.{leb}
+use lib.ListN.{length, getD, take}
+use lib.Dec.{leb, ltb}
 use Rattle.base.specs.Choice.{pick}
 use Rattle.codec.specs.Table.{lastKind, lastRow}
-use Rattle.typed_words.specs.Words.{nthPart}
+use Rattle.typed_words.specs.Words.{nthPart, nthWord, sameText, lowered}
 use Rattle.printing.specs.Ascii.{ascii}
+use Rattle.printing.specs.Decimal.{pointed}
 
 -- the line k of a text, counted from 0; from the last on all are the same
 abbrev pub lineOf : ℕ → ℕ → List ℕ → List ℕ
@@ -57,29 +58,70 @@ fieldNames k = lineOf noRow k fieldTable
 abbrev pub fieldName : ℕ → ℕ → List ℕ
 fieldName k i = nthPart 44 i (fieldNames k)
 
--- what is expected of a kind's fields, with a semicolon between: from, to, and the unit that people say
+-- ---- fields that are one of a few named things
+
+-- the text of field i, counted from 0, of a row, in a table whose lines have a semicolon between fields
+abbrev pub cellOf : ℕ → ℕ → List ℕ → List ℕ
+cellOf row i table = nthPart 59 i (lineOf noRow row table)
+
+-- the words for 1, 2, .., with a comma between; nothing for any other field
+unfoldable pub choiceTable : List ℕ
+choiceTable =
+    ascii "\n\n;milking, dry, heifer, pig;\n\n\n\n\n\n\n"
+    ++ ascii "boreal-shield-west, atlantic-maritime, boreal-plains, boreal-shield-east, mixedwood-plains, semiarid-prairies, montane-cordillera"
+    ++ ascii ", pacific-maritime, subhumid-prairies;coarse, medium, fine"
+    ++ ascii ";intensive-to-reduced, reduced-to-no, intensive-to-no, reduced-to-intensive, no-to-reduced, no-to-intensive;;\n"
+    ++ ascii "atlantic, quebec, ontario, manitoba, saskatchewan, alberta, british-columbia;cows, heifers, calves;;\n"
+
+abbrev pub choicesOf : ℕ → ℕ → List ℕ
+choicesOf row i = cellOf row i choiceTable
+
+abbrev pub isChoice : ℕ → ℕ → Bool
+isChoice row i = ltb 0 (length (choicesOf row i))
+
+-- the word for the number v
+abbrev pub choiceWord : ℕ → ℕ → ℕ → List ℕ
+choiceWord row i v = nthWord 0 (nthPart 44 (v - 1) (choicesOf row i))
+
+-- the number of the word w among the n words after the first k; 0 where it is none of them
+unfoldable pub chosenFrom : ℕ → ℕ → ℕ → ℕ → List ℕ → ℕ
+chosenFrom zero k row i w = 0
+chosenFrom (suc n) k row i w = pick (sameText w (choiceWord row i (suc k))) (suc k) (chosenFrom n (suc k) row i w)
+
+-- no field has more words
+abbrev pub choicesMost : ℕ
+choicesMost = 9
+
+-- the number of a word, capitals or not
+abbrev pub chosen : ℕ → ℕ → List ℕ → ℕ
+chosen row i w = chosenFrom choicesMost 0 row i (lowered w)
+
+-- ---- what is expected
+
+-- what is expected of a kind's fields: from, to, and the unit that people say
 unfoldable pub expectedTable : List ℕ
 expectedTable =
     ascii "\n"
     ++ ascii " 0 to 4294967295; 1900 to 2200; 1 or 2 (or the CH4 and the N2O factor in its place)\n"
-    ++ ascii " 1 to 65535; 1 to 4 (milking, dry, heifer, pig); 0 to 20000\n"
+    ++ ascii " 1 to 65535; 1 to 4; 0 to 20000\n"
     ++ ascii " 1 to 366; 0 to 1000.00 MJ per head and day; 0 to 20.00 per cent\n"
     ++ ascii " 1 to 366; 0 to 50.00 kg per head and day; 0 to 40.00 per cent; 0 to 80.00 kg per head and day; 0 to 8.00 per cent"
     ++ ascii "; 0 to 3000 g per head and day; 0 to 100.00 per cent; 0 to 100.00 per cent; 0 to 100.00 per cent\n"
     ++ ascii " 1 to 366; 0 to 10.00 kg per head and day; 0 to 0.5000; 0 to 2.000; 0 to 1.000; 0 to 40.00 per cent; 0 to 2.000"
     ++ ascii "; 0 to 0.10000; 0 to 1.000; 0 to 0.10000; 0 to 1.000; 0 to 0.10000\n"
-    ++ ascii " 1 to 8; 0 to 1000000.0 units; 0 to 10000000 g CO2 per unit\n"
+    ++ ascii " 1 to 8 (the documents give no names); 0 to 1000000.0 units; 0 to 10000000 g CO2 per unit\n"
     ++ ascii " 0 to 100000.00 ha\n"
     ++ ascii " 0 to 65535\n"
-    ++ ascii " 1 to 9; 1 to 3 (coarse, medium, fine); 1 to 6; 1 to 100; 0 to 100000.00 ha\n"
-    ++ ascii " 1 to 7; 1 to 3 (cows, heifers, calves); 0 to 2000 kg; 0 to 100.00 per cent\n"
+    ++ ascii " 1 to 9; 1 to 3; 1 to 6; 1 to 100; 0 to 100000.00 ha\n"
+    ++ ascii " 1 to 7; 1 to 3; 0 to 2000 kg; 0 to 100.00 per cent\n"
     ++ ascii " 0 to 4294967295; 1900 to 2200; 1 to 1000; 1 to 1000"
 
-abbrev pub expectedTexts : ℕ → List ℕ
-expectedTexts k = lineOf noRow k expectedTable
+-- the words of a choice, in brackets
+abbrev pub choicesText : ℕ → ℕ → List ℕ
+choicesText row i = pick (isChoice row i) (ascii " (" ++ (choicesOf row i ++ ascii ")")) []
 
 abbrev pub expected : ℕ → ℕ → List ℕ
-expected k i = nthPart 59 i (expectedTexts k)
+expected row i = cellOf row i expectedTable ++ choicesText row i
 
 -- how many decimals the fields of a kind have: a digit for each
 unfoldable pub decimalsTable : List ℕ
@@ -92,13 +134,24 @@ decimalsOf k = lineOf noRow k decimalsTable
 abbrev pub decimalsAt : ℕ → ℕ → ℕ
 decimalsAt k i = getD (decimalsOf k) i 0 - 48
 
--- ---- the classes, 1 to 4: no other has a name
+-- ---- a value
 
-unfoldable pub classTable : List ℕ
-classTable = ascii "\nmilking\ndry\nheifer\npig"
+-- the unit of a field, with a blank before it; nothing where it has none
+unfoldable pub unitTable : List ℕ
+unitTable =
+    ascii "\n\n\n; MJ; per cent\n; kg; per cent; kg; per cent; g; per cent; per cent; per cent\n; kg;;;; per cent;;;;;;\n"
+    ++ ascii "; units; g CO2 per unit\n ha\n\n;;;; ha\n;; kg; per cent\n"
 
+abbrev pub unitText : ℕ → ℕ → List ℕ
+unitText row i = cellOf row i unitTable
+
+-- the value v as it is typed: a choice by its word, a number with all its decimals
+abbrev pub valueText : ℕ → ℕ → ℕ → List ℕ
+valueText row i v = pick (isChoice row i) (choiceWord row i v) (pointed (decimalsAt row i) v)
+
+-- a heading's second field is its class
 abbrev pub className : ℕ → List ℕ
-className c = lineOf 5 c classTable
+className c = choiceWord 2 1 c
 
 -- ---- the numbers of refusals
 

@@ -1,9 +1,12 @@
 // The names of kinds, fields and classes, what is expected of a field, and the sentences of the numbers: the one table of them, for every program.
 pub mod hints; // hints.rt: what was given in place of a book
+pub mod usual; // usual.rt: which values are usual
 
 use printing::say;
+use printing::say_pointed;
 use typed_words::is_name;
 use typed_words::part;
+use typed_words::word;
 ghost use mathlib.Core.Path.{_≡_};
 ghost use mathlib.Core.List.{_++_};
 ghost use Prim.Native.Nat.{_-_, _≤_, min};
@@ -12,12 +15,15 @@ ghost use Rattle.base.specs.Choice.{pick};
 ghost use Rattle.codec.specs.Table.{fields};
 ghost use Rattle.printing.specs.Ascii.{ascii};
 ghost use Rattle.printing.specs.Said.{Said};
-ghost use Rattle.typed_words.specs.Words.{sameText, lowered};
-ghost use Rattle.names.specs.Names.{lineOf, kindName, kindNames, fieldNames, fieldName, expected, decimalsAt};
-ghost use Rattle.names.specs.Names.{className, sentence, printedByte, shown};
+ghost use Rattle.typed_words.specs.Words.{nthPart, nthWord, sameText, lowered};
+ghost use Rattle.names.specs.Names.{lineOf, kindName, kindNames, fieldNames, fieldName, cellOf, isChoice, choicesOf, choiceWord, chosen};
+ghost use Rattle.names.specs.Names.{expectedTable, choicesText, expected, decimalsAt, unitText, valueText, className, sentence, printedByte, shown};
 
 // The line of what is no row of the book's table.
 const NO_ROW: u64 = codec::LAST_ROW + 1;
+
+// No field has more words.
+const CHOICES_MOST: usize = 9;
 
 // The names of the kinds, a line for each, and one for the farm record of version 2.
 const KINDS: [u8; 84] = *b"record
@@ -33,6 +39,22 @@ tillage
 grazing
 farm
 record";
+
+// The words of the fields that are one of a few named things, by row and field, with a comma between.
+const CHOICES: [u8; 434] = *b"
+
+;milking, dry, heifer, pig;
+
+
+
+
+
+
+boreal-shield-west, atlantic-maritime, boreal-plains, boreal-shield-east, mixedwood-plains, semiarid-prairies, montane-cordillera, \
+pacific-maritime, subhumid-prairies;coarse, medium, fine;\
+intensive-to-reduced, reduced-to-no, intensive-to-no, reduced-to-intensive, no-to-reduced, no-to-intensive;;
+atlantic, quebec, ontario, manitoba, saskatchewan, alberta, british-columbia;cows, heifers, calves;;
+";
 
 // The line k of a text, counted from 0; from the last on all are the same.
 fn line_of(text: &[u8], last: u64, k: u64) -> &[u8]
@@ -123,30 +145,144 @@ pub fn say_fields(out: &mut [u8], at: usize, kind: u64) -> usize
     say_names(out, at, kind, true, 0)
 }
 
-// What is expected of field i, with a blank before it.
-pub fn say_expected(out: &mut [u8], at: usize, kind: u64, i: usize) -> usize
-    requires { ⌜ at ≤ length (now out) ⌝ }
-    ensures { λ r. ⌜ Said (now (out .entry)) (now (out .exit)) at (expected kind i) r ⌝ }
+// The text of field i of a row, in a table with a semicolon between fields.
+fn cell(table: &[u8], row: u64, i: usize) -> &[u8]
+    ensures { λ r. ⌜ now r ≡ cellOf row i (now (table .entry)) ⌝ }
 {
-    let texts = line_of(
+    part(line_of(table, NO_ROW, row), b';', i)
+}
+
+// Whether field i is one of a few named things.
+pub fn is_choice(row: u64, i: usize) -> bool
+    ensures { λ r. ⌜ r ≡ isChoice row i ⌝ }
+{
+    let words = cell(&CHOICES, row, i);
+    0 < words.len()
+}
+
+// The words of field i, with a comma between.
+pub fn say_choices(out: &mut [u8], at: usize, row: u64, i: usize) -> usize
+    requires { ⌜ at ≤ length (now out) ⌝ }
+    ensures { λ r. ⌜ Said (now (out .entry)) (now (out .exit)) at (choicesOf row i) r ⌝ }
+{
+    say(out, at, cell(&CHOICES, row, i))
+}
+
+fn less_one(n: usize) -> usize
+    ensures { λ r. ⌜ r ≡ n - 1 ⌝ }
+{
+    if n == 0 { 0 } else { n - 1 }
+}
+
+// The word for the number v in a list of words.
+fn nth_choice(words: &[u8], v: usize) -> &[u8]
+    ensures { λ r. ⌜ now r ≡ nthWord 0 (nthPart 44 (v - 1) (now (words .entry))) ⌝ }
+{
+    word(part(words, b',', less_one(v)), 0)
+}
+
+// The word of field i for the number v.
+pub fn say_choice(out: &mut [u8], at: usize, row: u64, i: usize, v: u64) -> usize
+    requires { ⌜ at ≤ length (now out) ⌝ }
+    ensures { λ r. ⌜ Said (now (out .entry)) (now (out .exit)) at (choiceWord row i v) r ⌝ }
+{
+    say(out, at, nth_choice(cell(&CHOICES, row, i), v as usize))
+}
+
+// The number of the word among those of field i, capitals or not; 0 where it is none of them.
+pub fn choice(typed: &[u8], row: u64, i: usize) -> u64
+    ensures { λ r. ⌜ r ≡ chosen row i (now (typed .entry)) ⌝ }
+{
+    let mut k: usize = 0;
+    while k < CHOICES_MOST {
+        if is_name(typed, nth_choice(cell(&CHOICES, row, i), k + 1)) {
+            return (k + 1) as u64;
+        }
+        k += 1;
+    }
+    0
+}
+
+fn say_range(out: &mut [u8], at: usize, row: u64, i: usize) -> usize
+    requires { ⌜ at ≤ length (now out) ⌝ }
+    ensures { λ r. ⌜ Said (now (out .entry)) (now (out .exit)) at (cellOf row i expectedTable) r ⌝ }
+{
+    let text = cell(
         b"
  0 to 4294967295; 1900 to 2200; 1 or 2 (or the CH4 and the N2O factor in its place)
- 1 to 65535; 1 to 4 (milking, dry, heifer, pig); 0 to 20000
+ 1 to 65535; 1 to 4; 0 to 20000
  1 to 366; 0 to 1000.00 MJ per head and day; 0 to 20.00 per cent
  1 to 366; 0 to 50.00 kg per head and day; 0 to 40.00 per cent; 0 to 80.00 kg per head and day; 0 to 8.00 per cent; \
 0 to 3000 g per head and day; 0 to 100.00 per cent; 0 to 100.00 per cent; 0 to 100.00 per cent
  1 to 366; 0 to 10.00 kg per head and day; 0 to 0.5000; 0 to 2.000; 0 to 1.000; 0 to 40.00 per cent; 0 to 2.000; \
 0 to 0.10000; 0 to 1.000; 0 to 0.10000; 0 to 1.000; 0 to 0.10000
- 1 to 8; 0 to 1000000.0 units; 0 to 10000000 g CO2 per unit
+ 1 to 8 (the documents give no names); 0 to 1000000.0 units; 0 to 10000000 g CO2 per unit
  0 to 100000.00 ha
  0 to 65535
- 1 to 9; 1 to 3 (coarse, medium, fine); 1 to 6; 1 to 100; 0 to 100000.00 ha
- 1 to 7; 1 to 3 (cows, heifers, calves); 0 to 2000 kg; 0 to 100.00 per cent
+ 1 to 9; 1 to 3; 1 to 6; 1 to 100; 0 to 100000.00 ha
+ 1 to 7; 1 to 3; 0 to 2000 kg; 0 to 100.00 per cent
  0 to 4294967295; 1900 to 2200; 1 to 1000; 1 to 1000",
-        NO_ROW,
-        kind,
+        row,
+        i,
     );
-    say(out, at, part(texts, b';', i))
+    say(out, at, text)
+}
+
+fn say_bracketed(out: &mut [u8], at: usize, row: u64, i: usize) -> usize
+    requires { ⌜ at ≤ length (now out) ⌝ }
+    ensures { λ r. ⌜ Said (now (out .entry)) (now (out .exit)) at (choicesText row i) r ⌝ }
+{
+    if !is_choice(row, i) {
+        return at;
+    }
+    let open = say(out, at, b" (");
+    let words = say_choices(out, open, row, i);
+    say(out, words, b")")
+}
+
+// What is expected of field i, with a blank before it.
+pub fn say_expected(out: &mut [u8], at: usize, row: u64, i: usize) -> usize
+    requires { ⌜ at ≤ length (now out) ⌝ }
+    ensures { λ r. ⌜ Said (now (out .entry)) (now (out .exit)) at (expected row i) r ⌝ }
+{
+    let range = say_range(out, at, row, i);
+    say_bracketed(out, range, row, i)
+}
+
+// The unit of field i, with a blank before it.
+pub fn say_unit(out: &mut [u8], at: usize, row: u64, i: usize) -> usize
+    requires { ⌜ at ≤ length (now out) ⌝ }
+    ensures { λ r. ⌜ Said (now (out .entry)) (now (out .exit)) at (unitText row i) r ⌝ }
+{
+    let text = cell(
+        b"
+
+
+; MJ; per cent
+; kg; per cent; kg; per cent; g; per cent; per cent; per cent
+; kg;;;; per cent;;;;;;
+; units; g CO2 per unit
+ ha
+
+;;;; ha
+;; kg; per cent
+",
+        row,
+        i,
+    );
+    say(out, at, text)
+}
+
+// The value of field i as it is typed.
+pub fn say_value(out: &mut [u8], at: usize, row: u64, i: usize, v: u64) -> usize
+    requires { ⌜ at ≤ length (now out) ⌝ }
+    ensures { λ r. ⌜ Said (now (out .entry)) (now (out .exit)) at (valueText row i v) r ⌝ }
+{
+    if is_choice(row, i) {
+        return say_choice(out, at, row, i, v);
+    }
+    let d = decimals(row, i);
+    say_pointed(out, at, v, d)
 }
 
 // The digit at index i; 0 where there is none.
@@ -191,16 +327,7 @@ pub fn say_class(out: &mut [u8], at: usize, class: u64) -> usize
     requires { ⌜ at ≤ length (now out) ⌝ }
     ensures { λ r. ⌜ Said (now (out .entry)) (now (out .exit)) at (className class) r ⌝ }
 {
-    let name = line_of(
-        b"
-milking
-dry
-heifer
-pig",
-        5,
-        class,
-    );
-    say(out, at, name)
+    say_choice(out, at, 2, 1, class)
 }
 
 pub fn say_sentence(out: &mut [u8], at: usize, code: u64) -> usize

@@ -1,5 +1,6 @@
 pub mod Digits
 pub mod Examples
+pub mod Points
 pub mod Joined
 pub mod Puts
 pub mod Sayings

@@ -17,6 +17,8 @@ use Rattle.printing.proofs.put_signed.Kinds as signed
 use Rattle.printing.proofs.put_signed.Reads as signed-contract
 use Rattle.printing.proofs.put_numbers.Kinds as numbers
 use Rattle.printing.proofs.put_numbers.Reads as numbers-contract
+use Rattle.printing.proofs.put_pointed.Kinds as pointed
+use Rattle.printing.proofs.put_pointed.Reads as pointed-contract
 use Rattle.printing.proofs.put_text.Kinds as text
 use Rattle.printing.proofs.put_text.Reads as text-contract
 use Rattle.printing.proofs.put_thousandths.Kinds as thousandths
@@ -25,6 +27,8 @@ use Rattle.printing.proofs.say.Kinds as said
 use Rattle.printing.proofs.say.Reads as said-contract
 use Rattle.printing.proofs.say_number.Kinds as told
 use Rattle.printing.proofs.say_number.Reads as told-contract
+use Rattle.printing.proofs.say_pointed.Kinds as shown
+use Rattle.printing.proofs.say_pointed.Reads as shown-contract
 
 -- A byte.
 pub one-put-byte : (κs : Lfts 1) (args : Dens κs byte.ps) (f g : ℕ) (e e′ : AtExit (endedOf 1 byte.ps byte.r) κs)
@@ -65,3 +69,13 @@ one-say κs args f g e e′ p q = one-put (p .put) (q .put)
 pub one-say-number : (κs : Lfts 1) (args : Dens κs told.ps) (f g : ℕ) (e e′ : AtExit (endedOf 1 told.ps told.r) κs)
     → told-contract.Learnt κs args f e → told-contract.Learnt κs args g e′ → (f ≡ g) × (now (e .0) ≡ now (e′ .0))
 one-say-number κs args f g e e′ p q = one-put (p .put) (q .put)
+
+-- A number with decimals.
+pub one-put-pointed : (κs : Lfts 1) (args : Dens κs pointed.ps) (f g : ℕ) (e e′ : AtExit (endedOf 1 pointed.ps pointed.r) κs)
+    → pointed-contract.Learnt κs args f e → pointed-contract.Learnt κs args g e′ → (f ≡ g) × (now (e .0) ≡ now (e′ .0))
+one-put-pointed κs args f g e e′ p q = one-put (p .0) (q .0)
+
+-- A number with decimals, as far as there is room.
+pub one-say-pointed : (κs : Lfts 1) (args : Dens κs shown.ps) (f g : ℕ) (e e′ : AtExit (endedOf 1 shown.ps shown.r) κs)
+    → shown-contract.Learnt κs args f e → shown-contract.Learnt κs args g e′ → (f ≡ g) × (now (e .0) ≡ now (e′ .0))
+one-say-pointed κs args f g e e′ p q = one-put (p .put) (q .put)

@@ -31,6 +31,21 @@ signed (negsuc n) = 45 ∷ decimal (suc n)
 abbrev pub thousandths : ℕ → List ℕ
 thousandths n = decimal (n / 1000) ++ (46 ∷ digit (n / 100 % 10) ∷ digit (n / 10 % 10) ∷ digit (n % 10) ∷ [])
 
+-- the last d digits of n, zeros among them
+unfoldable pub lastDigits : ℕ → ℕ → List ℕ
+lastDigits zero n = []
+lastDigits (suc d) n = lastDigits d (n / 10) ++ (digit (n % 10) ∷ [])
+
+-- n without its last d digits
+unfoldable pub withoutLast : ℕ → ℕ → ℕ
+withoutLast zero n = n
+withoutLast (suc d) n = withoutLast d (n / 10)
+
+-- n as a number with d decimals, in units of the last: 650 with 2 is 6.50, with none 650
+unfoldable pub pointed : ℕ → ℕ → List ℕ
+pointed zero n = decimal n
+pointed (suc d) n = decimal (withoutLast (suc d) n) ++ (46 ∷ lastDigits (suc d) n)
+
 -- each number with a space before it
 unfoldable pub spaced : List ℕ → List ℕ
 spaced [] = []

@@ -5,7 +5,7 @@ ghost use Prim.Native.Nat.{_+_, _*_, _≤_, _<_};
 ghost use lib.ListN.{length, take, drop};
 ghost use mathlib.Core.List.{_∷_, []};
 ghost use Rattle.base.specs.Signed.{signedOf};
-ghost use Rattle.printing.specs.Decimal.{digit, decimal, signed, thousandths, spaced, numbersLine, Put};
+ghost use Rattle.printing.specs.Decimal.{digit, decimal, signed, thousandths, lastDigits, withoutLast, pointed, spaced, numbersLine, Put};
 ghost use Rattle.printing.specs.Said.{Said};
 
 // The digits before the last, then the last.
@@ -108,6 +108,42 @@ pub fn put_thousandths(out: &mut [u8], at: usize, v: u64) -> usize
     put_digit(out, hundredth, v % 10)
 }
 
+// The last d digits of v.
+fn put_last(out: &mut [u8], at: usize, v: u64, d: usize) -> usize
+    requires { ⌜ at + d ≤ length (now out) ⌝ }
+    ensures { λ r. ⌜ Put (now (out .entry)) (now (out .exit)) at (lastDigits d v) r ⌝ }
+{
+    if d == 0 {
+        return at;
+    }
+    let end = put_last(out, at, v / 10, d - 1);
+    put_byte(out, end, 48 + (v % 10) as u8)
+}
+
+// v without its last d digits.
+fn without_last(v: u64, d: usize) -> u64
+    ensures { λ r. ⌜ r ≡ withoutLast d v ⌝ }
+{
+    if d == 0 {
+        return v;
+    }
+    without_last(v / 10, d - 1)
+}
+
+// v as a number with d decimals, in units of the last.
+pub fn put_pointed(out: &mut [u8], at: usize, v: u64, d: usize) -> usize
+    requires { ⌜ at + 21 + d ≤ length (now out) ⌝ }
+    ensures { λ r. ⌜ Put (now (out .entry)) (now (out .exit)) at (pointed d v) r ⌝ }
+    ensures { λ r. ⌜ r ≤ at + 21 + d ⌝ }
+{
+    let whole = put_decimal(out, at, without_last(v, d));
+    if d == 0 {
+        return whole;
+    }
+    let point = put_byte(out, whole, b'.');
+    put_last(out, point, v, d)
+}
+
 pub fn put_text(out: &mut [u8], at: usize, text: &[u8]) -> usize
     requires { ⌜ at + length (now text) ≤ length (now out) ⌝ }
     ensures { λ r. ⌜ Put (now (out .entry)) (now (out .exit)) at (now (text .entry)) r ⌝ }
@@ -138,5 +174,15 @@ pub fn say_number(out: &mut [u8], at: usize, v: u64) -> usize
 {
     let mut digits = [0u8; 20];
     let n = put_decimal(&mut digits, 0, v);
+    say(out, at, first_of(&digits, n))
+}
+
+// The number with up to 15 decimals, as far as there is room.
+pub fn say_pointed(out: &mut [u8], at: usize, v: u64, d: usize) -> usize
+    requires { ⌜ (at ≤ length (now out)) × (d ≤ 15) ⌝ }
+    ensures { λ r. ⌜ Said (now (out .entry)) (now (out .exit)) at (pointed d v) r ⌝ }
+{
+    let mut digits = [0u8; 36];
+    let n = put_pointed(&mut digits, 0, v, d);
     say(out, at, first_of(&digits, n))
 }

@@ -3,7 +3,7 @@ use Prim.Native.Nat.{ℕ, suc, _+_, _-_, _<_, _≤_}
 use native.Mathlib.Numerals.{add-one}
 use native.Mathlib.Omega.{arith}
 use mathlib.Core.Path.{_≡_, refl, sym, ap, _∙_}
-use mathlib.Core.Bool.{Bool, true, false, not, _&&_, true≢false}
+use mathlib.Core.Bool.{Bool, true, false, not, _&&_, _||_}
 use mathlib.Core.List.{List, [], _∷_, _++_}
 use lib.ListN.{length, getD, take, drop, replicate, drop-of-length-le}
 use lib.Seq.{drop-cons}
@@ -13,7 +13,7 @@ use borrow.Author.Tests.{not-true, not-false, lt-ltb, le-ltb, ne-eqb}
 use Rattle.bytes.specs.Bytes.{indexOf, indexAfter}
 use Rattle.typed_words.specs.declared.Whole.{Whole}
 use Rattle.typed_words.specs.Numbers.{noWhole, goesOn}
-use Rattle.typed_words.specs.Amounts.{isDigit, withDigit, aWhole, numberFrom, numberOf, amountOf}
+use Rattle.typed_words.specs.Amounts.{isDigit, withDigit, aWhole, numberFrom, amountOf}
 
 at-byte : (v : ℕ) (s : List ℕ) (i : ℕ) → i < length s
     → numberFrom v (drop i s) ≡ goesOn (isDigit (getD s i 0)) (numberFrom (withDigit v (getD s i 0)) (drop (i + 1) s))
@@ -63,28 +63,23 @@ all-tests true true z n = refl
 all-tests true false z n = refl
 all-tests false y z n = refl
 
-abbrev pub passes : ℕ → ℕ → ℕ → Whole → Whole → Bool
-passes p places d w a = (((ltb 0 p && ltb 0 places) && leb places d) && w .good) && a .good
+abbrev pub passes : ℕ → ℕ → ℕ → ℕ → Whole → Whole → Bool
+passes p n places d w a = (((ltb 0 p && (eqb p n || ltb 0 places)) && leb places d) && w .good) && a .good
 
-pub enough : (p places d : ℕ) (w a : Whole) → passes p places d w a ≡ true → places ≤ d
-enough p places d w a e =
-    let fit = (ltb 0 p && ltb 0 places) && leb places d in
+pub enough : (p n places d : ℕ) (w a : Whole) → passes p n places d w a ≡ true → places ≤ d
+enough p n places d w a e =
+    let some = ltb 0 p && (eqb p n || ltb 0 places) in
     leb→le places d
-    (and-r (ltb 0 p && ltb 0 places) (leb places d) (and-l fit (w .good) (and-l (fit && w .good) (a .good) (rw e tt))))
-
-pub no-point : (d : ℕ) (s : List ℕ) (p : ℕ) → p ≡ indexOf 46 s → p ≡ length s → amountOf d s ≡ numberOf s
-unfolding amountOf
-no-point d s p point e = rw (← point, le-ltb p (length s) (omega arith))
+    (and-r some (leb places d) (and-l (some && leb places d) (w .good) (and-l ((some && leb places d) && w .good) (a .good) (rw e tt))))
 
 module _ (d : ℕ) (s : List ℕ) {b f : List ℕ} {p : ℕ} {w a : Whole}
-    (point : p ≡ indexOf 46 s) (some : p < length s) (before : b ≡ take p s) (whole : w ≡ numberFrom 0 b)
+    (point : p ≡ indexOf 46 s) (before : b ≡ take p s) (whole : w ≡ numberFrom 0 b)
     (behind : f ≡ drop (p + 1) s) (all : a ≡ numberFrom (w .value) f) where
-  parts : amountOf d s ≡ goesOn (passes p (length f) d w a) (numberFrom (a .value) (replicate (d - length f) 48))
+  parts : amountOf d s ≡ goesOn (passes p (length s) (length f) d w a) (numberFrom (a .value) (replicate (d - length f) 48))
   unfolding amountOf
   parts =
       rw (
         ← point,
-        lt-ltb p (length s) some,
         ← before,
         ← behind,
         followed 0 b (f ++ replicate (d - length f) 48),
@@ -92,40 +87,12 @@ module _ (d : ℕ) (s : List ℕ) {b f : List ℕ} {p : ℕ} {w a : Whole}
         followed (w .value) f (replicate (d - length f) 48),
         ← all,
       )
-      (all-tests ((ltb 0 p && ltb 0 (length f)) && leb (length f) d) (w .good) (a .good) (numberFrom (a .value) (replicate (d - length f) 48)))
+      (all-tests ((ltb 0 p && (eqb p (length s) || ltb 0 (length f))) && leb (length f) d) (w .good) (a .good)
+      (numberFrom (a .value) (replicate (d - length f) 48)))
 
-  pub is-amount : (z : ℕ) → passes p (length f) d w a ≡ true → numberFrom (a .value) (replicate (d - length f) 48) ≡ aWhole z
+  pub is-amount : (z : ℕ) → passes p (length s) (length f) d w a ≡ true → numberFrom (a .value) (replicate (d - length f) 48) ≡ aWhole z
       → aWhole z ≡ amountOf d s
   is-amount z t e = sym (parts ∙ rw (t, e))
 
-  pub is-none : passes p (length f) d w a ≡ false → noWhole ≡ amountOf d s
+  pub is-none : passes p (length s) (length f) d w a ≡ false → noWhole ≡ amountOf d s
   is-none t = sym (parts ∙ rw t)
-
--- a byte that is a digit is no point
-no-such : (b n : ℕ) → isDigit b ≡ true → indexAfter (eqb b 46) n ≡ suc n
-unfolding indexAfter
-no-such b n t =
-    let l : 48 ≤ b = leb→le 48 b (and-l (leb 48 b) (leb b 57) (rw t tt)) in
-    rw (ne-eqb b 46 (λ e. omega arith))
-
--- digits alone have no point
-digits-alone : (v : ℕ) (s : List ℕ) → numberFrom v s .good ≡ true → indexOf 46 s ≡ length s
-unfolding numberFrom indexOf
-digits-alone v [] g = refl
-digits-alone v (b ∷ s) g = by-digit (isDigit b) refl g (digits-alone (withDigit v b) s)
-  where
-    by-digit : (d : Bool) → isDigit b ≡ d → goesOn d (numberFrom (withDigit v b) s) .good ≡ true
-        → (numberFrom (withDigit v b) s .good ≡ true → indexOf 46 s ≡ length s) → indexAfter (eqb b 46) (indexOf 46 s) ≡ suc (length s)
-    by-digit true t g more = no-such b (indexOf 46 s) t ∙ ap suc (more g)
-    by-digit false t g more = absurd (true≢false (sym g))
-
-some-digits : (x : Bool) (w : Whole) → goesOn x w .good ≡ true → w .good ≡ true
-some-digits true w g = g
-some-digits false w g = absurd (true≢false (sym g))
-
--- a word of digits alone has one value, whatever the decimals
-pub digits-amount : (d : ℕ) (s : List ℕ) → numberOf s .good ≡ true → amountOf d s ≡ numberOf s
-digits-amount d s g = no-point d s (indexOf 46 s) refl (digits-alone 0 s (some-digits (ltb 0 (length s)) (numberFrom 0 s) g))
-
-pub any-decimals : (d e : ℕ) (s : List ℕ) → numberOf s .good ≡ true → amountOf d s ≡ amountOf e s
-any-decimals d e s g = digits-amount d s g ∙ sym (digits-amount e s g)

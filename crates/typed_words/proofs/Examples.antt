@@ -17,10 +17,23 @@ place-filled : amountOf 2 (54 ∷ 46 ∷ 53 ∷ []) ≡ aWhole 650
 unfolding amountOf numberFrom indexOf indexAfter
 place-filled = refl
 
--- 650 with 2
-no-point-typed : amountOf 2 (54 ∷ 53 ∷ 48 ∷ []) ≡ aWhole 650
+-- 340, 340.5 and 340.50 with 2
+no-point-typed : amountOf 2 (51 ∷ 52 ∷ 48 ∷ []) ≡ aWhole 34000
 unfolding amountOf numberFrom indexOf indexAfter
 no-point-typed = refl
+
+half-typed : amountOf 2 (51 ∷ 52 ∷ 48 ∷ 46 ∷ 53 ∷ []) ≡ aWhole 34050
+unfolding amountOf numberFrom indexOf indexAfter
+half-typed = refl
+
+both-places : amountOf 2 (51 ∷ 52 ∷ 48 ∷ 46 ∷ 53 ∷ 48 ∷ []) ≡ aWhole 34050
+unfolding amountOf numberFrom indexOf indexAfter
+both-places = refl
+
+-- 650 with none
+no-decimals : amountOf 0 (54 ∷ 53 ∷ 48 ∷ []) ≡ aWhole 650
+unfolding amountOf numberFrom indexOf indexAfter
+no-decimals = refl
 
 -- 6.505 with 2
 third-place : amountOf 2 (54 ∷ 46 ∷ 53 ∷ 48 ∷ 53 ∷ []) ≡ noWhole

@@ -5,5 +5,6 @@ mod Examples
 mod Names
 mod Quotient
 mod Same
+pub mod TypedExact
 mod Values
 pub mod OneAnswer

@@ -3,6 +3,7 @@
 -- Assumes nothing.
 use borrow.Fn.World.{ResD}
 use mathlib.Core.Bool.{Bool}
+use Prim.Native.Nat.{ℕ}
 use mathlib.Core.Path.{_≡_, sym, _∙_}
 use contract.Lifetimes.{Lfts}
 use borrow.Fn.Kinds.{Dens, endedOf}
@@ -23,6 +24,8 @@ use Rattle.typed_words.proofs.read_decimal.Kinds as double
 use Rattle.typed_words.proofs.read_decimal.Reads as double-contract
 use Rattle.typed_words.proofs.read_whole.Kinds as digits
 use Rattle.typed_words.proofs.read_whole.Reads as digits-contract
+use Rattle.typed_words.proofs.index_of.Kinds as index
+use Rattle.typed_words.proofs.index_of.Reads as index-contract
 use Rattle.typed_words.proofs.word as word
 use Rattle.typed_words.proofs.word.Kinds as nth
 use Rattle.typed_words.proofs.word.Reads as nth-contract
@@ -82,3 +85,11 @@ one-is-word κs args f g e e′ p q = p ∙ sym q
 pub one-is-name : (κs : Lfts 2) (args : Dens κs named.ps) (f g : Bool) (e e′ : AtExit (endedOf 2 named.ps named.r) κs)
     → named-contract.Learnt κs args f e → named-contract.Learnt κs args g e′ → f ≡ g
 one-is-name κs args f g e e′ p q = p ∙ sym q
+
+pub index-of-asks-nothing : (κs : Lfts 1) (args : Dens κs index.ps) → index-contract.Asked κs args
+index-of-asks-nothing κs args = tt
+
+-- Where a byte stands.
+pub one-index-of : (κs : Lfts 1) (args : Dens κs index.ps) (f g : ℕ) (e e′ : AtExit (endedOf 1 index.ps index.r) κs)
+    → index-contract.Learnt κs args f e → index-contract.Learnt κs args g e′ → f ≡ g
+one-index-of κs args f g e e′ p q = p .0 ∙ sym (q .0)

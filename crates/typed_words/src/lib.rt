@@ -6,7 +6,7 @@ ghost use Prim.Native.Nat.{_+_, _^_, _≤_, _<_};
 ghost use lib.ListN.{length, take, drop, replicate};
 ghost use Rattle.typed_words.specs.Words.{isBlank, leadingOf, trimmed, firstWord, pastWord, nthWord, sameText, smallLetter, lowered, nthPart};
 ghost use Rattle.typed_words.specs.Numbers.{takes, digitsFrom, wholeOf, decimalOf, double};
-ghost use Rattle.typed_words.specs.Amounts.{isDigit, withDigit, numberFrom, numberOf, aWhole, amountOf};
+ghost use Rattle.typed_words.specs.Amounts.{isDigit, withDigit, numberFrom, aWhole, amountOf};
 ghost use Rattle.bytes.specs.Bytes.{indexOf};
 
 // A whole number below 10^15; 0 where the text is none.
@@ -228,7 +228,8 @@ pub fn part(s: &[u8], sep: u8, n: usize) -> &[u8]
     part(behind_point(s, p), sep, n - 1)
 }
 
-fn index_of(s: &[u8], b: u8) -> usize
+// Where the first b stands, or the length where there is none.
+pub fn index_of(s: &[u8], b: u8) -> usize
     ensures { λ r. ⌜ r ≡ indexOf b (now (s .entry)) ⌝ }
     ensures { λ r. ⌜ r ≤ length (now (s .entry)) ⌝ }
 {
@@ -293,32 +294,16 @@ fn with_zeros(v: u64, k: usize) -> u64
     end
 }
 
-// One or more digits.
-fn whole_amount(word: &[u8]) -> Whole
-    ensures { λ r. ⌜ r ≡ numberOf (now (word .entry)) ⌝ }
-{
-    if word.len() == 0 {
-        return Whole {
-            good: false,
-            value: 0,
-        };
-    }
-    number(0, word)
-}
-
-// A number with at most so many decimals, in units of the last; without a point it is in that unit already.
+// A number with at most so many decimals, in units of the last.
 pub fn read_amount(word: &[u8], decimals: usize) -> Whole
     ensures { λ r. ⌜ r ≡ amountOf decimals (now (word .entry)) ⌝ }
 {
     let p = index_of(word, b'.');
-    if p == word.len() {
-        return whole_amount(word);
-    }
     let whole = number(0, first_of(word, p));
     let fraction = behind_point(word, p);
     let all = number(whole.value, fraction);
     let places = fraction.len();
-    if (0 < p) & (0 < places) & (places <= decimals) & whole.good & all.good {
+    if (0 < p) & ((p == word.len()) | (0 < places)) & (places <= decimals) & whole.good & all.good {
         return Whole {
             good: true,
             value: with_zeros(all.value, decimals - places),
