@@ -1,5 +1,5 @@
--- Hints: one answer, worked inputs, and that the first 13 bytes of an input are enough. The contracts are those of the source itself: Learnt is what a
--- caller learns from a function's `ensures`, Asked what its `requires` ask.
+-- Hints: one answer, worked inputs, and that the first 13 bytes of an input are enough. The contracts are those of the source itself: Learnt is what
+-- a caller learns from a function's `ensures`, Asked what its `requires` ask.
 -- Assumes nothing.
 use Prim.Native.Nat.{ℕ, zero, suc, _≤_, _<_}
 use mathlib.Core.Path.{_≡_, refl, sym, _∙_}
