@@ -1,7 +1,7 @@
 # Sourced by the scripts of the programs. They set $here (this folder), $name, $sample, $about and $example (for --help), $bytes (yes where
-# the program writes a book's bytes), $heading (names of the columns, for a terminal) and $option (a word: with --WORD the program is given it
-# too and reads nothing). Runs the program on a file, on standard input (-) or, with no argument, on the sample; builds it when it is not there
-# or older than its source. --help says what the exit statuses mean.
+# the program writes a book's bytes), $heading (names of the columns, for a terminal), $usage and $count where more arguments are right, and $option
+# (a word: with --WORD the program is given it too and reads nothing). Runs the program on a file, on standard input (-) or, with no argument, on the
+# sample; builds it when it is not there or older than its source. --help says what the exit statuses mean.
 root=${here%/*}
 program=$root/target/bin/$name
 
@@ -12,11 +12,11 @@ program=$root/target/bin/$name
 
 say() { printf 'bin/%s: %s\n' "$name" "$*" >&2 || :; }
 stop() { status=$1; shift; say "$@"; exit "$status"; }
-misused() { stop 2 "$*; usage: bin/$name [FILE|-], and bin/$name --help says more"; }
+misused() { stop 2 "$*; usage: bin/$name ${usage:-[FILE|-]}, and bin/$name --help says more"; }
 
 help() {
     cat <<END
-usage: bin/$name [FILE|-]
+usage: bin/$name ${usage:-[FILE|-]}
 
 $about
 
@@ -39,7 +39,7 @@ version() {
     printf 'farm book, bin/%s %s\n' "$name" "$described"
 }
 
-[ $# -le 1 ] || misused "one argument at most"
+[ $# -le 1 ] || misused "${count:-one argument at most}"
 input=${1-$root/$sample} more=
 case $input in
 '') misused "the name of the file is empty" ;;

@@ -1,8 +1,11 @@
-// Reads two books, the old one on standard input and the new one on descriptor 5, and prints what differs between them.
+// Reads two books, the old one on standard input and the new one on descriptor 5, and prints what differs between them. Hints
+// go to standard error.
 use comparing::Plan;
 use comparing::remarks;
+use libc::STDERR_FILENO;
 use libc::STDIN_FILENO;
 use libc::STDOUT_FILENO;
+use names::hints::look;
 ghost use mathlib.Core.Path.{_≡_};
 ghost use Prim.Native.Nat.{_≤_, _<_};
 ghost use lib.ListN.{length};
@@ -183,11 +186,25 @@ fn tell(old: &[u8], new: &[u8]) -> bool {
     tell_rest(old, new, p)
 }
 
+// A hint where one of the two is no book but a typed text, a sheet or nothing.
+fn tell_hint(new: bool, book: &[u8]) {
+    let mut text = [0u8; 128];
+    let n = remarks::say_hint(&mut text, new, look(book));
+    io::write_all(STDERR_FILENO, &text[..n]);
+}
+
 fn tell_status(read: bool, written: bool) {
     if os::arg_count() == 2 {
         let status = remarks::status(read, written);
         io::write_all(STATUS_FILENO, &[status]);
     }
+}
+
+fn answer(old: &[u8], new: &[u8]) -> bool {
+    let written = tell(old, new);
+    tell_hint(false, old);
+    tell_hint(true, new);
+    written
 }
 
 // The new book, where the old one was read.
@@ -199,7 +216,7 @@ fn with_new(old: &[u8]) {
         return;
     }
     let n = input.len;
-    tell_status(true, tell(old, &book[..n]));
+    tell_status(true, answer(old, &book[..n]));
 }
 
 fn main() {

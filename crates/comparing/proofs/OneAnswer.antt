@@ -14,6 +14,8 @@ use Rattle.comparing.proofs.compare.Kinds as both
 use Rattle.comparing.proofs.compare.Reads as both-contract
 use Rattle.comparing.proofs.remarks.say_book.Kinds as book
 use Rattle.comparing.proofs.remarks.say_book.Reads as book-contract
+use Rattle.comparing.proofs.remarks.say_hint.Kinds as hint
+use Rattle.comparing.proofs.remarks.say_hint.Reads as hint-contract
 use Rattle.comparing.proofs.remarks.say_records.Kinds as records
 use Rattle.comparing.proofs.remarks.say_records.Reads as records-contract
 use Rattle.comparing.proofs.remarks.say_pairs.Kinds as pairs
@@ -44,6 +46,9 @@ compare-asks-nothing κs args = tt
 
 pub say-book-asks-nothing : (κs : Lfts 1) (args : Dens κs book.ps) → book-contract.Asked κs args
 say-book-asks-nothing κs args = tt
+
+pub say-hint-asks-nothing : (κs : Lfts 1) (args : Dens κs hint.ps) → hint-contract.Asked κs args
+say-hint-asks-nothing κs args = tt
 
 pub say-records-asks-nothing : (κs : Lfts 2) (args : Dens κs records.ps) → records-contract.Asked κs args
 say-records-asks-nothing κs args = tt
@@ -92,6 +97,11 @@ one-compare κs args f g e e′ p q = p ∙ sym q
 pub one-say-book : (κs : Lfts 1) (args : Dens κs book.ps) (f g : ℕ) (e e′ : AtExit (endedOf 1 book.ps book.r) κs)
     → book-contract.Learnt κs args f e → book-contract.Learnt κs args g e′ → (f ≡ g) × (now (e .0) ≡ now (e′ .0))
 one-say-book κs args f g e e′ p q = one-put (p .put) (q .put)
+
+-- Which of the two is no book.
+pub one-say-hint : (κs : Lfts 1) (args : Dens κs hint.ps) (f g : ℕ) (e e′ : AtExit (endedOf 1 hint.ps hint.r) κs)
+    → hint-contract.Learnt κs args f e → hint-contract.Learnt κs args g e′ → (f ≡ g) × (now (e .0) ≡ now (e′ .0))
+one-say-hint κs args f g e e′ p q = one-put (p .put) (q .put)
 
 -- Some records of one book.
 pub one-say-records : (κs : Lfts 2) (args : Dens κs records.ps) (f g : ℕ) (e e′ : AtExit (endedOf 2 records.ps records.r) κs)

@@ -1,5 +1,5 @@
 -- What is told of two books: how many records are the same, each record that differs with its lines, and each record that is the same and gives other
--- lines. And the byte of the exit status.
+-- lines. A hint where something else than a book was given. And the byte of the exit status.
 -- Assumes nothing.
 use Prim.Native.Nat.{ℕ, _+_, _-_, min}
 use mathlib.Core.List.{List, [], _∷_, _++_}
@@ -11,6 +11,9 @@ use Rattle.account.specs.Judge.{kindByte}
 use Rattle.printing.specs.Ascii.{ascii}
 use Rattle.printing.specs.Decimal.{decimal}
 use Rattle.names.specs.Names.{kindName}
+use Rattle.names.specs.Hints.{hintText}
+use Rattle.names.specs.declared.hints.Given.{Given}
+use Rattle.names.specs.declared.hints.Given.the-variants.{Book, Nothing, Typed, Sheet}
 use Rattle.listing.specs.Listing.{linesText}
 use Rattle.reasons.specs.Why.{whyOf}
 use Rattle.reasons.specs.Remarks.{machineText}
@@ -22,6 +25,16 @@ use Rattle.comparing.specs.Compare.{planOf}
 -- which book
 abbrev pub wordOf : Bool → List ℕ
 wordOf new = pick new (ascii "new") (ascii "old")
+
+abbrev pub bookText : Bool → List ℕ
+bookText new = wordOf new ++ ascii ": "
+
+-- what is hinted of one of the two
+abbrev pub bookHint : Bool → Given → List ℕ
+bookHint new Book = []
+bookHint new Nothing = bookText new ++ hintText Nothing
+bookHint new Typed = bookText new ++ hintText Typed
+bookHint new Sheet = bookText new ++ hintText Sheet
 
 -- ---- one record
 
@@ -105,7 +118,7 @@ lastText p =
 -- ---- all of it
 
 abbrev pub verdictText : Bool → List ℕ → List ℕ
-verdictText new xs = (wordOf new ++ ascii ": ") ++ machineText (whyOf xs)
+verdictText new xs = bookText new ++ machineText (whyOf xs)
 
 -- what is told of the records between
 abbrev pub betweenText : Plan → List Entry → List Entry → List ℕ

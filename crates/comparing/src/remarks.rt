@@ -8,6 +8,8 @@ use account::Account;
 use base::first_of;
 use base::rest_of;
 use codec::numbers::be8;
+use names::hints;
+use names::hints::Given;
 use names::say_kind;
 use printing::say;
 use printing::say_number;
@@ -16,12 +18,12 @@ ghost use mathlib.Core.List.{_++_};
 ghost use Prim.Native.Nat.{_-_, _≤_};
 ghost use lib.ListN.{length};
 ghost use Rattle.account.specs.Judge.{kindByte};
-ghost use Rattle.printing.specs.Ascii.{ascii};
 ghost use Rattle.printing.specs.Said.{Said};
+ghost use Rattle.names.specs.Hints.{hintText};
 ghost use Rattle.listing.specs.Listing.{linesText};
 ghost use Rattle.comparing.specs.Entries.{linesOf, entriesOf};
 ghost use Rattle.comparing.specs.Remarks.{wordOf, entryText, partText, pairsPart, planText, oldBetween, newBetween, changedText, othersText};
-ghost use Rattle.comparing.specs.Remarks.{movedText, otherText, twoText, lastText, statusByte};
+ghost use Rattle.comparing.specs.Remarks.{movedText, otherText, twoText, lastText, bookText, bookHint, statusByte};
 
 // Which book.
 fn say_word(out: &mut [u8], at: usize, new: bool) -> usize
@@ -36,10 +38,29 @@ fn say_word(out: &mut [u8], at: usize, new: bool) -> usize
 
 // Which book, before its verdict, from the start of out.
 pub fn say_book(out: &mut [u8], new: bool) -> usize
-    ensures { λ r. ⌜ Said (now (out .entry)) (now (out .exit)) 0 (wordOf new ++ ascii ": ") r ⌝ }
+    ensures { λ r. ⌜ Said (now (out .entry)) (now (out .exit)) 0 (bookText new) r ⌝ }
 {
     let word = say_word(out, 0, new);
     say(out, word, b": ")
+}
+
+fn say_with_hint(out: &mut [u8], new: bool, given: Given) -> usize
+    ensures { λ r. ⌜ Said (now (out .entry)) (now (out .exit)) 0 (bookText new ++ hintText given) r ⌝ }
+{
+    let word = say_book(out, new);
+    hints::say_hint(out, word, given)
+}
+
+// Which of the two is no book, and what it looks like, from the start of out.
+pub fn say_hint(out: &mut [u8], new: bool, given: Given) -> usize
+    ensures { λ r. ⌜ Said (now (out .entry)) (now (out .exit)) 0 (bookHint new given) r ⌝ }
+{
+    match given {
+        Given::Book => 0,
+        Given::Nothing => say_with_hint(out, new, given),
+        Given::Typed => say_with_hint(out, new, given),
+        Given::Sheet => say_with_hint(out, new, given),
+    }
 }
 
 // The lines of the record r after the account a, as the lister prints them.

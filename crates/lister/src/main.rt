@@ -3,16 +3,19 @@ use book::State;
 use libc::STDERR_FILENO;
 use libc::STDIN_FILENO;
 use libc::STDOUT_FILENO;
+use names::hints::Given;
+use names::hints::look;
 
 // Where a caller that gives an argument, the word `status`, wants the status byte.
 const STATUS_FILENO: i32 = 3;
 
-// The state after what was read, whether a byte has come and whether the first is one of a typed text, whether no read and no write has failed,
-// and whether more may come.
+// The bytes that are read first: by them an input that is no book is known, however it comes.
+const FIRST: usize = 16;
+
+// The state after what was read, what the input looks like, whether no read and no write has failed, and whether more may come.
 struct Work {
     state: State,
-    started: bool,
-    typed: bool,
+    given: Given,
     read: bool,
     written: bool,
     more: bool,
@@ -57,14 +60,6 @@ fn list_part(from: Work, part: &[u8], text: &mut [u8]) -> Work {
     w
 }
 
-fn begin(mut w: Work, part: &[u8]) -> Work {
-    if !w.started {
-        w.started = true;
-        w.typed = listing::begins_typed(part);
-    }
-    w
-}
-
 // Behind the book's end nothing more is read.
 fn go_on(mut w: Work) -> Work {
     let state = w.state;
@@ -85,8 +80,7 @@ fn turn(mut w: Work, text: &mut [u8]) -> Work {
         return w;
     }
     let n = io::count(got, &buf);
-    let begun = begin(w, &buf[..n]);
-    go_on(list_part(begun, &buf[..n], text))
+    go_on(list_part(w, &buf[..n], text))
 }
 
 // Nothing says that the input ends: the turns count down from a number that no run uses up.
@@ -116,7 +110,8 @@ fn end(w: Work, text: &mut [u8]) -> Work {
 fn remark(w: Work) {
     let mut text = [0u8; 256];
     let state = w.state;
-    let n = listing::say_remark(&mut text, state.account, w.typed);
+    let given = w.given;
+    let n = listing::say_remark(&mut text, state.account, given);
     io::write_all(STDERR_FILENO, &text[..n]);
 }
 
@@ -128,17 +123,33 @@ fn tell_status(w: Work) {
     }
 }
 
-fn main() {
-    let mut text = io::large_buffer();
+// What could not be read is not looked at.
+fn look_at(first: &[u8], read: bool) -> Given {
+    if read {
+        return look(first);
+    }
+    Given::Book
+}
+
+// The first bytes. Where they are fewer than were asked for they are all.
+fn begin(first: &[u8], read: bool, text: &mut [u8]) -> Work {
     let start = Work {
         state: State::new(),
-        started: false,
-        typed: false,
-        read: true,
+        given: look_at(first, read),
+        read: read,
         written: true,
-        more: true,
+        more: read & (first.len() == FIRST),
     };
-    let last = run(start, &mut text);
+    go_on(list_part(start, first, text))
+}
+
+fn main() {
+    let mut text = io::large_buffer();
+    let mut first = [0u8; FIRST];
+    let input = inputs::read_all(STDIN_FILENO, b"standard input", &mut first);
+    let n = input.len;
+    let begun = begin(&first[..n], input.good, &mut text);
+    let last = run(begun, &mut text);
     let done = end(last, &mut text);
     remark(done);
     tell_status(done);

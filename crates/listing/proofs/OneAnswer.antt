@@ -11,8 +11,6 @@ use denote.Ref.{now}
 use denote.Triple.Clauses.{AtExit}
 use Rattle.printing.proofs.Examples.{one-put}
 use Rattle.listing.specs.declared.Listed.{Listed}
-use Rattle.listing.proofs.begins_typed.Kinds as typed
-use Rattle.listing.proofs.begins_typed.Reads as typed-contract
 use Rattle.listing.proofs.goes_on.Kinds as on
 use Rattle.listing.proofs.goes_on.Reads as on-contract
 use Rattle.listing.proofs.list.Kinds as listed
@@ -32,9 +30,6 @@ goes-on-asks-nothing κs args = tt
 
 pub put-last-asks-nothing : (κs : Lfts 1) (args : Dens κs word.ps) → word-contract.Asked κs args
 put-last-asks-nothing κs args = tt
-
-pub begins-typed-asks-nothing : (κs : Lfts 1) (args : Dens κs typed.ps) → typed-contract.Asked κs args
-begins-typed-asks-nothing κs args = tt
 
 pub say-remark-asks-nothing : (κs : Lfts 1) (args : Dens κs remark.ps) → remark-contract.Asked κs args
 say-remark-asks-nothing κs args = tt
@@ -58,11 +53,6 @@ one-goes-on κs args f g e e′ p q = p ∙ sym q
 pub one-put-last : (κs : Lfts 1) (args : Dens κs word.ps) (f g : ℕ) (e e′ : AtExit (endedOf 1 word.ps word.r) κs)
     → word-contract.Learnt κs args f e → word-contract.Learnt κs args g e′ → (f ≡ g) × (now (e .0) ≡ now (e′ .0))
 one-put-last κs args f g e e′ p q = one-put p q
-
--- Whether an input begins as a typed text does.
-pub one-begins-typed : (κs : Lfts 1) (args : Dens κs typed.ps) (f g : Bool) (e e′ : AtExit (endedOf 1 typed.ps typed.r) κs)
-    → typed-contract.Learnt κs args f e → typed-contract.Learnt κs args g e′ → f ≡ g
-one-begins-typed κs args f g e e′ p q = p ∙ sym q
 
 -- A remark: its length, and the buffer at the end.
 pub one-say-remark : (κs : Lfts 1) (args : Dens κs remark.ps) (f g : ℕ) (e e′ : AtExit (endedOf 1 remark.ps remark.r) κs)

@@ -1,21 +1,9 @@
--- Laws of what the lister tells beside the lines: how an input begins, and the status.
-use Prim.Native.Nat.{ℕ, _<_}
+-- Laws of what the lister tells beside the lines: the status.
 use mathlib.Core.Path.{_≡_, refl}
-use mathlib.Core.List.{List, [], _∷_}
 use mathlib.Core.Bool.{Bool, true, false, _&&_}
-use native.Mathlib.Omega.{arith}
-use lib.ListN.{length, getD}
 use lib.Dec.{eqb}
 use Rattle.account.specs.declared.Account.{Account}
-use Rattle.listing.specs.Remarks.{isTyped, beginsTyped, statusByte}
-
-pub begins-none : (xs : List ℕ) → length xs ≡ 0 → false ≡ beginsTyped xs
-begins-none [] e = refl
-begins-none (x ∷ xs) e = absurd (omega arith)
-
-pub begins-some : (xs : List ℕ) → 0 < length xs → isTyped (getD xs 0 0) ≡ beginsTyped xs
-begins-some [] h = absurd (omega arith)
-begins-some (x ∷ xs) h = refl
+use Rattle.listing.specs.Remarks.{statusByte}
 
 -- the status, by its test
 module _ (a : Account) (read written : Bool) where

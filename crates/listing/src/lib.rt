@@ -7,6 +7,8 @@ use line_bytes::LINE_SIZE;
 use line_bytes::detail_numbers;
 use line_bytes::front_size;
 use line_bytes::total_numbers;
+use names::hints::Given;
+use names::hints::say_hint;
 use printing::put_byte;
 use printing::put_decimal;
 use printing::put_numbers;
@@ -23,7 +25,7 @@ ghost use Rattle.printing.specs.Decimal.{Put};
 ghost use Rattle.printing.specs.Said.{Said};
 ghost use Rattle.book.specs.Call.{call};
 ghost use Rattle.listing.specs.Listing.{columnText, columnsText, lineText, lineNumbers, linesText, endText, lineRoom, goesOn, lastText, Lists};
-ghost use Rattle.listing.specs.Remarks.{isTyped, beginsTyped, looksTyped, whyText, hintText, remarkText, statusByte};
+ghost use Rattle.listing.specs.Remarks.{whyText, remarkText, statusByte};
 
 // What one call over a part of a book makes: the new state, the bytes taken, and the bytes of text.
 pub struct Listed {
@@ -195,31 +197,6 @@ pub fn put_last(out: &mut [u8], account: Account, read: bool, written: bool) -> 
     0
 }
 
-// A tab, a line's end, a printed character, or the first byte of a byte order mark.
-fn is_typed(b: u8) -> bool
-    ensures { λ r. ⌜ r ≡ isTyped b ⌝ }
-{
-    (b == 9) | (b == 10) | (b == 13) | ((32 <= b) & (b <= 126)) | (b == 239)
-}
-
-// Whether an input begins as a typed text does: no book does, since its first byte is 0.
-pub fn begins_typed(input: &[u8]) -> bool
-    ensures { λ r. ⌜ r ≡ beginsTyped (now (input .entry)) ⌝ }
-{
-    if input.len() == 0 {
-        return false;
-    }
-    is_typed(input[0])
-}
-
-// Whether a typed text was given for a book: it is refused by 1 at its first record.
-fn looks_typed(account: Account, begins: bool) -> bool
-    ensures { λ r. ⌜ r ≡ looksTyped account begins ⌝ }
-{
-    let refusal = account.refusal;
-    (account.stage == 3) & (refusal.code == 1) & (refusal.accepted == 0) & begins
-}
-
 // A refusal's number with its sentence.
 fn say_why(out: &mut [u8], account: Account) -> usize
     ensures { λ r. ⌜ Said (now (out .entry)) (now (out .exit)) 0 (whyText account) r ⌝ }
@@ -236,26 +213,12 @@ fn say_why(out: &mut [u8], account: Account) -> usize
     say(out, sentence, b"; bin/why tells more\n")
 }
 
-fn say_hint(out: &mut [u8], at: usize, account: Account, begins: bool) -> usize
-    requires { ⌜ at ≤ length (now out) ⌝ }
-    ensures { λ r. ⌜ Said (now (out .entry)) (now (out .exit)) at (hintText account begins) r ⌝ }
-{
-    if looks_typed(account, begins) {
-        return say(
-            out,
-            at,
-            b"this looks like a typed book: bin/writer makes a book of it\n",
-        );
-    }
-    at
-}
-
 // What is said to a person beside the last word, from the start of out.
-pub fn say_remark(out: &mut [u8], account: Account, begins: bool) -> usize
-    ensures { λ r. ⌜ Said (now (out .entry)) (now (out .exit)) 0 (remarkText account begins) r ⌝ }
+pub fn say_remark(out: &mut [u8], account: Account, given: Given) -> usize
+    ensures { λ r. ⌜ Said (now (out .entry)) (now (out .exit)) 0 (remarkText account given) r ⌝ }
 {
     let why = say_why(out, account);
-    say_hint(out, why, account, begins)
+    say_hint(out, why, given)
 }
 
 // The status byte: 0 only where the book is closed, all of it was read, and everything was written.

@@ -1,5 +1,7 @@
 mod Chosen
 mod Examples
+mod FirstBytes
+pub mod HintAnswers
 mod Lines
 mod Shown
 mod UsualRanges

@@ -1,2 +1,3 @@
+pub mod Hints
 pub mod Names
 pub mod Usual

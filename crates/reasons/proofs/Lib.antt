@@ -1,7 +1,9 @@
 pub mod Faults
+mod GroupKinds
 pub mod ValuesFound
 pub mod RecordLists
 pub mod Ways
 pub mod Truths
 pub mod OneAnswer
+mod Sentences
 mod Witnesses

@@ -10,7 +10,7 @@ use mathlib.Core.Logic.{_⊎_, inl, inr, ⊎-elim}
 use native.Mathlib.Omega.{arith}
 use borrow.Author.Tests.{ltb-true, ltb-false, eqb-true, eqb-false, eq-eqb, lt-ltb, le-ltb, ne-eqb}
 use lib.Dec.{ltb, eqb}
-use lib.ListN.{length, take, drop, length-append}
+use lib.ListN.{length, take, drop, length-append, length-drop}
 use lib.Seq.{length-take-le}
 use Rattle.base.specs.Choice.{pick}
 use Rattle.base.proofs.Tests.{of-choice, or-cases}
@@ -31,13 +31,14 @@ use Rattle.book.proofs.Ranges.{range-idle}
 use Rattle.book.proofs.RunLeaves.{run-leaves}
 use Rattle.book.proofs.RecordRuns.{record-in, record-whole}
 use Rattle.reasons.specs.declared.Reason.{Reason}
+use Rattle.reasons.specs.declared.Verdict.{Verdict}
 use Rattle.reasons.specs.declared.Verdict.the-variants.{Accepted, Missing, NextLength, Refused}
-use Rattle.reasons.specs.Why.{reason, reasonOf, unfinishedBy, whyBy, whyOf}
+use Rattle.reasons.specs.Why.{reason, reasonOf, unfinishedBy, acceptedBy, whyBy, whyOf}
 use Rattle.reasons.specs.Promised.{bytesTold, accountBefore, numbersTold, BrokenRecord, Truth, begun}
-use Rattle.reasons.specs.Promised.{MissingExact, Unfinished}
+use Rattle.reasons.specs.Promised.{MissingExact, AfterClose, IsAccepted, Unfinished}
 use Rattle.reasons.specs.Inner.{unread, ended}
 use Rattle.reasons.proofs.Faults.{faulty, refused-is}
-use Rattle.reasons.proofs.Ways.{Way, Ends, at-record, at-rest, every-end, before-is, next-record, some-bytes, why-ended, why-unread}
+use Rattle.reasons.proofs.Ways.{Way, Ends, at-record, at-rest, every-end, ltb-less, before-is, next-record, some-bytes, why-ended, why-unread}
 
 -- ---- by rule 2's stage
 
@@ -49,49 +50,52 @@ no-answer e = absurd (omega arith)
 unfinished-said : (h : List ℕ) → Unfinished (unfinishedBy h)
 unfinished-said h = of-choice Unfinished (ltb (length h) 2) (λ e. tt) (λ e. tt)
 
-module _ (s : State) (xs : List ℕ) where
-  accepted-by : whyBy s xs ≡ Accepted → s .account .stage ≡ 2
+not-accepted : (h : List ℕ) → IsAccepted (unfinishedBy h) → ⊥
+not-accepted h = of-choice (λ (v : Verdict). IsAccepted v → ⊥) (ltb (length h) 2) (λ e u. u) (λ e u. u)
+
+module _ (s : State) (left xs : List ℕ) where
+  accepted-by : IsAccepted (whyBy s left xs) → s .account .stage ≡ 2
   unfolding whyBy
   accepted-by = go (ltb (s .account .stage) 2) (eqb (s .account .stage) 2) refl
     where
       go : (b d : Bool) → eqb (s .account .stage) 2 ≡ d
-          → pick b (unfinishedBy (heldOf s)) (pick d Accepted (Refused (reasonOf (s .account .refusal) xs))) ≡ Accepted
+          → IsAccepted (pick b (unfinishedBy (heldOf s)) (pick d (acceptedBy left xs) (Refused (reasonOf (s .account .refusal) xs))))
           → s .account .stage ≡ 2
-      go true d q e = let u : Unfinished Accepted = rw e at (unfinished-said (heldOf s)) in absurd u
+      go true d q e = absurd (not-accepted (heldOf s) e)
       go false true q e = eqb-true _ _ q
-      go false false q e = no-answer cc
+      go false false q e = absurd e
 
-  unfinished-by : Unfinished (whyBy s xs) → s .account .stage < 2
+  unfinished-by : Unfinished (whyBy s left xs) → s .account .stage < 2
   unfolding whyBy
   unfinished-by = go (ltb (s .account .stage) 2) (eqb (s .account .stage) 2) refl
     where
       go : (b d : Bool) → ltb (s .account .stage) 2 ≡ b
-          → Unfinished (pick b (unfinishedBy (heldOf s)) (pick d Accepted (Refused (reasonOf (s .account .refusal) xs))))
+          → Unfinished (pick b (unfinishedBy (heldOf s)) (pick d (acceptedBy left xs) (Refused (reasonOf (s .account .refusal) xs))))
           → s .account .stage < 2
       go true d q e = ltb-true _ _ q
       go false true q e = absurd e
       go false false q e = absurd e
 
-  missing-by : (n : ℕ) → whyBy s xs ≡ Missing n → (s .account .stage < 2) × (2 ≤ length (heldOf s)) × (n ≡ need (heldOf s) - length (heldOf s))
+  missing-by : (n : ℕ) → whyBy s left xs ≡ Missing n → (s .account .stage < 2) × (2 ≤ length (heldOf s)) × (n ≡ need (heldOf s) - length (heldOf s))
   unfolding whyBy
   missing-by n = go (ltb (s .account .stage) 2) (eqb (s .account .stage) 2) (ltb (length (heldOf s)) 2) refl refl
     where
       go : (b d t : Bool) → ltb (s .account .stage) 2 ≡ b → ltb (length (heldOf s)) 2 ≡ t
           → pick b (pick t NextLength (Missing (need (heldOf s) - length (heldOf s))))
-          (pick d Accepted (Refused (reasonOf (s .account .refusal) xs))) ≡ Missing n
+          (pick d (acceptedBy left xs) (Refused (reasonOf (s .account .refusal) xs))) ≡ Missing n
           → (s .account .stage < 2) × (2 ≤ length (heldOf s)) × (n ≡ need (heldOf s) - length (heldOf s))
       go true d true q p e = no-answer cc
       go true d false q p e = (ltb-true _ _ q, ltb-false _ _ p, cc)
       go false true t q p e = no-answer cc
       go false false t q p e = no-answer cc
 
-  length-by : whyBy s xs ≡ NextLength → (s .account .stage < 2) × (length (heldOf s) < 2)
+  length-by : whyBy s left xs ≡ NextLength → (s .account .stage < 2) × (length (heldOf s) < 2)
   unfolding whyBy
   length-by = go (ltb (s .account .stage) 2) (eqb (s .account .stage) 2) (ltb (length (heldOf s)) 2) refl refl
     where
       go : (b d t : Bool) → ltb (s .account .stage) 2 ≡ b → ltb (length (heldOf s)) 2 ≡ t
           → pick b (pick t NextLength (Missing (need (heldOf s) - length (heldOf s))))
-          (pick d Accepted (Refused (reasonOf (s .account .refusal) xs))) ≡ NextLength
+          (pick d (acceptedBy left xs) (Refused (reasonOf (s .account .refusal) xs))) ≡ NextLength
           → (s .account .stage < 2) × (length (heldOf s) < 2)
       go true d true q p e = (ltb-true _ _ q, ltb-true _ _ p)
       go true d false q p e = no-answer cc
@@ -99,24 +103,39 @@ module _ (s : State) (xs : List ℕ) where
       go false false t q p e = no-answer cc
 
 module _ (xs : List ℕ) where
-  -- For an accepted book it says so, and of no other: accepted is what rule 2 closes. Bytes behind the close change nothing.
-  pub why-accepted : (whyOf xs ≡ Accepted → run noRecordYet xs .state .account .stage ≡ 2)
-      × (run noRecordYet xs .state .account .stage ≡ 2 → whyOf xs ≡ Accepted)
+  -- For an accepted book it says so, and of no other: accepted is what rule 2 closes. Bytes after the close change nothing of that.
+  pub why-accepted : (IsAccepted (whyOf xs) → run noRecordYet xs .state .account .stage ≡ 2)
+      × (run noRecordYet xs .state .account .stage ≡ 2 → whyOf xs ≡ acceptedBy (run noRecordYet xs .left) xs)
   unfolding whyOf whyBy
-  why-accepted =
-      (accepted-by (run noRecordYet xs .state) xs, λ e. rw (le-ltb (run noRecordYet xs .state .account .stage) 2 (omega arith), eq-eqb _ _ e))
+  why-accepted = (
+    accepted-by (run noRecordYet xs .state) (run noRecordYet xs .left) xs,
+    λ e. rw (le-ltb (run noRecordYet xs .state .account .stage) 2 (omega arith), eq-eqb _ _ e),
+  )
+
+  -- Where bytes stand after the close it is told rightly from where on.
+  pub after-close : (end : ℕ) (more : Bool) → whyOf xs ≡ Accepted end more → AfterClose end more xs
+  after-close end more e =
+      let closed = why-accepted .0 (rw e tt) in
+      let same : acceptedBy (run noRecordYet xs .left) xs ≡ Accepted end more = sym (why-accepted .1 closed) ∙ e in
+      let t = run-leaves noRecordYet xs (range-idle noRecord in-range-none) .tail in
+      let l : length (run noRecordYet xs .left) ≡ length xs - t .at = rw (t .is) (length-drop (t .at) xs) in
+      let first : end ≡ length xs - length (run noRecordYet xs .left) = cc in
+      let any : more ≡ ltb 0 (length (run noRecordYet xs .left)) = cc in
+      let from : end ≡ t .at = omega (arith, first, l, t .inside) in
+      let rest : length xs - end ≡ length (run noRecordYet xs .left) = omega (arith, first, l, t .inside) in
+      record { closed = closed; left = rw from (sym (t .is)); some = any ∙ sym (ltb-less end (length xs) ∙ ap (λ (m : ℕ). ltb 0 m) rest) }
 
   -- An unfinished book is one that rule 2 leaves open.
   pub why-unfinished : (Unfinished (whyOf xs) → run noRecordYet xs .state .account .stage < 2)
       × (run noRecordYet xs .state .account .stage < 2 → Unfinished (whyOf xs))
   unfolding whyOf whyBy
-  why-unfinished = (unfinished-by (run noRecordYet xs .state) xs, λ e. rw (lt-ltb _ _ e) (unfinished-said (begun xs)))
+  why-unfinished = (unfinished-by (run noRecordYet xs .state) (run noRecordYet xs .left) xs, λ e. rw (lt-ltb _ _ e) (unfinished-said (begun xs)))
 
   -- The next length is not known where fewer than two bytes of it are there.
   pub next-length : (whyOf xs ≡ NextLength → (run noRecordYet xs .state .account .stage < 2) × (length (begun xs) < 2))
       × ((run noRecordYet xs .state .account .stage < 2) × (length (begun xs) < 2) → whyOf xs ≡ NextLength)
   unfolding whyOf whyBy
-  next-length = (length-by (run noRecordYet xs .state) xs, λ e. rw (lt-ltb _ _ (e .0), lt-ltb _ _ (e .1)))
+  next-length = (length-by (run noRecordYet xs .state) (run noRecordYet xs .left) xs, λ e. rw (lt-ltb _ _ (e .0), lt-ltb _ _ (e .1)))
 
   -- A refused book is one that rule 2 refuses.
   pub why-refused-so : run noRecordYet xs .state .account .stage ≡ 3 → whyOf xs ≡ Refused (reasonOf (run noRecordYet xs .state .account .refusal) xs)
@@ -130,7 +149,7 @@ module _ (xs : List ℕ) where
   missing-exact n e =
       let s = run noRecordYet xs .state in
       let h = heldOf s in
-      let m = missing-by s xs n e in
+      let m = missing-by s (run noRecordYet xs .left) xs n e in
       let b = run-leaves noRecordYet xs (range-idle noRecord in-range-none) .range .begun in
       let g = meaning h unfinished b (m .1) in
       record {
@@ -175,6 +194,7 @@ module _ {xs : List ℕ} {a : Account} {at : ℕ} (w : Way xs a at) where
         bytes = w .bytes;
         accepted = w .accepted;
         account = before-is w ∙ sym (w .account);
+        group = ap (λ (b : Account). b .heading .group) (sym (w .account));
         length = λ e. absurd (omega (arith, g .some));
         other = λ e.
             broken-record z xs a r (told-bytes z xs at n refl d) (w .account)
@@ -198,6 +218,7 @@ module _ {xs : List ℕ} {a : Account} {at : ℕ} (w : Way xs a at) where
         bytes = w .bytes;
         accepted = w .accepted;
         account = before-is w ∙ sym (w .account);
+        group = ap (λ (b : Account). b .heading .group) (sym (w .account));
         length = λ e.
             record {
               field = refl;
@@ -221,14 +242,15 @@ unread-truth y w whole e n q = absurd (n refl)
 
 ended-truth : {xs : List ℕ} {a : Account} {at : ℕ} (y : Way xs a at) (w : Reason) → front (drop at xs) ≡ whole
     → let r = take (need (drop at xs)) (drop at xs) in
-    2 ≤ judge a r .account .stage → ended a at r (judge a r .account) ≡ Refused w → Truth w xs
+    2 ≤ judge a r .account .stage → ended a at r (judge a r .account) (length xs) ≡ Refused w → Truth w xs
 ended-truth {xs} {a} {at} y w f h = go (eqb (judge a r .account .stage) 2) refl
   where
     r : List ℕ
     r = take (need (drop at xs)) (drop at xs)
 
     go : (b : Bool) → eqb (judge a r .account .stage) 2 ≡ b
-        → pick b Accepted (Refused (reason (judge a r .account .refusal .code) (a .records) (judge a r .account .refusal .field) at a r)) ≡ Refused w
+        → pick b (Accepted (at + length r) (ltb (at + length r) (length xs)))
+        (Refused (reason (judge a r .account .refusal .code) (a .records) (judge a r .account .refusal .field) at a r)) ≡ Refused w
         → Truth w xs
     go true p q = no-answer cc
     go false p q =

@@ -148,6 +148,7 @@ pub broken-told : (a : Account) (at : ℕ) (rest : List ℕ) {x : ℕ} {n : Numb
       field = 0;
       kind = 0;
       row = 0;
+      group = a .heading .group;
       some = n .some;
       value = n .value;
       limit = n .limit;

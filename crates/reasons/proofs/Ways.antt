@@ -3,9 +3,11 @@
 use Prim.Native.Nat.{ℕ, zero, suc, _+_, _-_, _≤_, _<_}
 use mathlib.Core.Path.{_≡_, refl, sym, ap, _∙_}
 use mathlib.Core.List.{List, [], _∷_, _++_}
+use mathlib.Core.Bool.{Bool}
 use mathlib.Core.Logic.{_⊎_, ⊎-elim}
 use native.Mathlib.Omega.{arith}
 use borrow.Author.Tests.{lt-ltb, le-ltb, eq-eqb, ne-eqb}
+use lib.Dec.{ltb}
 use lib.ListN.{length, take, drop, length-drop, length-append, take-append-drop, drop-of-length-le}
 use lib.Seq.{length-take-le, drop-drop, take-add}
 use Rattle.base.proofs.Tests.{lt-or-ge}
@@ -25,12 +27,19 @@ use Rattle.book.proofs.WholeRecords.{records-whole}
 use Rattle.book.proofs.Ranges.{held-holding, range-idle}
 use Rattle.book.proofs.Runs.{book-ended, book-unfinished, book-bad, book-whole, run-none, run-append}
 use Rattle.book.proofs.RecordRuns.{record-in, record-whole, book-one}
-use Rattle.reasons.specs.declared.Verdict.the-variants.{NextLength, Refused}
-use Rattle.reasons.specs.Why.{reason, reasonOf, firstByte, whyBy, whyOf}
+use Rattle.reasons.specs.declared.Verdict.the-variants.{Accepted, NextLength, Refused}
+use Rattle.reasons.specs.Why.{reason, reasonOf, firstByte, acceptedBy, whyBy, whyOf}
 use Rattle.reasons.specs.Promised.{behind, AllAccepted}
 use Rattle.reasons.specs.Inner.{unread, ended}
 use Rattle.reasons.proofs.Faults.{passes, counted, refused-is, faulty}
 use Rattle.reasons.proofs.RecordLists.{one-more, one-less, joined-one, behind-one, accepted-one}
+
+pub ltb-less : (a b : ℕ) → ltb a b ≡ ltb 0 (b - a)
+ltb-less a b =
+    ⊎-elim
+    (λ (h : a < b). rw (lt-ltb a b h, lt-ltb 0 (b - a) (omega arith)))
+    (λ (h : b ≤ a). rw (le-ltb a b h, le-ltb 0 (b - a) (omega arith)))
+    (lt-or-ge a b)
 
 -- at bytes of the book xs are read, whole records that are all accepted, and a is the account behind them
 pub record Way (xs : List ℕ) (a : Account) (at : ℕ) : Type 0 where
@@ -76,6 +85,9 @@ module _ {xs : List ℕ} {a : Account} {at : ℕ} (w : Way xs a at) where
 
   pub state-is : run noRecordYet xs .state ≡ book a (drop at xs) .state
   state-is = rw take-append-drop at (state-on (drop at xs))
+
+  pub left-is : run noRecordYet xs .left ≡ book a (drop at xs) .left
+  left-is = rw take-append-drop at (left-on (drop at xs))
 
   -- the record behind them begins at the byte at
   first-is : firstByte (a .records) xs ≡ at
@@ -124,6 +136,25 @@ module _ {xs : List ℕ} {a : Account} {at : ℕ} (w : Way xs a at) where
         let b = rw (← k) at (book-whole a (drop at xs) (w .early) f) in
         state-is ∙ rw (b, book-ended (judge a (take n (drop at xs)) .account) (drop n (drop at xs)) h) refl
 
+    -- and the bytes behind it, which are not read
+    ended-left : 2 ≤ judge a (take n (drop at xs)) .account .stage → run noRecordYet xs .left ≡ drop n (drop at xs)
+    ended-left h =
+        let b = rw (← k) at (book-whole a (drop at xs) (w .early) f) in
+        left-is ∙ rw (b, book-ended (judge a (take n (drop at xs)) .account) (drop n (drop at xs)) h) refl
+
+    -- they begin where it ends
+    accepted-is : Accepted (at + length (take n (drop at xs))) (ltb (at + length (take n (drop at xs))) (length xs))
+        ≡ acceptedBy (drop n (drop at xs)) xs
+    accepted-is =
+        let l = length-take-le n (drop at xs) (record-in (drop at xs) n f k) in
+        let d = length-drop n (drop at xs) in
+        let e = length-drop at xs in
+        let p : at + length (take n (drop at xs)) ≡ length xs - length (drop n (drop at xs)) = omega (arith, l, d, e, inside) in
+        let q : length xs - (at + length (take n (drop at xs))) ≡ length (drop n (drop at xs)) = omega (arith, l, d, e, inside) in
+        ap (λ (b : Bool). Accepted (at + length (take n (drop at xs))) b)
+        (ltb-less (at + length (take n (drop at xs))) (length xs) ∙ ap (λ (m : ℕ). ltb 0 m) q)
+        ∙ ap (λ (m : ℕ). Accepted m (ltb 0 (length (drop n (drop at xs))))) p
+
     -- the reason of a refusal by another number than 1
     reason-is : (f : Refusal) → f .accepted ≡ a .records → (f .code ≡ 1 → ⊥)
         → reasonOf f xs ≡ reason (f .code) (a .records) (f .field) at a (take n (drop at xs))
@@ -131,15 +162,15 @@ module _ {xs : List ℕ} {a : Account} {at : ℕ} (w : Way xs a at) where
 
     -- what there is to say, where it ends the book
     pub why-ended : 2 ≤ judge a (take n (drop at xs)) .account .stage
-        → ended a at (take n (drop at xs)) (judge a (take n (drop at xs)) .account) ≡ whyOf xs
+        → ended a at (take n (drop at xs)) (judge a (take n (drop at xs)) .account) (length xs) ≡ whyOf xs
     unfolding whyOf whyBy
     why-ended h =
         let r = take n (drop at xs) in
         let next = judge a r .account in
         let most = stage-most next (in-range-judge a r (w .range) (w .early)) in
-        rw (ended-state h, le-ltb _ _ h)
+        rw (ended-state h, ended-left h, le-ltb _ _ h)
         (⊎-elim
-        (λ (q : next .stage < 3). let z : next .stage ≡ 2 = omega arith in rw (eq-eqb _ _ z) refl)
+        (λ (q : next .stage < 3). let z : next .stage ≡ 2 = omega arith in rw (eq-eqb _ _ z) accepted-is)
         (λ (q : 3 ≤ next .stage).
         let s : next .stage ≡ 3 = omega arith in
         let g = faulty a r (w .early) s (record-whole (drop at xs) n f k) in
@@ -152,7 +183,7 @@ module _ {xs : List ℕ} {a : Account} {at : ℕ} (w : Way xs a at) where
       pub way-next : next .stage < 2 → Way xs next (at + n)
       way-next h = rw e (way-on (rw e at h))
 
-      pub ended-next : {bytes : List ℕ} → bytes ≡ take n (drop at xs) → 2 ≤ next .stage → ended a at bytes next ≡ whyOf xs
+      pub ended-next : {bytes : List ℕ} → bytes ≡ take n (drop at xs) → 2 ≤ next .stage → ended a at bytes next (length xs) ≡ whyOf xs
       ended-next b h = rw (e, b) (why-ended (rw e at h))
 
       pub stage-next : next .stage ≤ 3

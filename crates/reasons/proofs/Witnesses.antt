@@ -52,9 +52,10 @@ close count = 0 ∷ 4 ∷ 1 ∷ 8 ∷ 0 ∷ count ∷ []
 abbrev headed : List (List ℕ) → List ℕ
 headed rs = joined (farm ∷ heading 1 2 12 1 ∷ rs)
 
--- refused by that number, in the record with that number, whose bytes and field are those, of that kind and row, comparing those numbers
-abbrev toldOf : ℕ → ℕ → ℕ → ℕ → ℕ → ℕ → ℕ → ℕ → ℕ → Verdict
-toldOf code number from to field kind row value limit =
+-- refused by that number, in the record with that number, whose bytes and field are those, of that kind and row, after a heading of that group,
+-- comparing those numbers
+abbrev toldOf : ℕ → ℕ → ℕ → ℕ → ℕ → ℕ → ℕ → ℕ → ℕ → ℕ → Verdict
+toldOf code number from to field kind row group value limit =
     Refused (record {
       code = code;
       number = number;
@@ -63,20 +64,29 @@ toldOf code number from to field kind row value limit =
       field = field;
       kind = kind;
       row = row;
+      group = group;
       some = true;
       value = value;
       limit = limit;
     })
 
--- the same, the kind being the row
+-- the same, the kind being the row: before any heading, and after that of group 12
 abbrev told : ℕ → ℕ → ℕ → ℕ → ℕ → ℕ → ℕ → ℕ → Verdict
-told code number from to field kind value limit = toldOf code number from to field kind kind value limit
+told code number from to field kind value limit = toldOf code number from to field kind kind 0 value limit
 
-pub right-accepted : whyOf (joined (farm ∷ close 1 ∷ [])) ≡ Accepted
+abbrev inGroup : ℕ → ℕ → ℕ → ℕ → ℕ → ℕ → ℕ → ℕ → Verdict
+inGroup code number from to field kind value limit = toldOf code number from to field kind kind 12 value limit
+
+pub right-accepted : whyOf (joined (farm ∷ close 1 ∷ [])) ≡ Accepted 17 false
 unfolding whyOf whyBy run book bookBy front valAt first judge accepted sortOf table size valuesAt firstBad inPlace
 right-accepted = refl
 
-pub factors-accepted : whyOf (joined (factors 0 21 1 54 ∷ close 1 ∷ [])) ≡ Accepted
+-- a byte after the close
+pub more-accepted : whyOf (joined (farm ∷ close 1 ∷ (7 ∷ []) ∷ [])) ≡ Accepted 17 true
+unfolding whyOf whyBy run book bookBy front valAt first judge accepted sortOf table size valuesAt firstBad inPlace
+more-accepted = refl
+
+pub factors-accepted : whyOf (joined (factors 0 21 1 54 ∷ close 1 ∷ [])) ≡ Accepted 20 false
 unfolding whyOf whyBy run book bookBy front valAt first judge accepted sortOf table size valuesAt firstBad inPlace
 factors-accepted = refl
 
@@ -113,47 +123,47 @@ unfolding whyOf whyBy run book bookBy front valAt first judge accepted sortOf ta
 broken-4 = refl
 
 -- version 2 with the length of version 1
-pub broken-4-farm : whyOf (shortFarm 2) ≡ toldOf 4 0 0 10 0 1 11 9 12
+pub broken-4-farm : whyOf (shortFarm 2) ≡ toldOf 4 0 0 10 0 1 11 0 9 12
 unfolding whyOf whyBy run book bookBy front valAt first judge accepted sortOf table size valuesAt firstBad inPlace recordsOf recordsBy compared
 broken-4-farm = refl
 
 -- below and above a range, a ration's days, a heading's class, the change and the years of a change of tillage, and the region of grazing
-pub broken-7 : (whyOf (headed (ration 0 ∷ [])) ≡ told 7 2 20 31 1 3 0 1)
+pub broken-7 : (whyOf (headed (ration 0 ∷ [])) ≡ inGroup 7 2 20 31 1 3 0 1)
     × (whyOf (joined (farm ∷ heading 1 2 12 9 ∷ [])) ≡ told 7 1 11 19 2 2 9 4)
     × (whyOf (joined (farm ∷ tillage 7 10 ∷ [])) ≡ told 7 1 11 23 3 9 7 6)
     × (whyOf (joined (farm ∷ tillage 6 0 ∷ [])) ≡ told 7 1 11 23 4 9 0 1)
-    × (whyOf (headed (grazing 8 0 ∷ [])) ≡ told 7 2 20 29 1 10 8 7)
+    × (whyOf (headed (grazing 8 0 ∷ [])) ≡ inGroup 7 2 20 29 1 10 8 7)
 unfolding whyOf whyBy run book bookBy front valAt first judge accepted sortOf table size valuesAt firstBad inPlace recordsOf recordsBy compared
     valuesCompared
 broken-7 = (refl, refl, refl, refl, refl)
 
 -- a CH4 factor of 0 and one of 1001, an N2O factor of 0 and one of 1001
-pub broken-7-farm : (whyOf (factors 0 0 1 54) ≡ toldOf 7 0 0 13 3 1 11 0 1)
-    × (whyOf (factors 3 233 1 54) ≡ toldOf 7 0 0 13 3 1 11 1001 1000)
-    × (whyOf (factors 0 21 0 0) ≡ toldOf 7 0 0 13 4 1 11 0 1)
-    × (whyOf (factors 0 21 3 233) ≡ toldOf 7 0 0 13 4 1 11 1001 1000)
+pub broken-7-farm : (whyOf (factors 0 0 1 54) ≡ toldOf 7 0 0 13 3 1 11 0 0 1)
+    × (whyOf (factors 3 233 1 54) ≡ toldOf 7 0 0 13 3 1 11 0 1001 1000)
+    × (whyOf (factors 0 21 0 0) ≡ toldOf 7 0 0 13 4 1 11 0 0 1)
+    × (whyOf (factors 0 21 3 233) ≡ toldOf 7 0 0 13 4 1 11 0 1001 1000)
 unfolding whyOf whyBy run book bookBy front valAt first judge accepted sortOf table size valuesAt firstBad inPlace recordsOf recordsBy compared
     valuesCompared
 broken-7-farm = (refl, refl, refl, refl)
 
-pub broken-8 : whyOf (headed (heading 1 2 12 1 ∷ [])) ≡ told 8 2 20 28 0 2 12 12
+pub broken-8 : whyOf (headed (heading 1 2 12 1 ∷ [])) ≡ inGroup 8 2 20 28 0 2 12 12
 unfolding whyOf whyBy run book bookBy front valAt first judge accepted sortOf table size valuesAt firstBad inPlace recordsOf recordsBy compared
     valuesCompared
 broken-8 = refl
 
-pub broken-9 : whyOf (headed (ration 200 ∷ ration 167 ∷ [])) ≡ told 9 3 32 43 0 3 367 366
+pub broken-9 : whyOf (headed (ration 200 ∷ ration 167 ∷ [])) ≡ inGroup 9 3 32 43 0 3 367 366
 unfolding whyOf whyBy run book bookBy front valAt first judge accepted sortOf table size valuesAt firstBad inPlace recordsOf recordsBy compared
     valuesCompared
 broken-9 = refl
 
-pub broken-12 : whyOf (headed (close 5 ∷ [])) ≡ told 12 2 20 25 0 8 5 2
+pub broken-12 : whyOf (headed (close 5 ∷ [])) ≡ inGroup 12 2 20 25 0 8 5 2
 unfolding whyOf whyBy run book bookBy front valAt first judge accepted sortOf table size valuesAt firstBad inPlace recordsOf recordsBy compared
     valuesCompared
 broken-12 = refl
 
 -- no numbers: out of its place
 pub broken-6 : whyOf (joined (farm ∷ ration 31 ∷ []))
-    ≡ Refused (record { code = 6; number = 1; first = 11; last = 22; field = 0; kind = 3; row = 3; some = false; value = 0; limit = 0 })
+    ≡ Refused (record { code = 6; number = 1; first = 11; last = 22; field = 0; kind = 3; row = 3; group = 0; some = false; value = 0; limit = 0 })
 unfolding whyOf whyBy run book bookBy front valAt first judge accepted sortOf table size valuesAt firstBad inPlace recordsOf recordsBy compared
     valuesCompared
 broken-6 = refl
@@ -163,19 +173,19 @@ abbrev cattle : ℕ → ℕ → List ℕ
 cattle gain solid =
     0 ∷ 20 ∷ 1 ∷ 4 ∷ 0 ∷ 30 ∷ 0 ∷ 0 ∷ 0 ∷ 0 ∷ 0 ∷ 0 ∷ 0 ∷ 0 ∷ 0 ∷ gain ∷ 0 ∷ solid ∷ 39 ∷ 15 ∷ 0 ∷ 0 ∷ []
 
-pub broken-10 : whyOf (headed (cattle 0 2 ∷ [])) ≡ told 10 2 20 41 0 4 10001 10000
+pub broken-10 : whyOf (headed (cattle 0 2 ∷ [])) ≡ inGroup 10 2 20 41 0 4 10001 10000
 unfolding whyOf whyBy run book bookBy front valAt first judge accepted sortOf table size valuesAt firstBad inPlace recordsOf recordsBy compared
     valuesCompared
 broken-10 = refl
 
 -- the fractions of two records come to more than the whole
-pub broken-10-grazed : whyOf (headed (grazing 3 0 ∷ grazing 3 1 ∷ [])) ≡ told 10 3 30 39 0 10 10001 10000
+pub broken-10-grazed : whyOf (headed (grazing 3 0 ∷ grazing 3 1 ∷ [])) ≡ inGroup 10 3 30 39 0 10 10001 10000
 unfolding whyOf whyBy run book bookBy front valAt first judge accepted sortOf table size valuesAt firstBad inPlace recordsOf recordsBy compared
     valuesCompared
 broken-10-grazed = refl
 
 pub broken-11 : whyOf (headed (cattle 1 1 ∷ []))
-    ≡ Refused (record { code = 11; number = 2; first = 20; last = 41; field = 0; kind = 4; row = 4; some = false; value = 0; limit = 0 })
+    ≡ Refused (record { code = 11; number = 2; first = 20; last = 41; field = 0; kind = 4; row = 4; group = 12; some = false; value = 0; limit = 0 })
 unfolding whyOf whyBy run book bookBy front valAt first judge accepted sortOf table size valuesAt firstBad inPlace recordsOf recordsBy compared
     valuesCompared belowZero
 broken-11 = refl

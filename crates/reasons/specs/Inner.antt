@@ -5,7 +5,7 @@ use mathlib.Core.Path.{_≡_}
 use mathlib.Core.List.{List}
 use mathlib.Core.Logic.{_⊎_}
 use lib.ListN.{length, take}
-use lib.Dec.{eqb}
+use lib.Dec.{ltb, eqb}
 use Rattle.base.specs.Choice.{pick}
 use Rattle.codec.specs.Table.{lastRow, lengthOf}
 use Rattle.account.specs.declared.Account.{Account}
@@ -53,7 +53,8 @@ unread unfinished a at rest = unfinishedBy rest
 unread badLength a at rest = Refused (reason 1 (a .records) 0 at a (take 2 rest))
 unread whole a at rest = NextLength
 
--- the answer where the record r, at the byte at behind the account a, leaves a book that has ended with the account next
-abbrev pub ended : Account → ℕ → List ℕ → Account → Verdict
-ended a at r next =
-    pick (eqb (next .stage) 2) Accepted (Refused (reason (next .refusal .code) (a .records) (next .refusal .field) at a r))
+-- the answer where the record r, at the byte at behind the account a, leaves a book of so many bytes that has ended with the account next
+abbrev pub ended : Account → ℕ → List ℕ → Account → ℕ → Verdict
+ended a at r next many =
+    pick (eqb (next .stage) 2) (Accepted (at + length r) (ltb (at + length r) many))
+    (Refused (reason (next .refusal .code) (a .records) (next .refusal .field) at a r))

@@ -4,7 +4,9 @@
 use Prim.Native.Nat.{ℕ, _+_, _-_, _<_}
 use mathlib.Core.Path.{_≡_}
 use mathlib.Core.List.{List, [], _∷_, _++_}
+use mathlib.Core.Bool.{Bool}
 use lib.ListN.{length, take, drop}
+use lib.Dec.{ltb}
 use Rattle.codec.specs.Table.{lengthMost}
 use Rattle.codec.specs.Codec.{valAt}
 use Rattle.account.specs.declared.Account.{Account}
@@ -66,6 +68,8 @@ pub record Truth (w : Reason) (xs : List ℕ) : Type 0 where
   pub accepted : AllAccepted noRecord (recordsBefore w xs)
   -- and the account behind them is that of rule 2
   pub account : run noRecordYet (take (w .first) xs) .state .account ≡ accountBefore w xs
+  -- whose heading has the group that is told
+  pub group : w .group ≡ accountBefore w xs .heading .group
   pub length : w .code ≡ 1 → BrokenLength w xs
   pub other : (w .code ≡ 1 → ⊥) → BrokenRecord w xs
 
@@ -78,9 +82,22 @@ pub record MissingExact (n : ℕ) (xs : List ℕ) : Type 0 where
   pub enough : (ys : List ℕ) → length ys ≡ n → front (begun xs ++ ys) ≡ whole
   pub fewer : (ys : List ℕ) → length ys < n → front (begun xs ++ ys) ≡ unfinished
 
+-- bytes stand after the close, or none do: those from the byte end on, which rule 2 leaves
+pub record AfterClose (end : ℕ) (more : Bool) (xs : List ℕ) : Type 0 where
+  pub closed : run noRecordYet xs .state .account .stage ≡ 2
+  pub left : drop end xs ≡ run noRecordYet xs .left
+  pub some : more ≡ ltb end (length xs)
+
+-- said to be accepted
+abbrev pub IsAccepted : Verdict → Type 0
+IsAccepted (Accepted end more) = Unit {0}
+IsAccepted (Missing n) = ⊥
+IsAccepted NextLength = ⊥
+IsAccepted (Refused w) = ⊥
+
 -- said to be unfinished
 abbrev pub Unfinished : Verdict → Type 0
-Unfinished Accepted = ⊥
+Unfinished (Accepted end more) = ⊥
 Unfinished (Missing n) = Unit {0}
 Unfinished NextLength = Unit {0}
 Unfinished (Refused w) = ⊥

@@ -26,7 +26,7 @@ use Rattle.reasons.specs.declared.Verdict.the-variants.{Accepted, Missin
 abbrev pub firstByte : ℕ → List ℕ → ℕ
 firstByte n xs = length (joined (take n (recordsOf xs)))
 
--- what the number code says of the bytes r, which begin at the byte first, behind so many records whose account is a
+-- what the number code says of the bytes r, which begin at the byte first, after so many records whose account is a; the group is the heading's there
 abbrev pub reason : ℕ → ℕ → ℕ → ℕ → Account → List ℕ → Reason
 reason code number field first a r =
     record {
@@ -37,6 +37,7 @@ reason code number field first a r =
       field = field;
       kind = kindByte r;
       row = kindOf r;
+      group = a .heading .group;
       some = compared code a r .some;
       value = compared code a r .value;
       limit = compared code a r .limit;
@@ -61,11 +62,15 @@ unfinishedBy h = pick (ltb (length h) 2) NextLength (Missing (need h - length h)
 
 -- ---- any book
 
--- by the state that rule 2 leaves
-unfoldable pub whyBy : State → List ℕ → Verdict
-whyBy s xs =
+-- a closed book: the first byte after the close, and whether there is one, by the bytes that rule 2 leaves
+abbrev pub acceptedBy : List ℕ → List ℕ → Verdict
+acceptedBy left xs = Accepted (length xs - length left) (ltb 0 (length left))
+
+-- by the state that rule 2 leaves, and the bytes
+unfoldable pub whyBy : State → List ℕ → List ℕ → Verdict
+whyBy s left xs =
     pick (ltb (s .account .stage) 2) (unfinishedBy (heldOf s))
-    (pick (eqb (s .account .stage) 2) Accepted (Refused (reasonOf (s .account .refusal) xs)))
+    (pick (eqb (s .account .stage) 2) (acceptedBy left xs) (Refused (reasonOf (s .account .refusal) xs)))
 
 unfoldable pub whyOf : List ℕ → Verdict
-whyOf xs = whyBy (run noRecordYet xs .state) xs
+whyOf xs = whyBy (run noRecordYet xs .state) (run noRecordYet xs .left) xs

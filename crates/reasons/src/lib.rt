@@ -24,7 +24,8 @@ ghost use Rattle.reasons.specs.Why.{reason, whyOf};
 ghost use Rattle.reasons.specs.Inner.{Faulty, unread, ended};
 
 // Why a record is refused: the rule's number, the record's number and its first and last byte, all from 0; the field from 1, with 7 alone; the kind
-// byte; the row of the table by which its fields are named; and the value and the limit, where there are any.
+// byte; the row of the table by which its fields are named; the group of the heading before it, 0 where there is none; and the value and the limit,
+// where there are any.
 pub struct Reason {
     pub code: u8,
     pub number: u16,
@@ -33,14 +34,16 @@ pub struct Reason {
     pub field: u8,
     pub kind: u8,
     pub row: u8,
+    pub group: u16,
     pub some: bool,
     pub value: u64,
     pub limit: u64,
 }
 
-// What there is to say of a book. An unfinished one lacks so many bytes of its last record, or the next record's length is not there yet.
+// What there is to say of a book. An accepted one has its first byte after the close at that place, and the bool says whether there is one. An
+// unfinished one lacks so many bytes of its last record, or the next record's length is not there yet.
 pub enum Verdict {
-    Accepted,
+    Accepted(usize, bool),
     Missing(usize),
     NextLength,
     Refused(Reason),
@@ -53,6 +56,7 @@ fn broken_length(a: Account, at: usize, rest: &[u8]) -> Reason
 {
     let n = be16(rest, 0);
     let numbers = outside(4, LENGTH_MOST, n);
+    let heading = a.heading;
     Reason {
         code: 1,
         number: a.records,
@@ -61,6 +65,7 @@ fn broken_length(a: Account, at: usize, rest: &[u8]) -> Reason
         field: 0,
         kind: 0,
         row: 0,
+        group: heading.group,
         some: numbers.some,
         value: numbers.value,
         limit: numbers.limit,
@@ -90,6 +95,7 @@ fn broken(a: Account, at: usize, r: &[u8], code: u8, field: u8) -> Reason
     let numbers = compared(a, r, code, field);
     let number = a.records;
     let row = row_of(r[2], r[3]);
+    let heading = a.heading;
     Reason {
         code: code,
         number: number,
@@ -98,20 +104,22 @@ fn broken(a: Account, at: usize, r: &[u8], code: u8, field: u8) -> Reason
         field: field,
         kind: r[3],
         row: row,
+        group: heading.group,
         some: numbers.some,
         value: numbers.value,
         limit: numbers.limit,
     }
 }
 
-// The record r, at the byte at, closes the book or is refused.
-fn ended(a: Account, at: usize, r: &[u8], next: Account) -> Verdict
+// The record r, at the byte at, closes the book, which has so many bytes, or is refused.
+fn ended(a: Account, at: usize, r: &[u8], next: Account, many: usize) -> Verdict
     requires { ⌜ (next .stage ≡ 3 → Faulty a (now r) (next .refusal .code) (next .refusal .field)) ⌝ }
     requires { ⌜ (2 ≤ next .stage) × (next .stage ≤ 3) × (at + length (now r) ≤ 18446744073709551615) ⌝ }
-    ensures { λ w. ⌜ w ≡ ended a at (now (r .entry)) next ⌝ }
+    ensures { λ w. ⌜ w ≡ ended a at (now (r .entry)) next many ⌝ }
 {
     if next.stage == 2 {
-        return Verdict::Accepted;
+        let end = at + r.len();
+        return Verdict::Accepted(end, end < many);
     }
     let f = next.refusal;
     Verdict::Refused(broken(a, at, r, f.code, f.field))
@@ -133,7 +141,7 @@ pub fn why(book: &[u8]) -> Verdict
         let j = judge(a, r, LINES_MOST);
         let next = j.account;
         if 2 <= next.stage {
-            return ended(a, at, r, next);
+            return ended(a, at, r, next, book.len());
         }
         a = next;
         at += n;

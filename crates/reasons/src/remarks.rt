@@ -2,19 +2,23 @@
 use crate::Reason;
 use crate::Verdict;
 use codec::LAST_KIND;
+use names::decimals;
 use names::say_field;
 use names::say_kind;
 use names::say_sentence;
+use names::say_unit;
 use printing::say;
 use printing::say_number;
+use printing::say_pointed;
 use typed_words::part;
 ghost use mathlib.Core.Path.{_≡_};
 ghost use Prim.Native.Nat.{_-_, _≤_};
 ghost use lib.ListN.{length};
 ghost use Rattle.printing.specs.Said.{Said};
-ghost use Rattle.reasons.specs.Remarks.{placeText, positionText, numbersText, refusedText, missingText, machineText, nameText, whereText};
-ghost use Rattle.reasons.specs.Remarks.{subjectLine, subjectText};
-ghost use Rattle.reasons.specs.Remarks.{exactly, relationText, comparedText, faultText, reasonText, lackText, peopleText};
+ghost use Rattle.reasons.specs.Remarks.{placeText, positionText, numbersText, refusedText, missingText, machineText};
+ghost use Rattle.reasons.specs.Remarks.{ofGroupKind, groupText, nameText, whereText, subjectLine, subjectText, measuredBy, amountText};
+ghost use Rattle.reasons.specs.Remarks.{measuredText, exactly, relationText, comparedText, faultText, reasonText, lackText, afterText};
+ghost use Rattle.reasons.specs.Remarks.{closedText, peopleText};
 ghost use Rattle.reasons.specs.Remarks.{isAccepted, statusByte};
 
 fn say_place(out: &mut [u8], at: usize, number: u64, first: u64, last: u64) -> usize
@@ -77,36 +81,52 @@ pub fn say_first(out: &mut [u8], v: Verdict) -> usize
     ensures { λ r. ⌜ Said (now (out .entry)) (now (out .exit)) 0 (machineText v) r ⌝ }
 {
     match v {
-        Verdict::Accepted => say(out, 0, b"accepted\n"),
+        Verdict::Accepted(end, more) => say(out, 0, b"accepted\n"),
         Verdict::Missing(n) => say_missing(out, n as u64),
         Verdict::NextLength => say(out, 0, b"unfinished: the next length is not known\n"),
         Verdict::Refused(w) => say_refused(out, w),
     }
 }
 
-// The kind's name in brackets, where the book has the kind.
-fn say_name(out: &mut [u8], at: usize, kind: u64) -> usize
-    requires { ⌜ at ≤ length (now out) ⌝ }
-    ensures { λ r. ⌜ Said (now (out .entry)) (now (out .exit)) at (nameText kind) r ⌝ }
+// A detail of the group, by the kind byte.
+fn of_group(kind: u64) -> bool
+    ensures { λ r. ⌜ r ≡ ofGroupKind kind ⌝ }
 {
-    if (1 <= kind) & (kind <= LAST_KIND) {
-        let a = say(out, at, b" (");
-        let b = say_kind(out, a, kind);
-        return say(out, b, b")");
+    (kind == 3) | (kind == 4) | (kind == 5) | (kind == 10)
+}
+
+// The group of a detail, where a heading stands before it.
+fn say_group(out: &mut [u8], at: usize, kind: u64, group: u64) -> usize
+    requires { ⌜ at ≤ length (now out) ⌝ }
+    ensures { λ r. ⌜ Said (now (out .entry)) (now (out .exit)) at (groupText kind group) r ⌝ }
+{
+    if of_group(kind) & (group != 0) {
+        let a = say(out, at, b", group ");
+        return say_number(out, a, group);
     }
     at
 }
 
-fn say_where(out: &mut [u8], number: u64, kind: u64, first: u64, last: u64) -> usize
-    ensures { λ r. ⌜ Said (now (out .entry)) (now (out .exit)) 0 (whereText number kind first last) r ⌝ }
+// The kind's name and the group in brackets, where the book has the kind.
+fn say_name(out: &mut [u8], at: usize, kind: u64, group: u64) -> usize
+    requires { ⌜ at ≤ length (now out) ⌝ }
+    ensures { λ r. ⌜ Said (now (out .entry)) (now (out .exit)) at (nameText kind group) r ⌝ }
+{
+    if (1 <= kind) & (kind <= LAST_KIND) {
+        let a = say(out, at, b" (");
+        let b = say_kind(out, a, kind);
+        let c = say_group(out, b, kind, group);
+        return say(out, c, b")");
+    }
+    at
+}
+
+fn say_where(out: &mut [u8], number: u64, kind: u64, group: u64) -> usize
+    ensures { λ r. ⌜ Said (now (out .entry)) (now (out .exit)) 0 (whereText number kind group) r ⌝ }
 {
     let a = say(out, 0, b"record ");
     let b = say_number(out, a, number);
-    let c = say_name(out, b, kind);
-    let d = say(out, c, b", bytes ");
-    let e = say_number(out, d, first);
-    let f = say(out, e, b" to ");
-    say_number(out, f, last)
+    say_name(out, b, kind, group)
 }
 
 // Which line of the subjects: a pig's parts, the grazed fractions and the lengths of either farm record have their own.
@@ -189,16 +209,49 @@ fn say_relation(out: &mut [u8], at: usize, code: u64, kind: u64, value: u64, lim
     say(out, at, b"at most ")
 }
 
+// The field whose decimals and unit the two numbers have; 12, which no record has, where they are whole numbers.
+fn measured(code: u64, row: u64, field: usize) -> usize
+    ensures { λ r. ⌜ r ≡ measuredBy code row field ⌝ }
+{
+    if code == 7 {
+        return less_one(field);
+    }
+    if code != 10 {
+        return 12;
+    }
+    if row == 4 {
+        return 6;
+    }
+    if row == 5 { 8 } else { 3 }
+}
+
+fn say_amount(out: &mut [u8], at: usize, row: u64, i: usize, v: u64) -> usize
+    requires { ⌜ at ≤ length (now out) ⌝ }
+    ensures { λ r. ⌜ Said (now (out .entry)) (now (out .exit)) at (amountText row i v) r ⌝ }
+{
+    let d = decimals(row, i);
+    say_pointed(out, at, v, d)
+}
+
+fn say_measured(out: &mut [u8], at: usize, row: u64, i: usize, v: u64) -> usize
+    requires { ⌜ at ≤ length (now out) ⌝ }
+    ensures { λ r. ⌜ Said (now (out .entry)) (now (out .exit)) at (measuredText row i v) r ⌝ }
+{
+    let a = say_amount(out, at, row, i, v);
+    say_unit(out, a, row, i)
+}
+
 fn say_compared(out: &mut [u8], at: usize, w: Reason) -> usize
     requires { ⌜ at ≤ length (now out) ⌝ }
     ensures { λ r. ⌜ Said (now (out .entry)) (now (out .exit)) at (comparedText w) r ⌝ }
 {
+    let i = measured(w.code as u64, w.row as u64, w.field as usize);
     let a = say_subject(out, at, w.code as u64, w.row as u64, w.field as usize);
     let b = say(out, a, b" is ");
-    let c = say_number(out, b, w.value);
+    let c = say_measured(out, b, w.row as u64, i, w.value);
     let d = say(out, c, b"; it must be ");
     let e = say_relation(out, d, w.code as u64, w.kind as u64, w.value, w.limit);
-    say_number(out, e, w.limit)
+    say_amount(out, e, w.row as u64, i, w.limit)
 }
 
 fn say_fault(out: &mut [u8], at: usize, w: Reason) -> usize
@@ -215,13 +268,7 @@ fn say_fault(out: &mut [u8], at: usize, w: Reason) -> usize
 fn say_reason(out: &mut [u8], w: Reason) -> usize
     ensures { λ r. ⌜ Said (now (out .entry)) (now (out .exit)) 0 (reasonText w) r ⌝ }
 {
-    let a = say_where(
-        out,
-        w.number as u64,
-        w.kind as u64,
-        w.first as u64,
-        w.last as u64,
-    );
+    let a = say_where(out, w.number as u64, w.kind as u64, w.group as u64);
     let b = say(out, a, b":");
     let c = say_fault(out, b, w);
     say(out, c, b"\n")
@@ -232,7 +279,31 @@ fn say_lack(out: &mut [u8], n: u64) -> usize
 {
     let a = say(out, 0, b"the book ends inside a record, which needs ");
     let b = say_number(out, a, n);
-    say(out, b, b" more\n")
+    if n == 1 {
+        return say(out, b, b" more byte\n");
+    }
+    say(out, b, b" more bytes\n")
+}
+
+// Where bytes stand after the close.
+fn say_after(out: &mut [u8], at: usize, end: u64, more: bool) -> usize
+    requires { ⌜ at ≤ length (now out) ⌝ }
+    ensures { λ r. ⌜ Said (now (out .entry)) (now (out .exit)) at (afterText end more) r ⌝ }
+{
+    if !more {
+        return at;
+    }
+    let a = say(out, at, b"; bytes stand after its close, from byte ");
+    let b = say_number(out, a, end);
+    say(out, b, b" on, and change nothing")
+}
+
+fn say_closed(out: &mut [u8], end: u64, more: bool) -> usize
+    ensures { λ r. ⌜ Said (now (out .entry)) (now (out .exit)) 0 (closedText end more) r ⌝ }
+{
+    let a = say(out, 0, b"the book is right and closed");
+    let b = say_after(out, a, end, more);
+    say(out, b, b"\n")
 }
 
 // The line for people, from the start of out.
@@ -240,7 +311,7 @@ pub fn say_second(out: &mut [u8], v: Verdict) -> usize
     ensures { λ r. ⌜ Said (now (out .entry)) (now (out .exit)) 0 (peopleText v) r ⌝ }
 {
     match v {
-        Verdict::Accepted => say(out, 0, b"the book is right and closed\n"),
+        Verdict::Accepted(end, more) => say_closed(out, end as u64, more),
         Verdict::Missing(n) => say_lack(out, n as u64),
         Verdict::NextLength => say(
             out,
@@ -255,7 +326,7 @@ pub fn accepted(v: Verdict) -> bool
     ensures { λ r. ⌜ r ≡ isAccepted v ⌝ }
 {
     match v {
-        Verdict::Accepted => true,
+        Verdict::Accepted(end, more) => true,
         Verdict::Missing(n) => false,
         Verdict::NextLength => false,
         Verdict::Refused(w) => false,

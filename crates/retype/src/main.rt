@@ -4,6 +4,8 @@ use inputs::Input;
 use libc::STDERR_FILENO;
 use libc::STDIN_FILENO;
 use libc::STDOUT_FILENO;
+use names::hints::look;
+use names::hints::say_hint;
 ghost use mathlib.Core.Path.{_≡_};
 ghost use Prim.Native.Nat.{_≤_};
 ghost use lib.ListN.{length};
@@ -76,7 +78,7 @@ fn run(from: Work, book: &[u8], text: &mut [u8]) -> Work
 }
 
 // The last word. Where a read or a write failed there is none: the book was not seen whole, or its lines were not.
-fn end(w: Work, input: Input) {
+fn end(w: Work, input: Input, book: &[u8]) {
     if !input.good {
         return;
     }
@@ -86,6 +88,14 @@ fn end(w: Work, input: Input) {
     let mut text = [0u8; 512];
     let state = w.state;
     let n = retyping::say_end(&mut text, state.account, w.at < input.len);
+    io::write_all(STDERR_FILENO, &text[..n]);
+    tell_hint(book);
+}
+
+// A hint where the input is no book but a typed text, a sheet or nothing.
+fn tell_hint(book: &[u8]) {
+    let mut text = [0u8; 128];
+    let n = say_hint(&mut text, 0, look(book));
     io::write_all(STDERR_FILENO, &text[..n]);
 }
 
@@ -97,18 +107,22 @@ fn tell_status(w: Work, input: Input) {
     }
 }
 
-fn main() {
-    let mut book = book_buffer();
+fn answer(book: &[u8], input: Input) {
     let mut text = io::large_buffer();
-    let input = inputs::read_all(STDIN_FILENO, b"standard input", &mut book);
     let start = Work {
         state: State::new(),
         at: 0,
         written: true,
         more: true,
     };
-    let n = input.len;
-    let last = run(start, &book[..n], &mut text);
-    end(last, input);
+    let last = run(start, book, &mut text);
+    end(last, input, book);
     tell_status(last, input);
+}
+
+fn main() {
+    let mut book = book_buffer();
+    let input = inputs::read_all(STDIN_FILENO, b"standard input", &mut book);
+    let n = input.len;
+    answer(&book[..n], input);
 }

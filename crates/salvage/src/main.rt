@@ -2,6 +2,8 @@
 use libc::STDERR_FILENO;
 use libc::STDIN_FILENO;
 use libc::STDOUT_FILENO;
+use names::hints::look;
+use names::hints::say_hint;
 use salvaging::Salvaged;
 use salvaging::remarks;
 ghost use mathlib.Core.Path.{_≡_};
@@ -130,11 +132,26 @@ fn save(damaged: &[u8]) -> Done {
     }
 }
 
+// A hint where the input is no book but a typed text, a sheet or nothing.
+fn tell_hint(damaged: &[u8]) {
+    let mut text = [0u8; 128];
+    let n = say_hint(&mut text, 0, look(damaged));
+    io::write_all(STDERR_FILENO, &text[..n]);
+}
+
 fn tell_status(done: Done) {
     if os::arg_count() == 2 {
         let status = remarks::status(done.saved, done.written);
         io::write_all(STATUS_FILENO, &[status]);
     }
+}
+
+fn answer(damaged: &[u8]) -> Done {
+    let done = save(damaged);
+    if !done.saved {
+        tell_hint(damaged);
+    }
+    done
 }
 
 fn main() {
@@ -145,5 +162,5 @@ fn main() {
         return;
     }
     let n = input.len;
-    tell_status(save(&damaged[..n]));
+    tell_status(answer(&damaged[..n]));
 }

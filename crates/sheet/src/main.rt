@@ -3,16 +3,19 @@ use book::State;
 use libc::STDERR_FILENO;
 use libc::STDIN_FILENO;
 use libc::STDOUT_FILENO;
+use names::hints::Given;
+use names::hints::look;
 
 // Where a caller that gives an argument, the word `status`, wants the status byte.
 const STATUS_FILENO: i32 = 3;
 
-// The state after what was read, whether a byte has come and whether the first is one of a typed text, whether no read and no write has failed,
-// and whether more may come.
+// The bytes that are read first: by them an input that is no book is known, however it comes.
+const FIRST: usize = 16;
+
+// The state after what was read, what the input looks like, whether no read and no write has failed, and whether more may come.
 struct Work {
     state: State,
-    started: bool,
-    typed: bool,
+    given: Given,
     read: bool,
     written: bool,
     more: bool,
@@ -58,14 +61,6 @@ fn sheet_part(from: Work, part: &[u8], text: &mut [u8]) -> Work {
     w
 }
 
-fn begin(mut w: Work, part: &[u8]) -> Work {
-    if !w.started {
-        w.started = true;
-        w.typed = listing::begins_typed(part);
-    }
-    w
-}
-
 // Behind the book's end nothing more is read.
 fn go_on(mut w: Work) -> Work {
     let state = w.state;
@@ -86,8 +81,7 @@ fn turn(mut w: Work, text: &mut [u8]) -> Work {
         return w;
     }
     let n = io::count(got, &buf);
-    let begun = begin(w, &buf[..n]);
-    go_on(sheet_part(begun, &buf[..n], text))
+    go_on(sheet_part(w, &buf[..n], text))
 }
 
 // Nothing says that the input ends: the turns count down from a number that no run uses up.
@@ -104,13 +98,28 @@ fn run(from: Work, text: &mut [u8]) -> Work {
     w
 }
 
-// The header, even of an empty book.
-fn begin_sheet(w: Work, text: &mut [u8]) -> Work {
+// What could not be read is not looked at.
+fn look_at(first: &[u8], read: bool) -> Given {
+    if read {
+        return look(first);
+    }
+    Given::Book
+}
+
+// The header, even of an empty book. Where the first bytes are fewer than were asked for they are all.
+fn begin(first: &[u8], read: bool, text: &mut [u8]) -> Work {
+    let start = Work {
+        state: State::new(),
+        given: look_at(first, read),
+        read: read,
+        written: true,
+        more: read & (first.len() == FIRST),
+    };
     let n = sheeting::begin(text);
     if !send(&text[..n]) {
-        return unwritten(w);
+        return unwritten(start);
     }
-    w
+    go_on(sheet_part(start, first, text))
 }
 
 // The last word, where all was read and written: it is no row.
@@ -123,7 +132,8 @@ fn tell_end(w: Work, text: &mut [u8]) {
 fn remark(w: Work) {
     let mut text = [0u8; 256];
     let state = w.state;
-    let n = listing::say_remark(&mut text, state.account, w.typed);
+    let given = w.given;
+    let n = listing::say_remark(&mut text, state.account, given);
     io::write_all(STDERR_FILENO, &text[..n]);
 }
 
@@ -137,15 +147,10 @@ fn tell_status(w: Work) {
 
 fn main() {
     let mut text = io::large_buffer();
-    let start = Work {
-        state: State::new(),
-        started: false,
-        typed: false,
-        read: true,
-        written: true,
-        more: true,
-    };
-    let begun = begin_sheet(start, &mut text);
+    let mut first = [0u8; FIRST];
+    let input = inputs::read_all(STDIN_FILENO, b"standard input", &mut first);
+    let n = input.len;
+    let begun = begin(&first[..n], input.good, &mut text);
     let done = run(begun, &mut text);
     tell_end(done, &mut text);
     remark(done);

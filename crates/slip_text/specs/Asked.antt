@@ -1,4 +1,4 @@
--- A line that a person types for document 01's what-if slip: GE Ym head days CHANGE X, with CHANGE feed, ym or head.
+-- A line that a person types for document 01's what-if slip: GE Ym head days CHANGE X, with CHANGE feed, ym or head, capitals or not.
 use Prim.Native.Nat.{ℕ}
 use mathlib.Core.Bool.{Bool, true}
 use mathlib.Core.List.{List}
@@ -7,7 +7,7 @@ use lib.Dec.{eqb, leb, ltb}
 use Rattle.base.specs.Choice.{pick}
 use Rattle.printing.specs.Ascii.{ascii}
 use lib.Ieee.{Float}
-use Rattle.typed_words.specs.Words.{nthWord, sameText}
+use Rattle.typed_words.specs.Words.{nthWord, sameText, lowered}
 use Rattle.typed_words.specs.Numbers.{wholeOf, noWhole, decimalOf}
 use Rattle.typed_words.specs.declared.Whole.{Whole}
 use Rattle.slip.specs.declared.Change.the-variants.{Feed, Ym, Head}
@@ -16,12 +16,16 @@ use Rattle.slip_text.specs.declared.Named.{Named}
 use Rattle.slip_text.specs.declared.Asked.{Asked}
 use Rattle.slip_text.specs.declared.Asked.the-variants.{Nothing, Estimate, Wrong}
 
+-- the word is the name, capitals or not
+abbrev pub isName : List ℕ → List ℕ → Bool
+isName word name = sameText (lowered word) name
+
 -- the word is feed, ym or head; with any other it is no change
 abbrev pub changeNamed : List ℕ → Float → Named
-changeNamed name x =
-    pick (sameText name (ascii "feed")) (record { good = true; change = Feed x })
-    (pick (sameText name (ascii "ym")) (record { good = true; change = Ym x })
-    (record { good = sameText name (ascii "head"); change = Head x }))
+changeNamed word x =
+    pick (isName word (ascii "feed")) (record { good = true; change = Feed x })
+    (pick (isName word (ascii "ym")) (record { good = true; change = Ym x })
+    (record { good = isName word (ascii "head"); change = Head x }))
 
 -- days up to 65535, whether in the ration's range or not
 abbrev pub upTo65535 : Whole → Whole

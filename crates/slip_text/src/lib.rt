@@ -66,24 +66,25 @@ fn read_days(line: &[u8]) -> typed_words::Whole
     }
 }
 
+// Capitals or not.
 fn read_change(line: &[u8], x: f64) -> Named
     ensures { λ r. ⌜ r ≡ changeNamed (nthWord 4 (now (line .entry))) x ⌝ }
 {
     let name = typed_words::word(line, 4);
-    if typed_words::is_word(name, b"feed") {
+    if typed_words::is_name(name, b"feed") {
         return Named {
             good: true,
             change: Change::Feed(x),
         };
     }
-    if typed_words::is_word(name, b"ym") {
+    if typed_words::is_name(name, b"ym") {
         return Named {
             good: true,
             change: Change::Ym(x),
         };
     }
     Named {
-        good: typed_words::is_word(name, b"head"),
+        good: typed_words::is_name(name, b"head"),
         change: Change::Head(x),
     }
 }

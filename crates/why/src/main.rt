@@ -1,6 +1,10 @@
-// Reads a book on standard input and says why it is refused, if it is: a line for machines and a line for people, on standard output.
+// Reads a book on standard input and says why it is refused, if it is: a line for machines and a line for people, on standard output. A hint goes to
+// standard error.
+use libc::STDERR_FILENO;
 use libc::STDIN_FILENO;
 use libc::STDOUT_FILENO;
+use names::hints::look;
+use names::hints::say_hint;
 use reasons::Verdict;
 use reasons::remarks;
 ghost use mathlib.Core.Path.{_≡_};
@@ -41,11 +45,25 @@ fn tell(v: Verdict) -> bool {
     true
 }
 
+// A hint where the input is no book but a typed text, a sheet or nothing.
+fn tell_hint(input: &[u8]) {
+    let mut text = [0u8; 128];
+    let n = say_hint(&mut text, 0, look(input));
+    io::write_all(STDERR_FILENO, &text[..n]);
+}
+
 fn tell_status(accepted: bool, written: bool) {
     if os::arg_count() == 2 {
         let status = remarks::status(accepted, written);
         io::write_all(STATUS_FILENO, &[status]);
     }
+}
+
+fn answer(book: &[u8]) {
+    let v = reasons::why(book);
+    let written = tell(v);
+    tell_hint(book);
+    tell_status(remarks::accepted(v), written);
 }
 
 fn main() {
@@ -56,7 +74,5 @@ fn main() {
         return;
     }
     let n = input.len;
-    let v = reasons::why(&book[..n]);
-    let written = tell(v);
-    tell_status(remarks::accepted(v), written);
+    answer(&book[..n]);
 }

@@ -10,4 +10,4 @@ broken-length-spec =
     (λ c κs. search needs)
     (λ c κs. tt)
     (λ c. search needs)
-    (λ c. broken-told _ _ _ (c .before .before .before .pre .0) (c .before .be16 .ensures) (c .outside .ensures)))
+    (λ c. broken-told _ _ _ (c .before .before .before .before .pre .0) (c .before .before .be16 .ensures) (c .before .outside .ensures)))

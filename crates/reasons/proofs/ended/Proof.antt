@@ -7,6 +7,7 @@ pub ended-spec : {M : Type 1} → statement M
 ended-spec =
     tie.close
     (tie.spec
+    (λ c. omega (arith, c .before .before .before .pre .1 .2))
     (λ c. rw (eq-eqb _ _ (c .if1 .taken)))
     (λ c κs.
     let p = c .before .before .before .before .pre in

@@ -17,4 +17,5 @@ end-spec =
     (λ c. search needs)
     (λ c. let s = c .before .before .say-end .ensures in sym (length-take-le _ _ (omega (arith, s .put .room, s .long))))
     (λ c κs. search needs)
+    (λ c κs. search needs)
     (λ c. search needs))

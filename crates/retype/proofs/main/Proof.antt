@@ -11,15 +11,10 @@ main-spec =
     tie.close
     (tie.spec
     (λ c κs. search needs)
-    (λ c κs. search needs)
     (λ c. search needs)
     (λ c. search needs)
     (λ c κs. search needs)
-    (λ c κs. search needs)
     (λ c. search needs)
-    (λ c. sym (length-take-le _ _ (omega (arith, c .before .before .before .read-all .ensures))))
-    (λ c. search needs)
-    (λ c κs. search needs)
-    (λ c κs. search needs)
+    (λ c. sym (length-take-le _ _ (omega (arith, c .before .before .read-all .ensures))))
     (λ c κs. search needs)
     (λ c. search needs))

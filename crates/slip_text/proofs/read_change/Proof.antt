@@ -6,16 +6,16 @@ use Rattle.slip_text.proofs.read_change.Tie as tie
 feed : tie.Need-returns
 feed c =
     let name = c .before .before .before .word in
-    simp (sym (name .ensures), sym (c .before .is-word .ensures), c .if1 .taken)
+    simp (sym (name .ensures), sym (c .before .is-name .ensures), c .if1 .taken)
 
 ym : tie.Need-returns-2
 ym c =
     let feed = c .before .before .before in
     simp (
       sym (feed .before .before .before .word .ensures),
-      sym (feed .before .is-word .ensures),
+      sym (feed .before .is-name .ensures),
       feed .if1 .left,
-      sym (c .before .is-word2 .ensures),
+      sym (c .before .is-name2 .ensures),
       c .if2 .taken,
     )
 
@@ -25,11 +25,11 @@ head c =
     let feed = ym .before .before .before in
     simp (
       sym (feed .before .before .before .word .ensures),
-      sym (feed .before .is-word .ensures),
+      sym (feed .before .is-name .ensures),
       feed .if1 .left,
-      sym (ym .before .is-word2 .ensures),
+      sym (ym .before .is-name2 .ensures),
       ym .if2 .left,
-      c .is-word3 .ensures,
+      c .is-name3 .ensures,
     )
 
 pub read-change-spec : {M : Type 1} → statement M

@@ -18,7 +18,4 @@ main-spec =
     (λ c. search needs)
     (λ c. sym (length-take-le _ _ (omega (arith, c .before .before .before .before .read-all .ensures))))
     (λ c κs. search needs)
-    (λ c κs. search needs)
-    (λ c κs. search needs)
-    (λ c κs. search needs)
     (λ c. search needs))

@@ -14,31 +14,40 @@ say-compared-spec =
     (λ c. search needs)
     (λ c κs. search needs)
     (λ c. search needs)
+    (λ c. search needs)
+    (λ c. search needs)
     (λ c κs. search needs)
+    (λ c. search needs)
+    (λ c κs. search needs)
+    (λ c. search needs)
     (λ c κs. search needs)
     (λ c. search needs)
     (λ c κs. search needs)
     (λ c. search needs)
     (λ c. search needs)
     (λ c κs. search needs)
+    (λ c. search needs)
     (λ c κs. search needs)
     (λ c. (
     c .before .before .before .before .before .before .before .before .before .before .before .before .before .before .before .before .before .before
-    .before .before .before .before .before .before .before .before .say-subject .ensures
+    .before .before .before .before .before .before .before .before .before .before .say-subject .ensures
     ⟫ c .before .before .before .before .before .before .before .before .before .before .before .before .before .before .before .before .before
-    .before .before .before .before .say .ensures
+    .before .before .before .before .before .before .say .ensures
     ⟫ c .before .before .before .before .before .before .before .before .before .before .before .before .before .before .before .before .before
-    .say-number .ensures
-    ⟫ c .before .before .before .before .before .before .before .before .before .before .before .before .say2 .ensures
-    ⟫ c .before .before .before .before .before .before .say-relation .ensures
-    ⟫ c .before .before .say-number2 .ensures) .long)
+    .before .say-measured .ensures
+    ⟫ c .before .before .before .before .before .before .before .before .before .before .before .before .before .say2 .ensures
+    ⟫ c .before .before .before .before .before .before .before .say-relation .ensures
+    ⟫ c .before .before .say-amount .ensures) .long)
     (λ c.
+    rw (c .before .before .before .before .before .before .before .before .before .before .before .before .before .before .before .before .before
+    .before .before .before .before .before .before .before .before .before .before .before .before .before .before .before .before .measured
+    .ensures) at (
     c .before .before .before .before .before .before .before .before .before .before .before .before .before .before .before .before .before .before
-    .before .before .before .before .before .before .before .before .say-subject .ensures
+    .before .before .before .before .before .before .before .before .before .before .say-subject .ensures
     ⟫ c .before .before .before .before .before .before .before .before .before .before .before .before .before .before .before .before .before
-    .before .before .before .before .say .ensures
+    .before .before .before .before .before .before .say .ensures
     ⟫ c .before .before .before .before .before .before .before .before .before .before .before .before .before .before .before .before .before
-    .say-number .ensures
-    ⟫ c .before .before .before .before .before .before .before .before .before .before .before .before .say2 .ensures
-    ⟫ c .before .before .before .before .before .before .say-relation .ensures
-    ⟫ c .before .before .say-number2 .ensures))
+    .before .say-measured .ensures
+    ⟫ c .before .before .before .before .before .before .before .before .before .before .before .before .before .say2 .ensures
+    ⟫ c .before .before .before .before .before .before .before .say-relation .ensures
+    ⟫ c .before .before .say-amount .ensures)))

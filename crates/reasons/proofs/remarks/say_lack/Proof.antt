@@ -1,3 +1,4 @@
+use borrow.Author.Tests.{eq-eqb, ne-eqb}
 use borrow.Author.Needs.{needs}
 use Rattle.printing.proofs.Sayings.{_⟫_}
 use Rattle.reasons.specs.Remarks.{lackText}
@@ -14,11 +15,15 @@ say-lack-spec =
     (λ c κs. search needs)
     (λ c. search needs)
     (λ c κs. search needs)
-    (λ c. (
-    c .before .before .before .before .before .before .before .before .before .before .before .say .ensures
-    ⟫ c .before .before .before .before .before .before .before .say-number .ensures
-    ⟫ c .before .before .say2 .ensures) .long)
-    (λ c.
-    c .before .before .before .before .before .before .before .before .before .before .before .say .ensures
-    ⟫ c .before .before .before .before .before .before .before .say-number .ensures
+    (λ c. search needs)
+    (λ c. rw (eq-eqb _ _ (c .before .before .before .before .before .if1 .taken)) (
+    c .before .before .before .before .before .before .before .before .before .before .before .before .say .ensures
+    ⟫ c .before .before .before .before .before .before .before .before .say-number .ensures
     ⟫ c .before .before .say2 .ensures))
+    (λ c. search needs)
+    (λ c κs. search needs)
+    (λ c. search needs)
+    (λ c. rw (ne-eqb _ _ (c .before .before .before .before .before .if1 .left)) (
+    c .before .before .before .before .before .before .before .before .before .before .before .before .say .ensures
+    ⟫ c .before .before .before .before .before .before .before .before .say-number .ensures
+    ⟫ c .before .before .say3 .ensures)))

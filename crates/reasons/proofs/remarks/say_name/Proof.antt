@@ -10,14 +10,14 @@ say-name-spec =
     (λ c. search needs)
     (λ c κs. search needs)
     (λ c κs. search needs)
+    (λ c κs. search needs)
     (λ c. search needs)
     (λ c κs. search needs)
-    (λ c. (
-    c .before .before .before .before .before .before .before .before .before .before .before .say .ensures
-    ⟫ c .before .before .before .before .before .before .before .say-kind .ensures
-    ⟫ c .before .before .say2 .ensures) .long)
-    (λ c. rw (c .before .before .before .before .before .before .before .before .before .before .before .before .before .before .if1 .taken) (
-    c .before .before .before .before .before .before .before .before .before .before .before .say .ensures
-    ⟫ c .before .before .before .before .before .before .before .say-kind .ensures
+    (λ c. search needs)
+    (λ c. rw (c .before .before .before .before .before .before .before .before .before .before .before .before .before .before .before .before
+    .before .before .if1 .taken) (
+    c .before .before .before .before .before .before .before .before .before .before .before .before .before .before .before .say .ensures
+    ⟫ c .before .before .before .before .before .before .before .before .before .before .before .say-kind .ensures
+    ⟫ c .before .before .before .before .before .before .before .say-group .ensures
     ⟫ c .before .before .say2 .ensures))
     (λ c. rw (c .if1 .left) (said-none (c .before .before .pre))))

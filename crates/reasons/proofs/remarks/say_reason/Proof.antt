@@ -11,18 +11,14 @@ say-reason-spec =
     (tie.spec
     (λ c. search needs)
     (λ c. search needs)
+    (λ c. search needs)
     (λ c κs. search needs)
     (λ c. search needs)
     (λ c κs. search needs)
     (λ c κs. search needs)
     (λ c. search needs)
     (λ c κs. search needs)
-    (λ c. (
-    c .before .before .before .before .before .before .before .before .before .before .before .before .before .before .before .before .say-where
-    .ensures
-    ⟫ c .before .before .before .before .before .before .before .before .before .before .before .say .ensures
-    ⟫ c .before .before .before .before .before .before .before .say-fault .ensures
-    ⟫ c .before .before .say2 .ensures) .long)
+    (λ c. search needs)
     (λ c.
     c .before .before .before .before .before .before .before .before .before .before .before .before .before .before .before .before .say-where
     .ensures

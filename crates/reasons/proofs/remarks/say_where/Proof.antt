@@ -14,30 +14,7 @@ say-where-spec =
     (λ c κs. search needs)
     (λ c κs. search needs)
     (λ c. search needs)
-    (λ c κs. search needs)
-    (λ c κs. search needs)
-    (λ c. search needs)
-    (λ c κs. search needs)
-    (λ c κs. search needs)
-    (λ c. (
-    c .before .before .before .before .before .before .before .before .before .before .before .before .before .before .before .before .before .before
-    .before .before .before .before .before .before .before .before .before .before .say .ensures
-    ⟫ c .before .before .before .before .before .before .before .before .before .before .before .before .before .before .before .before .before
-    .before .before .before .before .before .before .before .say-number .ensures
-    ⟫ c .before .before .before .before .before .before .before .before .before .before .before .before .before .before .before .before .before
-    .before .before .before .say-name .ensures
-    ⟫ c .before .before .before .before .before .before .before .before .before .before .before .before .before .before .before .say2 .ensures
-    ⟫ c .before .before .before .before .before .before .before .before .before .before .before .say-number2 .ensures
-    ⟫ c .before .before .before .before .before .before .say3 .ensures
-    ⟫ c .before .before .say-number3 .ensures) .long)
     (λ c.
-    c .before .before .before .before .before .before .before .before .before .before .before .before .before .before .before .before .before .before
-    .before .before .before .before .before .before .before .before .before .before .say .ensures
-    ⟫ c .before .before .before .before .before .before .before .before .before .before .before .before .before .before .before .before .before
-    .before .before .before .before .before .before .before .say-number .ensures
-    ⟫ c .before .before .before .before .before .before .before .before .before .before .before .before .before .before .before .before .before
-    .before .before .before .say-name .ensures
-    ⟫ c .before .before .before .before .before .before .before .before .before .before .before .before .before .before .before .say2 .ensures
-    ⟫ c .before .before .before .before .before .before .before .before .before .before .before .say-number2 .ensures
-    ⟫ c .before .before .before .before .before .before .say3 .ensures
-    ⟫ c .before .before .say-number3 .ensures))
+    c .before .before .before .before .before .before .before .before .before .before .say .ensures
+    ⟫ c .before .before .before .before .before .before .say-number .ensures
+    ⟫ c .before .before .say-name .ensures))

@@ -1,13 +1,15 @@
 use mathlib.Core.Path.{sym}
 use borrow.Author.Needs.{needs}
 use lib.Seq.{length-take-le}
-use Rattle.sheet.proofs.begin_sheet.Statement.{statement}
-use Rattle.sheet.proofs.begin_sheet.Tie as tie
+use Rattle.sheet.proofs.begin.Statement.{statement}
+use Rattle.sheet.proofs.begin.Tie as tie
 
-pub begin-sheet-spec : {M : Type 1} → statement M
-begin-sheet-spec =
+pub begin-spec : {M : Type 1} → statement M
+begin-spec =
     tie.close
     (tie.spec
+    (λ c κs. search needs)
+    (λ c κs. search needs)
     (λ c κs. search needs)
     (λ c. search needs)
     (λ c. sym (length-take-le _ _ (search needs)))
@@ -15,5 +17,7 @@ begin-sheet-spec =
     (λ c κs. search needs)
     (λ c. search needs)
     (λ c. search needs)
+    (λ c κs. search needs)
+    (λ c κs. search needs)
     (λ c. search needs)
     (λ c. search needs))
