@@ -5,6 +5,7 @@
    bench stack DETAILS                 prints the stack that each uses
    bench farms DETAILS PART            deals the books of 400 farms in turn, a part to each, for an instruction count: herd_call on images, and
                                        plain C on structs of its own, without and with a test of the struct before each call
+   bench book DETAILS BOOK             writes the book's bytes, for bench/ports
 
    A book is read in parts of PART bytes; 0 stands for the whole book at once, by herd_desk itself. */
 #include "../host/herd_desk.h"
@@ -401,12 +402,18 @@ int main(int argc, char **argv) {
         free(book.bytes);
     } else if (argc == 4 && strcmp(argv[1], "farms") == 0) {
         run_farms((unsigned)atoi(argv[2]), (size_t)atoi(argv[3]));
+    } else if (argc == 4 && strcmp(argv[1], "book") == 0) {
+        struct book book = book_named(argv[3], (unsigned)atoi(argv[2]));
+        if (fwrite(book.bytes, 1, book.len, stdout) != book.len) {
+            return 1;
+        }
+        free(book.bytes);
     } else if (argc == 3 && strcmp(argv[1], "stack") == 0) {
         struct book book = book_named("m", (unsigned)atoi(argv[2]));
         print_stacks(&book);
         free(book.bytes);
     } else {
-        fputs("usage: bench time ROUNDS DETAILS PART.. | count DETAILS BOOK PART | stack DETAILS | farms DETAILS PART\n", stderr);
+        fputs("usage: bench time ROUNDS DETAILS PART.. | count DETAILS BOOK PART | stack DETAILS | farms DETAILS PART | book DETAILS BOOK\n", stderr);
         return 2;
     }
     return 0;

@@ -1,4 +1,5 @@
-# Sourced by host/run and bench/run: C for x86-64 by the kit's own clang and linker, run by its loader, on Arm behind its emulator.
+# Sourced by bench/run, second/compare, .ci/edits and ports/: the kit's folders, and C for x86-64 by its own clang and linker, run by its loader, on
+# Arm by its emulator. host/machine.sh has C of the machine itself.
 kit=$(dirname "$(dirname "$(rt doc)")")/on/$(uname -m)
 tools=$kit/toolchain
 emulator=$tools/bin/qemu-x86_64
