@@ -55,7 +55,8 @@ closes-eight k e = go (isFarm k) (eqb k 2) (eqb k 3 || (eqb k 4 || (eqb k 5 || e
     go false false false false q e = let z : _≡_ {A = ℕ} 0 1 = cc in absurd (omega arith)
 
 -- any record but a close leaves the book open
-stage-after : (a : Account) (k : ℕ) (v : List ℕ) → (weigh a k v .account .stage ≡ 3 → ⊥) → (k ≡ 8 → ⊥) → a .stage < 2 → weigh a k v .account .stage < 2
+stage-after : (a : Account) (k : ℕ) (v : List ℕ) → (weigh a k v .account .stage ≡ 3 → ⊥) → (k ≡ 8 → ⊥) → a .stage < 2
+    → weigh a k v .account .stage < 2
 unfolding weigh accepted
 stage-after a k v h n early =
     rw (weighed-none a k v h)
@@ -151,7 +152,8 @@ all-three true true c p q r = not-false c r
 all-three true false c p q r = absurd (true≢false (sym q))
 all-three false b c p q r = absurd (true≢false (sym p))
 
-module _ (m : Mark) (h : List ℕ) (t v : Typist) (kept : Kept m h t) (open-yet : t .state .account .stage < 2) (set : Settled t v) (e : Entry) (n : ℕ) (l : 1 ≤ n) where
+module _ (m : Mark) (h : List ℕ) (t v : Typist) (kept : Kept m h t) (open-yet : t .state .account .stage < 2) (set : Settled t v) (e : Entry)
+    (n : ℕ) (l : 1 ≤ n) where
   -- a line that fails
   fails : (x : Turn) → x .typist .state ≡ v .state → x .typist .waiting .close ≡ 0 → (x .typist .failed ≡ 0 → ⊥) → After t e x
   fails x a b f =
@@ -301,7 +303,8 @@ module _ (t : Typist) (l : Numbered) (ls : List Numbered) (x : Turn) (r : Typist
   Both s e =
       ((r .failed ≡ 0 → t .failed ≡ 0) × (r .failed ≡ 0 → IsRead s))
       × ((r .failed ≡ 0 → t .waiting .close ≡ 0 → (x .bytes ++ bs) ++ closeOf r
-      ≡ saysThen s (recordSaid (t .state .account .records) e) (recordsSaid (t .state .account .records) ls) (recordsSaid (suc (t .state .account .records)) ls))
+      ≡ saysThen s (recordSaid (t .state .account .records) e) (recordsSaid (t .state .account .records) ls) (recordsSaid (suc
+      (t .state .account .records)) ls))
       × (r .failed ≡ 0 → (t .waiting .close ≡ 0 → ⊥)
       → (x .bytes ++ bs ≡ []) × (((n : ℕ) → saysThen s (recordSaid n e) (recordsSaid n ls) (recordsSaid (suc n) ls) ≡ []) × (r ≡ t))))
 
@@ -326,7 +329,8 @@ module _ (t : Typist) (l : Numbered) (ls : List Numbered) (x : Turn) (r : Typist
       went f w =
           append-assoc (x .bytes) bs (closeOf r)
           ∙ ap (λ (b : List ℕ). b ++ (bs ++ closeOf r)) (w .bytes)
-          ∙ ap (λ (b : List ℕ). recordSaid (t .state .account .records) e ++ b) (y .open-on f (w .close) ∙ ap (λ (n : ℕ). recordsSaid n ls) (w .records))
+          ∙ ap (λ (b : List ℕ). recordSaid (t .state .account .records) e ++ b) (y .open-on f (w .close)
+          ∙ ap (λ (n : ℕ). recordsSaid n ls) (w .records))
 
       waited : r .failed ≡ 0 → Waited t e x → (x .bytes ++ bs) ++ closeOf r
           ≡ recordSaid (t .state .account .records) e ++ recordsSaid (suc (t .state .account .records)) ls
@@ -402,7 +406,8 @@ end-closes r o =
         → endBy a (runEnded r) (writeEntry (runEnded r .state) ownClose recordMost .state) (writeEntry (runEnded r .state) ownClose recordMost .bytes)
         .typist .state .account .stage ≡ 2
         → (r .waiting .close ≡ 0 → ⊥)
-        × (endBy a (runEnded r) (writeEntry (runEnded r .state) ownClose recordMost .state) (writeEntry (runEnded r .state) ownClose recordMost .bytes) .bytes
+        × (endBy a (runEnded r) (writeEntry (runEnded r .state) ownClose recordMost .state) (writeEntry
+        (runEnded r .state) ownClose recordMost .bytes) .bytes
         ≡ closeOf r)
     closing n (answers.Refused f) q z = absurd (still-open z)
     closing n answers.Wrote q z =
@@ -437,6 +442,7 @@ pub closed-means-all : (line : List ℕ) → most ≤ length line → (parts : L
     × (withEnd (callsOver (beginning noRecordYet) (record { line = line; cut = firstCut }) parts) .bytes ≡ recordsSaid 0 (textLines (together parts)))
 closed-means-all line h parts =
     subst
-    (λ (o : Output). o .typist .state .account .stage ≡ 2 → EachRead (textLines (together parts)) × (o .bytes ≡ recordsSaid 0 (textLines (together parts))))
+    (λ (o : Output). o .typist .state .account .stage ≡ 2 → EachRead (textLines (together parts)) × (o .bytes ≡ recordsSaid 0 (textLines
+    (together parts))))
     (sym (whole-in-parts line h noRecordYet parts))
     (lines-closed (together parts))

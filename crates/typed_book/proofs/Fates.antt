@@ -149,7 +149,8 @@ module _ (t : Typist) (n : ℕ) (e : Entry) (room : ℕ) where
       {r : Entered} {out′ : List ℕ} → Gives (judgedTurn u n e room) out r out′ → Gives (recordTurn t n e room) out r out′
   gives-on i f g out p = gives-same _ _ out (not-headless t n e room (rw i at f)) (rw g at p)
 
-pub gives-judged : (t : Typist) (n : ℕ) (e : Entry) (out : List ℕ) → withheld t e ≡ false → (e .kind ≡ 8 → ⊥) → {out′ : List ℕ} {w : Written} {r : Entered}
+pub gives-judged : (t : Typist) (n : ℕ) (e : Entry) (out : List ℕ) → withheld t e ≡ false → (e .kind ≡ 8 → ⊥)
+    → {out′ : List ℕ} {w : Written} {r : Entered}
     → w ≡ writer.writtenOf (writeEntry (t .state) e (length out)) → out′ ≡ writer.laid (writeEntry (t .state) e (length out)) out
     → r ≡ enteredBy (w .answer) t n e (w .state) (w .written) → Gives (judgedTurn t n e (length out)) out r out′
 gives-judged t n e out h k p q f = gives-same _ _ out (is-judged t n e (length out) h (ne-eqb _ _ k)) (judged t n e out p q f)
@@ -165,6 +166,7 @@ module _ (t : Typist) (n : ℕ) (e : Entry) {w : Written} (p : w ≡ writer.writ
   close-refused a g = let answer = ap (λ (y : Written). y .answer) (sym p) ∙ a in rw (g, answer) refl
 
 -- the line's own words make the turn
-pub said-turn : (t : Typist) (n : ℕ) (xs : List ℕ) (room : ℕ) {line : Line} → line ≡ lineOf xs → bySaid (line .said) t n (line .entry) room ≡ turn t n xs room
+pub said-turn : (t : Typist) (n : ℕ) (xs : List ℕ) (room : ℕ) {line : Line} → line ≡ lineOf xs
+    → bySaid (line .said) t n (line .entry) room ≡ turn t n xs room
 unfolding turn
 said-turn t n xs room e = ap (λ (l : Line). bySaid (l .said) t n (l .entry) room) e

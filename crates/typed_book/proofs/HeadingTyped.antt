@@ -204,7 +204,8 @@ module _ (m : Mark) (h : List ℕ) (t : Typist) (k : Kept m h t) (e : Entry) whe
         range = rw a (k .range);
         empty = rw a (k .empty);
         under =
-            λ z early. rw a (marks (eqb (e .kind) 2) (ltb (e .kind) 1 || ltb lastKind (e .kind)) (eqb code 3) (pick (eqb (e .kind) 2) 0 2) (ap (λ (y : Lost). y .line) (sym b) ∙ z)
+            λ z early. rw a (marks (eqb (e .kind) 2) (ltb (e .kind) 1 || ltb lastKind (e .kind)) (eqb code 3) (pick (eqb (e .kind) 2) 0 2) (ap (λ
+            (y : Lost). y .line) (sym b) ∙ z)
             (λ o. eq-eqb code 3 (g (rw a at early) o)) (λ y. k .under y (rw a at early)));
       }
     where

@@ -30,7 +30,8 @@ unfolding numberFrom allDigits valueAfter
 number-is u [] = refl
 number-is u (b ∷ s) =
     let e : min (min u all-more * 10 + (b - 48)) all-more ≡ min (u * 10 + (b - 48)) all-more = omega arith in
-    by-digit (isDigit b) (allDigits s) (numberFrom (min (min u all-more * 10 + (b - 48)) all-more) s) (aWhole (min (valueAfter (u * 10 + (b - 48)) s) all-more))
+    by-digit (isDigit b) (allDigits s) (numberFrom (min (min u all-more * 10 + (b - 48)) all-more) s) (aWhole (min (valueAfter (u * 10 +
+    (b - 48)) s) all-more))
     (rw e (number-is (u * 10 + (b - 48)) s))
   where
     by-digit : (x y : Bool) (w v : Whole) → w ≡ goesOn y v → goesOn x w ≡ goesOn (x && y) v
@@ -235,7 +236,8 @@ module _ (d : ℕ) (s : List ℕ) (g : amountOf d s .good ≡ true) where
           some = omega (arith, first-place, length-take-le (indexOf 46 s) s (index-most s));
           most =
               leb-true (length (behindPoint s)) d
-              (and-r (ltb 0 (indexOf 46 s) && (eqb (indexOf 46 s) (length s) || ltb 0 (length (behindPoint s)))) (leb (length (behindPoint s)) d) fit);
+              (and-r (ltb 0 (indexOf 46 s) && (eqb (indexOf 46 s) (length s) || ltb 0 (length (behindPoint s)))) (leb (length
+              (behindPoint s)) d) fit);
           digits = both-digits;
           form = form;
           times = refl;

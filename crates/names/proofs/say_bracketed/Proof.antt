@@ -22,4 +22,5 @@ say-bracketed-spec =
     let p1 = c .before .before in
     let p2 = p1 .before .before .before .before .before in
     let p3 = p2 .before .before .before .before in
-    rw (sym (p3 .before .before .before .before .is-choice .ensures) ∙ not-false _ (p3 .before .before .before .if1 .left)) (p3 .say .ensures ⟫ p2 .say-choices .ensures ⟫ p1 .say2 .ensures)))
+    rw (sym (p3 .before .before .before .before .is-choice .ensures)
+    ∙ not-false _ (p3 .before .before .before .if1 .left)) (p3 .say .ensures ⟫ p2 .say-choices .ensures ⟫ p1 .say2 .ensures)))

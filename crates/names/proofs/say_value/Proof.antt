@@ -11,8 +11,11 @@ say-value-spec =
     (λ c. search needs)
     (λ c. search needs)
     (λ c. search needs)
-    (λ c. rw (sym (c .before .before .before .before .before .is-choice .ensures) ∙ c .before .before .before .before .if1 .taken) (c .before .before .say-choice .ensures))
+    (λ c. rw (sym (c .before .before .before .before .before .is-choice .ensures)
+    ∙ c .before .before .before .before .if1 .taken) (c .before .before .say-choice .ensures))
     (λ c. search needs)
     (λ c. search needs)
     (λ c. search needs)
-    (λ c. rw (sym (c .before .before .before .before .before .before .is-choice .ensures) ∙ c .before .before .before .before .before .if1 .left) (rw (c .before .before .before .before .decimals .ensures .0) at (c .before .before .say-pointed .ensures))))
+    (λ c. rw (sym (c .before .before .before .before .before .before .is-choice .ensures)
+    ∙ c .before .before .before .before .before .if1 .left) (rw (c .before .before .before .before .decimals .ensures .0) at
+    (c .before .before .say-pointed .ensures))))

@@ -9,7 +9,8 @@ whole : tie.Need-returns
 whole c =
     let whole = c .before .before .before in
     let start = whole .before .before .before .before in (
-      rw (whole-number (start .args .v) (start .args .d) (c .if1 .taken)) (rw (whole .before .without-last .ensures) at (whole .put-decimal .ensures .0)),
+      rw (whole-number (start .args .v) (start .args .d) (c .if1 .taken)) (rw (whole .before .without-last .ensures) at
+          (whole .put-decimal .ensures .0)),
       omega (arith, whole .put-decimal .ensures .1),
     )
 
@@ -21,8 +22,16 @@ decimals c =
     let whole = test .before .before .before in
     let start = whole .before .before .before .before in (
       rw (with-point (start .args .v) (start .args .d) (test .if1 .left))
-          (and-then (rw (whole .before .without-last .ensures) at (whole .put-decimal .ensures .0)) (and-then (point .put-byte .ensures) (last .put-last .ensures))),
-      omega (arith, whole .put-decimal .ensures .1, point .put-byte .ensures .next, last .put-last .ensures .next, last-length (start .args .v) (start .args .d)),
+          (and-then (rw (whole .before .without-last .ensures) at (whole .put-decimal .ensures .0)) (and-then (point .put-byte .ensures)
+          (last .put-last .ensures))),
+      omega (
+        arith,
+        whole .put-decimal .ensures .1,
+        point .put-byte .ensures .next,
+        last .put-last .ensures .next,
+        last-length (start .args .v)
+            (start .args .d),
+      ),
     )
 
 pub put-pointed-spec : {M : Type 1} → statement M

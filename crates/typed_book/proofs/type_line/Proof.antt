@@ -23,5 +23,6 @@ type-line-spec =
     let p = c .before .before .before .before .before .before .before .before in
     let line = p .before .before .read-line .ensures in
     let args = p .before .before .before .before .before .before .args in
-    line-typed (args .t) (args .number) (args .text .now) (length (args .out .now)) (args .out .now) line (p .enter .ensures .0) (p .enter .ensures .1)
+    line-typed (args .t) (args .number) (args .text .now) (length (args .out .now)) (args .out .now) line (p .enter .ensures .0)
+    (p .enter .ensures .1)
     (c .before .before .say-remark .ensures)))

@@ -14,7 +14,11 @@ read-value-spec =
     (λ c. not-read _ _ _ (sym (c .before .has-field .ensures) ∙ not-true _ (c .if1 .taken)))
     (λ c. search needs)
     (λ c. search needs)
-    (λ c. number-value _ _ _ (sym (c .before .before .before .before .has-field .ensures) ∙ not-false _ (c .before .before .before .if1 .left)) (rw (c .before .before .decimals .ensures .0) at (c .before .read-amount .ensures)) (c .if2 .taken))
+    (λ c. number-value _ _ _ (sym (c .before .before .before .before .has-field .ensures)
+    ∙ not-false _ (c .before .before .before .if1 .left)) (rw (c .before .before .decimals .ensures .0) at (c .before .read-amount .ensures))
+    (c .if2 .taken))
     (λ c. search needs)
     (λ c. search needs)
-    (λ c. choice-value _ _ _ (sym (c .before .before .before .before .before .before .has-field .ensures) ∙ not-false _ (c .before .before .before .before .before .if1 .left)) (rw (c .before .before .before .before .decimals .ensures .0) at (c .before .before .before .read-amount .ensures)) (c .before .before .if2 .left) (c .before .choice .ensures) (c .by-choice .ensures)))
+    (λ c. choice-value _ _ _ (sym (c .before .before .before .before .before .before .has-field .ensures)
+    ∙ not-false _ (c .before .before .before .before .before .if1 .left)) (rw (c .before .before .before .before .decimals .ensures .0) at
+    (c .before .before .before .read-amount .ensures)) (c .before .before .if2 .left) (c .before .choice .ensures) (c .by-choice .ensures)))

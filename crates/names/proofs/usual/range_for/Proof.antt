@@ -10,5 +10,6 @@ range-for-spec =
     (λ c. search needs)
     (λ c. search needs)
     (λ c. search needs)
-    (λ c. rw (sym (c .before .before .before .goes-by .ensures) ∙ c .before .before .if1 .taken) (c .part .ensures ∙ rw (c .before .less-one .ensures) refl))
+    (λ c. rw (sym (c .before .before .before .goes-by .ensures) ∙ c .before .before .if1 .taken) (c .part .ensures
+    ∙ rw (c .before .less-one .ensures) refl))
     (λ c. rw (sym (c .before .goes-by .ensures) ∙ c .if1 .left) refl))

@@ -24,4 +24,5 @@ say-usual-spec =
     let p3 = p2 .before .before .before .before in
     let p4 = p3 .before .before .before .before .before in
     let p5 = p4 .before .before .before .before in
-    rw (p5 .before .before .before .usual-range .ensures) at (p5 .say .ensures ⟫ p4 .say-for .ensures ⟫ p3 .say2 .ensures ⟫ p2 .say-value .ensures ⟫ p1 .say-to .ensures)))
+    rw (p5 .before .before .before .usual-range .ensures) at (p5 .say .ensures ⟫ p4 .say-for .ensures ⟫ p3 .say2 .ensures ⟫ p2 .say-value .ensures ⟫
+    p1 .say-to .ensures)))

@@ -12,5 +12,6 @@ end-spec =
     (λ c κs. search needs)
     (λ c κs. search needs)
     (λ c. search needs)
-    (λ c. gives-same _ _ _ (end-closing _ _ _ (c .before .before .before .before .if1 .taken)) (rw (c .before .before .before .before .before .before .run-ended .ensures) at (c .before .before .close-book .ensures)))
+    (λ c. gives-same _ _ _ (end-closing _ _ _ (c .before .before .before .before .if1 .taken)) (rw
+    (c .before .before .before .before .before .before .run-ended .ensures) at (c .before .before .close-book .ensures)))
     (λ c. gives-same _ _ _ (end-open _ _ _ (c .if1 .left)) (rw (c .before .before .run-ended .ensures) refl, refl)))

@@ -17,6 +17,12 @@ enter-spec =
     (λ c κs. search needs)
     (λ c κs. search needs)
     (λ c. rw (c .enum-told .given .1) (refl, refl))
-    (λ c. rw (c .before .before .before .before .said .given .1, c .not-read .ensures, c .before .run-ended .ensures, c .before .before .met .ensures) (refl, refl))
+    (λ c. rw (
+      c .before .before .before .before .said .given .1,
+      c .not-read .ensures,
+      c .before .run-ended .ensures,
+      c .before .before .met .ensures,
+    ) (refl, refl))
     (λ c. search needs)
-    (λ c. rw (c .before .before .before .before .before .before .enum-told2 .given .1) (rw (c .before .before .before .before .met2 .ensures) at (c .before .before .enter-record .ensures))))
+    (λ c. rw (c .before .before .before .before .before .before .enum-told2 .given .1) (rw (c .before .before .before .before .met2 .ensures) at
+    (c .before .before .enter-record .ensures))))

@@ -16,4 +16,5 @@ enter-close-spec =
     (λ c. search needs)
     (λ c κs. search needs)
     (λ c. close-right _ _ _ (c .before .before .before .before .write-entry .ensures .0) (c .before .enum-told .given .1) (c .waits .ensures))
-    (λ c. close-refused _ _ _ (c .before .before .before .before .before .before .write-entry .ensures .0) (c .before .before .before .answer .given .1) (c .refused-at .ensures)))
+    (λ c. close-refused _ _ _ (c .before .before .before .before .before .before .write-entry .ensures .0)
+    (c .before .before .before .answer .given .1) (c .refused-at .ensures)))

@@ -11,8 +11,17 @@ enter-record-spec =
     (tie.spec
     (λ c κs. search needs)
     (λ c κs. search needs)
-    (λ c. gives-headless (c .before .before .before .before .before .args .t) (c .before .before .before .before .before .args .number) (c .before .before .before .before .before .args .e) (length (c .before .before .before .before .before .args .out .now)) (c .before .before .before .in-group .ensures) (c .before .if1 .taken) (c .unheaded .ensures) (c .before .before .before .before .before .args .out .now))
+    (λ c. gives-headless (c .before .before .before .before .before .args .t) (c .before .before .before .before .before .args .number)
+    (c .before .before .before .before .before .args .e) (length (c .before .before .before .before .before .args .out .now))
+    (c .before .before .before .in-group .ensures) (c .before .if1 .taken) (c .unheaded .ensures)
+    (c .before .before .before .before .before .args .out .now))
     (λ c κs. search needs)
     (λ c κs. search needs)
     (λ c. search needs)
-    (λ c. gives-on (c .before .before .before .before .before .before .before .before .before .args .t) (c .before .before .before .before .before .before .before .before .before .args .number) (c .before .before .before .before .before .before .before .before .before .args .e) (length (c .before .before .before .before .before .before .before .before .before .args .out .now)) (c .before .before .before .before .before .before .before .in-group .ensures) (c .before .before .before .before .before .if1 .left) (c .before .before .before .before .run-ended .ensures) (c .before .before .before .before .before .before .before .before .before .args .out .now) (c .before .before .judge-record .ensures)))
+    (λ c. gives-on (c .before .before .before .before .before .before .before .before .before .args .t)
+    (c .before .before .before .before .before .before .before .before .before .args .number)
+    (c .before .before .before .before .before .before .before .before .before .args .e) (length
+    (c .before .before .before .before .before .before .before .before .before .args .out .now))
+    (c .before .before .before .before .before .before .before .in-group .ensures) (c .before .before .before .before .before .if1 .left)
+    (c .before .before .before .before .run-ended .ensures) (c .before .before .before .before .before .before .before .before .before .args .out
+    .now) (c .before .before .judge-record .ensures)))

@@ -13,4 +13,10 @@ not-read-spec =
     (λ c κs. search needs)
     (λ c κs. search needs)
     (λ c κs. search needs)
-    (λ c. rw (c .first-failed .ensures, c .before .one-unread .ensures, c .before .before .lost-by .ensures, c .before .before .before .chosen .ensures, c .before .before .before .before .may-head .ensures) refl))
+    (λ c. rw (
+      c .first-failed .ensures,
+      c .before .one-unread .ensures,
+      c .before .before .lost-by .ensures,
+      c .before .before .before .chosen .ensures,
+      c .before .before .before .before .may-head .ensures,
+    ) refl))

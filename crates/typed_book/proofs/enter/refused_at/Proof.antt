@@ -12,4 +12,9 @@ refused-at-spec =
     (λ c κs. search needs)
     (λ c κs. search needs)
     (λ c κs. search needs)
-    (λ c. rw (c .first-failed .ensures, c .before .one-refused .ensures, c .before .before .lost-by .ensures, c .before .before .before .chosen .ensures) refl))
+    (λ c. rw (
+      c .first-failed .ensures,
+      c .before .one-refused .ensures,
+      c .before .before .lost-by .ensures,
+      c .before .before .before .chosen .ensures,
+    ) refl))

@@ -14,4 +14,10 @@ written-as-spec =
     (λ c κs. search needs)
     (λ c κs. search needs)
     (λ c κs. search needs)
-    (λ c. rw (c .chosen .ensures, c .before .days-of-year .ensures, c .before .before .one-written .ensures, c .before .before .before .unusual-after .ensures, c .before .before .before .before .lost-by .ensures) refl))
+    (λ c. rw (
+      c .chosen .ensures,
+      c .before .days-of-year .ensures,
+      c .before .before .one-written .ensures,
+      c .before .before .before .unusual-after .ensures,
+      c .before .before .before .before .lost-by .ensures,
+    ) refl))

@@ -23,4 +23,5 @@ say-a-head-spec =
     let p1 = c .before .before in
     let p2 = p1 .before .before .before .before .before in
     let p3 = p2 .before .before .before .before .before in
-    rw (ne-eqb _ _ (p3 .before .before .before .if1 .left)) (rw (p2 .before .round-div .ensures) at (p3 .say .ensures ⟫ p2 .say-pointed .ensures ⟫ p1 .say2 .ensures))))
+    rw (ne-eqb _ _ (p3 .before .before .before .if1 .left)) (rw (p2 .before .round-div .ensures) at
+    (p3 .say .ensures ⟫ p2 .say-pointed .ensures ⟫ p1 .say2 .ensures))))

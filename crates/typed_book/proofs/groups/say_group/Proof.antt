@@ -28,4 +28,5 @@ say-group-spec =
     let p3 = p2 .before .before .before .before in
     let p4 = p3 .before .before .before .before in
     let p5 = p4 .before .before .before .before .before .before in
-    rw (ne-eqb _ _ (p5 .before .before .before .before .if1 .left)) (p5 .say-group-name .ensures ⟫ p4 .say-head .ensures ⟫ p3 .say-all-days .ensures ⟫ p2 .say-gases .ensures ⟫ p1 .say .ensures)))
+    rw (ne-eqb _ _ (p5 .before .before .before .before .if1 .left))
+    (p5 .say-group-name .ensures ⟫ p4 .say-head .ensures ⟫ p3 .say-all-days .ensures ⟫ p2 .say-gases .ensures ⟫ p1 .say .ensures)))

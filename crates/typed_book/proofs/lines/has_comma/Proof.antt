@@ -13,4 +13,9 @@ has-comma-spec =
     (λ c κs. search needs)
     (λ c κs. search needs)
     (λ c κs. search needs)
-    (λ c. rw (c .is-whole2 .ensures, c .before .is-whole .ensures, c .before .before .part .ensures, c .before .before .before .after-comma .ensures) refl))
+    (λ c. rw (
+      c .is-whole2 .ensures,
+      c .before .is-whole .ensures,
+      c .before .before .part .ensures,
+      c .before .before .before .after-comma .ensures,
+    ) refl))

@@ -17,11 +17,13 @@ say-fault-spec =
     (λ c.
     let p1 = c .before .before in
     let p2 = p1 .before .before .before .before in
-    rw (sym (p2 .before .before .before .before .is-choice .ensures) ∙ p2 .before .before .before .if1 .taken) (p2 .say .ensures ⟫ p1 .say-choices .ensures))
+    rw (sym (p2 .before .before .before .before .is-choice .ensures)
+    ∙ p2 .before .before .before .if1 .taken) (p2 .say .ensures ⟫ p1 .say-choices .ensures))
     (λ c κs. search needs)
     (λ c κs. search needs)
     (λ c. search needs)
     (λ c.
     let p1 = c .before .before in
     let p2 = p1 .before .before .before .before in
-    let no = sym (p2 .before .before .before .is-choice .ensures) ∙ p2 .before .before .if1 .left in rw no (rw no at (p2 .say-none .ensures ⟫ p1 .say-expected .ensures))))
+    let no = sym (p2 .before .before .before .is-choice .ensures)
+    ∙ p2 .before .before .if1 .left in rw no (rw no at (p2 .say-none .ensures ⟫ p1 .say-expected .ensures))))

@@ -14,17 +14,45 @@ say-ground-spec =
     (λ c. search needs)
     (λ c κs. search needs)
     (λ c. search needs)
-    (λ c. rw (eq-eqb _ _ (c .before .before .before .before .before .if1 .taken)) (rw (c .before .before .before .before .before .before .before .row-of-line .ensures) at (c .before .before .say-range .ensures)))
+    (λ c. rw (eq-eqb _ _ (c .before .before .before .before .before .if1 .taken)) (rw
+    (c .before .before .before .before .before .before .before .row-of-line .ensures) at (c .before .before .say-range .ensures)))
     (λ c κs. search needs)
     (λ c. search needs)
-    (λ c. rw (ne-eqb _ _ (c .before .before .before .before .before .before .if1 .left), eq-eqb _ _ (c .before .before .before .before .if2 .taken)) (rw (c .before .before .before .before .before .before .before .before .row-of-line .ensures) at (c .before .before .say-count .ensures)))
+    (λ c. rw (
+      ne-eqb _ _ (c .before .before .before .before .before .before .if1 .left),
+      eq-eqb _ _
+          (c .before .before .before .before .if2 .taken),
+    ) (rw (c .before .before .before .before .before .before .before .before .row-of-line .ensures)
+    at (c .before .before .say-count .ensures)))
     (λ c κs. search needs)
     (λ c. search needs)
-    (λ c. rw (ne-eqb _ _ (c .before .before .before .before .before .before .before .before .if1 .left), ne-eqb _ _ (c .before .before .before .before .before .before .if2 .left), eq-eqb _ _ (c .before .before .before .before .if3 .taken)) (c .before .before .say-days-over .ensures))
+    (λ c. rw (
+      ne-eqb _ _ (c .before .before .before .before .before .before .before .before .if1 .left),
+      ne-eqb _ _
+          (c .before .before .before .before .before .before .if2 .left),
+      eq-eqb _ _ (c .before .before .before .before .if3 .taken),
+    )
+    (c .before .before .say-days-over .ensures))
     (λ c κs. search needs)
     (λ c. search needs)
-    (λ c. rw (ne-eqb _ _ (c .before .before .before .before .before .before .before .before .before .before .if1 .left), ne-eqb _ _ (c .before .before .before .before .before .before .before .before .if2 .left), ne-eqb _ _ (c .before .before .before .before .before .before .if3 .left), eq-eqb _ _ (c .before .before .before .before .if4 .taken)) (c .before .before .say-over .ensures))
+    (λ c. rw (
+      ne-eqb _ _ (c .before .before .before .before .before .before .before .before .before .before .if1 .left),
+      ne-eqb _ _
+          (c .before .before .before .before .before .before .before .before .if2 .left),
+      ne-eqb _ _
+          (c .before .before .before .before .before .before .if3 .left),
+      eq-eqb _ _ (c .before .before .before .before .if4 .taken),
+    )
+    (c .before .before .say-over .ensures))
     (λ c. search needs)
     (λ c κs. search needs)
     (λ c. search needs)
-    (λ c. rw (ne-eqb _ _ (c .before .before .before .before .before .before .before .before .before .before .before .if1 .left), ne-eqb _ _ (c .before .before .before .before .before .before .before .before .before .if2 .left), ne-eqb _ _ (c .before .before .before .before .before .before .before .if3 .left), ne-eqb _ _ (c .before .before .before .before .before .if4 .left)) (c .before .before .say-sentence .ensures)))
+    (λ c. rw (
+      ne-eqb _ _ (c .before .before .before .before .before .before .before .before .before .before .before .if1 .left),
+      ne-eqb _ _
+          (c .before .before .before .before .before .before .before .before .before .if2 .left),
+      ne-eqb _ _
+          (c .before .before .before .before .before .before .before .if3 .left),
+      ne-eqb _ _ (c .before .before .before .before .before .if4 .left),
+    )
+    (c .before .before .say-sentence .ensures)))

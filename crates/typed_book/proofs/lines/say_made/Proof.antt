@@ -23,4 +23,5 @@ say-made-spec =
     let p3 = p2 .before .before .before .before .before in
     let p4 = p3 .before .before .before .before in
     let p5 = p4 .before .before .before .before .before in
-    rw (p1 .before .sum .ensures) at (p5 .say-pointed .ensures ⟫ p4 .say .ensures ⟫ p3 .say-pointed2 .ensures ⟫ p2 .say2 .ensures ⟫ p1 .say-pointed3 .ensures)))
+    rw (p1 .before .sum .ensures) at (p5 .say-pointed .ensures ⟫ p4 .say .ensures ⟫ p3 .say-pointed2 .ensures ⟫ p2 .say2 .ensures ⟫ p1 .say-pointed3
+    .ensures)))

@@ -26,4 +26,5 @@ say-no-value-spec =
     let p4 = p3 .before .before .before .before .before in
     let p5 = p4 .before .before .before .before in
     let p6 = p5 .before .before .before .before in
-    rw (p1 .before .word .ensures) at (p6 .say .ensures ⟫ p5 .say-kind .ensures ⟫ p4 .say-field .ensures ⟫ p3 .say2 .ensures ⟫ p2 .say-word .ensures ⟫ p1 .say-fault .ensures)))
+    rw (p1 .before .word .ensures) at (p6 .say .ensures ⟫ p5 .say-kind .ensures ⟫ p4 .say-field .ensures ⟫ p3 .say2 .ensures ⟫ p2 .say-word .ensures
+    ⟫ p1 .say-fault .ensures)))

@@ -13,7 +13,12 @@ say-over-spec =
     (λ c. rw (eq-eqb _ _ (c .before .before .before .before .if1 .taken)) (c .before .before .say-shares .ensures))
     (λ c κs. search needs)
     (λ c. search needs)
-    (λ c. rw (ne-eqb _ _ (c .before .before .before .before .before .before .if1 .left), eq-eqb _ _ (c .before .before .before .before .if2 .taken)) (c .before .before .say-parts .ensures))
+    (λ c. rw (
+      ne-eqb _ _ (c .before .before .before .before .before .before .if1 .left),
+      eq-eqb _ _
+          (c .before .before .before .before .if2 .taken),
+    ) (c .before .before .say-parts .ensures))
     (λ c κs. search needs)
     (λ c. search needs)
-    (λ c. rw (ne-eqb _ _ (c .before .before .before .before .before .before .if1 .left), ne-eqb _ _ (c .before .before .before .before .if2 .left)) (c .before .before .say-grazed .ensures)))
+    (λ c. rw (ne-eqb _ _ (c .before .before .before .before .before .before .if1 .left), ne-eqb _ _ (c .before .before .before .before .if2 .left))
+    (c .before .before .say-grazed .ensures)))

@@ -16,9 +16,15 @@ say-unread-spec =
     (λ c. rw (eq-eqb _ _ (c .before .before .before .before .before .if1 .taken)) (c .before .before .say .ensures))
     (λ c κs. search needs)
     (λ c. search needs)
-    (λ c. rw (ne-eqb _ _ (c .before .before .before .before .before .if1 .left), eq-eqb _ _ (c .before .before .before .before .if2 .taken)) (c .before .before .say-no-kind .ensures))
+    (λ c. rw (ne-eqb _ _ (c .before .before .before .before .before .if1 .left), eq-eqb _ _ (c .before .before .before .before .if2 .taken))
+    (c .before .before .say-no-kind .ensures))
     (λ c κs. search needs)
     (λ c. search needs)
     (λ c κs. search needs)
     (λ c. search needs)
-    (λ c. rw (ne-eqb _ _ (c .before .before .before .before .before .before .if1 .left), ne-eqb _ _ (c .before .before .before .before .before .if2 .left)) (rw (c .before .before .before .before .row-of-line .ensures) at (c .before .before .say-no-value .ensures))))
+    (λ c. rw (
+      ne-eqb _ _ (c .before .before .before .before .before .before .if1 .left),
+      ne-eqb _ _
+          (c .before .before .before .before .before .if2 .left),
+    ) (rw (c .before .before .before .before .row-of-line .ensures) at
+    (c .before .before .say-no-value .ensures))))

@@ -34,4 +34,5 @@ say-lost-spec =
     let p2 = p1 .before .before .before .before in
     let p3 = p2 .before .before .before .before .before in
     let p4 = p3 .before .before .before .before in
-    rw (ne-eqb _ _ (p4 .before .before .before .if1 .left)) (p4 .say3 .ensures ⟫ p3 .say-number2 .ensures ⟫ p2 .say4 .ensures ⟫ p1 .say-cause .ensures)))
+    rw (ne-eqb _ _ (p4 .before .before .before .if1 .left)) (p4 .say3 .ensures ⟫ p3 .say-number2 .ensures ⟫ p2 .say4 .ensures ⟫ p1 .say-cause
+    .ensures)))

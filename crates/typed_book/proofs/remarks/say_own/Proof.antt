@@ -17,8 +17,15 @@ say-own-spec =
     (λ c κs. search needs)
     (λ c κs. search needs)
     (λ c. search needs)
-    (λ c. rw (sym (c .before .before .before .before .before .before .is-told .ensures) ∙ not-true _ (c .before .before .before .before .before .if1 .taken)) (rw (c .before .before .before .kind-written .ensures) at (c .before .before .say-written .ensures)))
-    (λ c. rw (sym (c .before .before .before .before .is-told .ensures) ∙ not-false _ (c .before .before .before .if1 .left), le-leb _ _ (c .if2 .taken)) (said-none (c .before .before .before .before .before .before .before .pre .0)))
+    (λ c. rw (sym (c .before .before .before .before .before .before .is-told .ensures)
+    ∙ not-true _ (c .before .before .before .before .before .if1 .taken)) (rw (c .before .before .before .kind-written .ensures) at
+    (c .before .before .say-written .ensures)))
+    (λ c. rw (
+      sym (c .before .before .before .before .is-told .ensures)
+          ∙ not-false _ (c .before .before .before .if1 .left),
+      le-leb _ _ (c .if2 .taken),
+    ) (said-none
+    (c .before .before .before .before .before .before .before .pre .0)))
     (λ c κs. search needs)
     (λ c κs. search needs)
     (λ c. search needs)
@@ -28,4 +35,9 @@ say-own-spec =
     let p1 = c .before .before in
     let p2 = p1 .before .before .before .before .before in
     let p3 = p2 .before .before .before .before in
-    rw (sym (p3 .before .before .before .before .before .before .is-told .ensures) ∙ not-false _ (p3 .before .before .before .before .before .if1 .left), lt-leb _ _ (p3 .before .before .if2 .left)) (p3 .say-line .ensures ⟫ p2 .say-words .ensures ⟫ p1 .say .ensures)))
+    rw (
+      sym (p3 .before .before .before .before .before .before .is-told .ensures)
+          ∙ not-false _ (p3 .before .before .before .before .before .if1 .left),
+      lt-leb _ _ (p3 .before .before .if2 .left),
+    )
+    (p3 .say-line .ensures ⟫ p2 .say-words .ensures ⟫ p1 .say .ensures)))

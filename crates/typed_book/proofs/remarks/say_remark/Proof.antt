@@ -22,4 +22,5 @@ say-remark-spec =
     (λ c.
     let p1 = c .before .before in
     let p2 = p1 .before .before .before .before .before in
-    rw (sym (p2 .before .before .before .has-word .ensures) ∙ not-false _ (p2 .before .before .if1 .left)) (rw (p1 .before .early .ensures) at (p2 .say-early .ensures ⟫ p1 .say-rest .ensures))))
+    rw (sym (p2 .before .before .before .has-word .ensures) ∙ not-false _ (p2 .before .before .if1 .left)) (rw (p1 .before .early .ensures) at
+    (p2 .say-early .ensures ⟫ p1 .say-rest .ensures))))

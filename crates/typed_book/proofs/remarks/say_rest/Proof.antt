@@ -18,4 +18,5 @@ say-rest-spec =
     (λ c.
     let p1 = c .before .before in
     let p2 = p1 .before .before .before .before .before in
-    rw (sym (p2 .before .before .before .goes-on .ensures) ∙ p2 .before .before .if1 .left) (rw (p1 .before .run-ended .ensures) at (p2 .say-run .ensures ⟫ p1 .say-own .ensures))))
+    rw (sym (p2 .before .before .before .goes-on .ensures) ∙ p2 .before .before .if1 .left) (rw (p1 .before .run-ended .ensures) at
+    (p2 .say-run .ensures ⟫ p1 .say-own .ensures))))

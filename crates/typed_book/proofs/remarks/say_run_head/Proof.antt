@@ -27,4 +27,5 @@ say-run-head-spec =
     let p3 = p2 .before .before .before .before in
     let p4 = p3 .before .before .before .before .before in
     let p5 = p4 .before .before .before .before in
-    rw (ne-eqb _ _ (p5 .before .before .before .if1 .left)) (p5 .say .ensures ⟫ p4 .say-number .ensures ⟫ p3 .say2 .ensures ⟫ p2 .say-number2 .ensures ⟫ p1 .say3 .ensures)))
+    rw (ne-eqb _ _ (p5 .before .before .before .if1 .left)) (p5 .say .ensures ⟫ p4 .say-number .ensures ⟫ p3 .say2 .ensures ⟫ p2 .say-number2
+    .ensures ⟫ p1 .say3 .ensures)))

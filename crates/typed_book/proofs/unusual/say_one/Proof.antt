@@ -11,5 +11,6 @@ say-one-spec =
     (λ c κs. search needs)
     (λ c κs. search needs)
     (λ c. search needs)
-    (λ c. rw (rw (c .before .before .before .before .before .is-unusual .ensures) at (c .before .before .before .before .if1 .taken)) (c .before .before .say-value-remark .ensures))
+    (λ c. rw (rw (c .before .before .before .before .before .is-unusual .ensures) at (c .before .before .before .before .if1 .taken))
+    (c .before .before .say-value-remark .ensures))
     (λ c. rw (rw (c .before .is-unusual .ensures) at (c .if1 .left)) (said-none (c .before .before .before .pre .0))))

@@ -34,10 +34,24 @@ say-unusual-spec =
     μ-loop
     (λ c κs. search needs)
     (λ c κs. search needs)
-    (λ c. record { most = omega arith; same = refl; inside = search needs; rest = λ zs q p. let e : c .values-of .result - 0 ≡ c .values-of .result = omega arith in rw e at p })
+    (λ c. record {
+      most = omega arith;
+      same = refl;
+      inside = search needs;
+      rest = λ zs q p. let e : c .values-of .result - 0 ≡ c .values-of .result
+          = omega arith in rw e at p;
+    })
     (λ c κs.
-    let n = c .before .before .before in
-    (omega (arith, c .before .before .loop .inv .inside), search needs, omega (arith, n .values-of .ensures, fields-few (n .before .before .before .args .e .kind))))
+    let n = c .before .before .before in (
+      omega (arith, c .before .before .loop .inv .inside),
+      search needs,
+      omega (
+        arith,
+        n .values-of .ensures,
+        fields-few
+            (n .before .before .before .args .e .kind),
+      ),
+    ))
     (λ c κs.
     let n = c .before .before .before .before .before .before in
     (search needs, omega (arith, n .values-of .ensures, fields-few (n .before .before .before .args .e .kind))))
@@ -56,7 +70,8 @@ say-unusual-spec =
       most = omega arith;
       same = said .long ∙ l .inv .same;
       inside = omega (arith, said .put .room, said .long);
-      rest = λ zs q p. l .inv .rest zs q (rw (one-said n (l .i) who (start .args .e) (l .count) (start .args .number) (omega arith)) (said ⟫ rw (c .more-if .ensures, c .before .is-unusual .ensures) at p));
+      rest = λ zs q p. l .inv .rest zs q (rw (one-said n (l .i) who (start .args .e) (l .count) (start .args .number) (omega arith)) (said ⟫ rw
+          (c .more-if .ensures, c .before .is-unusual .ensures) at p));
     })
     (λ c. search needs)
     (λ c.

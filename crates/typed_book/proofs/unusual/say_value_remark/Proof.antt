@@ -30,4 +30,5 @@ say-value-remark-spec =
     let p5 = p4 .before .before .before .before in
     let p6 = p5 .before .before .before .before .before in
     let p7 = p6 .before .before .before .before in
-    p7 .say .ensures ⟫ p6 .say-number .ensures ⟫ p5 .say2 .ensures ⟫ p4 .say-what .ensures ⟫ p3 .say3 .ensures ⟫ p2 .say-usual .ensures ⟫ p1 .say4 .ensures))
+    p7 .say .ensures ⟫ p6 .say-number .ensures ⟫ p5 .say2 .ensures ⟫ p4 .say-what .ensures ⟫ p3 .say3 .ensures ⟫ p2 .say-usual .ensures ⟫ p1 .say4
+    .ensures))

@@ -28,7 +28,12 @@ unusual-after-spec =
     let n = c .before .before .values-of in
     (search needs, omega (arith, n .ensures, fields-few (c .before .before .before .before .args .e .kind))))
     (λ c κs. search needs)
-    (λ c. omega (arith, c .before .before .before .before .values-of .ensures, fields-few (c .before .before .before .before .before .before .args .e .kind)))
+    (λ c. omega (
+      arith,
+      c .before .before .before .before .values-of .ensures,
+      fields-few
+          (c .before .before .before .before .before .before .args .e .kind),
+    ))
     (λ c. omega arith)
     (λ c.
     let l = c .before .before .before .loop in
@@ -37,4 +42,5 @@ unusual-after-spec =
     (omega arith, rw (c .more-if .ensures, c .before .is-unusual .ensures) (sym (one-field _ (l .i) _ _ (l .count) (omega arith)) ∙ l .inv .1)))
     (λ c.
     let l = c .before .loop in
-    sym (no-field _ (l .i) _ _ (l .count) (omega arith)) ∙ l .inv .1 ∙ rw (c .before .before .values-of .ensures, c .before .before .before .who-for .ensures) refl))
+    sym (no-field _ (l .i) _ _ (l .count) (omega arith)) ∙ l .inv .1
+    ∙ rw (c .before .before .values-of .ensures, c .before .before .before .who-for .ensures) refl))
