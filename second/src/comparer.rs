@@ -16,6 +16,7 @@ mod figures;
 mod grazing;
 mod grazings;
 mod halves;
+mod hints;
 mod judge;
 mod kind;
 mod lister;
@@ -227,7 +228,14 @@ fn main() {
     let words: Vec<&str> = args.iter().map(String::as_str).collect();
     match words[..] {
         ["compare", old, new] => {
-            print!("{}", compare(&std::fs::read(old).expect(old), &std::fs::read(new).expect(new)));
+            let (old, new) = (std::fs::read(old).expect(old), std::fs::read(new).expect(new));
+            print!("{}", compare(&old, &new));
+            for (word, book) in [("old", old), ("new", new)] {
+                let hint = hints::hint(&book);
+                if !hint.is_empty() {
+                    eprint!("{word}: {hint}");
+                }
+            }
         }
         ["pair", seed, index, old, new] => {
             let books = pair(seed.parse().expect("a seed"), index.parse().expect("an index"));

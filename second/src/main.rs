@@ -13,6 +13,7 @@ mod figures;
 mod grazing;
 mod grazings;
 mod halves;
+mod hints;
 mod judge;
 mod kind;
 mod lister;

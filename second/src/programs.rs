@@ -5,6 +5,7 @@ use crate::desk::{long_book, many_groups, some_book};
 use crate::dice::Dice;
 use crate::feed::{feed, Answer};
 use crate::fields::spoken_of;
+use crate::hints::hint;
 use crate::lister::list;
 use crate::record::{number, values_of};
 use crate::state::{State, LARGE};
@@ -13,8 +14,6 @@ use crate::words::kind_name;
 
 /// A number and its sentence a line, as C is told them.
 const SENTENCES: &str = include_str!("../../host/words.txt");
-
-const HINT: &str = "this looks like a typed book: bin/writer makes a book of it\n";
 
 /// Standard output, standard error, and whether the exit status is 0.
 pub struct Told {
@@ -34,22 +33,21 @@ pub fn listed(book: &[u8]) -> Told {
     let answer = read(&State::default(), book).answer;
     let said = match answer {
         Answer::Refused(r) => {
-            let typed = r.code == 1 && r.record == 0 && book.first().is_some_and(begins_text);
-            let hint = if typed { HINT } else { "" };
-            format!("refused {}: {}; bin/why tells more\n{hint}", r.code, sentence(r.code))
+            format!("refused {}: {}; bin/why tells more\n", r.code, sentence(r.code))
         }
         _ => String::new(),
     };
-    Told { printed: list(book), said, right: answer == Answer::Closed }
+    Told { printed: list(book), said: said + hint(book), right: answer == Answer::Closed }
 }
 
-/// Printed characters, blanks, line ends, and the first byte of a byte order mark.
-fn begins_text(byte: &u8) -> bool {
-    matches!(byte, b'\t' | b'\n' | b'\r' | b' '..=b'~' | 0xef)
-}
-
-/// The line to type for each record up to the first that is refused; the last word is said, to a person.
+/// The line to type for each record up to the first that is refused; the last word is said, to a person, and a hint.
 pub fn retyped(book: &[u8]) -> Told {
+    let mut told = typed_again(book);
+    told.said += hint(book);
+    told
+}
+
+fn typed_again(book: &[u8]) -> Told {
     let mut told = Told { printed: String::new(), said: String::new(), right: false };
     let mut state = State::default();
     let mut rest = book;

@@ -1,5 +1,6 @@
 //! Document 02, W5: a clean book saved from a damaged one, and the list of what was dropped.
 
+use crate::hints::hint;
 use crate::judge::judge;
 use crate::kind;
 use crate::record::{record_of, LENGTHS};
@@ -139,8 +140,16 @@ fn why(code: u8) -> &'static str {
     }
 }
 
-/// The program on a damaged book.
+/// The program on a damaged book, with a hint where nothing was saved.
 pub fn tell(damaged: &[u8]) -> Told {
+    let mut told = saved_from(damaged);
+    if !told.saved {
+        told.said += hint(damaged);
+    }
+    told
+}
+
+fn saved_from(damaged: &[u8]) -> Told {
     if damaged.len() > LONGEST {
         return unsaved("the damaged book is longer than 131072 bytes: nothing is written\n");
     }

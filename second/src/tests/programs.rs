@@ -37,14 +37,34 @@ fn a_typed_text_is_refused_with_a_hint() {
     assert_eq!(told.printed, "refused 1 0 0\n");
     assert!(told.said.ends_with("bin/writer makes a book of it\n") && !told.right);
     let told = retyped(SAMPLE_TYPED.as_bytes());
-    assert_eq!(told.said, "refused 1 0 0: a length that no record has: it is 4 to 26\n");
+    let refused = "refused 1 0 0: a length that no record has: it is 4 to 26\n";
+    assert_eq!(
+        told.said,
+        format!("{refused}this looks like a typed book: bin/writer makes a book of it\n")
+    );
 }
 
 #[test]
 fn no_bytes_and_half_a_record_are_unfinished() {
     for book in [&sample()[..0], &sample()[..1], &sample()[..15]] {
-        assert_eq!(retyped(book).said, "unfinished\n");
+        assert!(retyped(book).said.starts_with("unfinished\n"));
         assert_eq!(listed(book).printed, "unfinished\n");
+    }
+    assert_eq!(
+        retyped(&[]).said,
+        "unfinished\nthis is empty: a book begins with its farm record\n"
+    );
+    assert_eq!(listed(&[]).said, "this is empty: a book begins with its farm record\n");
+    assert_eq!((listed(b"f").said.as_str(), listed(&sample()[..1]).said.as_str()), ("", ""));
+}
+
+#[test]
+fn a_sheet_is_no_typed_text() {
+    for sheet in [&b"kind,group,ch4"[..], b"\xef\xbb\xbfkind,group"] {
+        assert!(listed(sheet).said.ends_with("\nthis looks like a sheet: bin/unsheet reads it\n"));
+    }
+    for text in [&b"kind,grouP"[..], b"kind,grou", b"\xef\xbb\xbf kind,group", b"\xefkind,group"] {
+        assert!(listed(text).said.ends_with("bin/writer makes a book of it\n"));
     }
 }
 

@@ -117,14 +117,18 @@ fn at_4095_kept_records_the_next_is_not_looked_at() {
 
 #[test]
 fn no_farm_record_is_19() {
-    for damaged in [
-        Vec::new(),
-        heading(4),
-        [heading(4), ration(), close(2)].concat(),
-        b"farm 7 2010 1\n".to_vec(),
+    for (damaged, hint) in [
+        (Vec::new(), "this is empty: a book begins with its farm record\n"),
+        (heading(4), ""),
+        ([heading(4), ration(), close(2)].concat(), ""),
+        (
+            b"farm 7 2010 1\n".to_vec(),
+            "this looks like a typed book: bin/writer makes a book of it\n",
+        ),
+        (b"kind,group,ch4\r\n".to_vec(), "this looks like a sheet: bin/unsheet reads it\n"),
     ] {
         let Told { book, said, saved } = tell(&damaged);
-        assert_eq!((book, said.as_str(), saved), (Vec::new(), "refused 19\n", false));
+        assert_eq!((book, said, saved), (Vec::new(), format!("refused 19\n{hint}"), false));
     }
 }
 
