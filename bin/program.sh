@@ -3,7 +3,7 @@
 # (a word: with --WORD the program is given it too and reads nothing). Runs the program on a file, on standard input (-) or, with no argument, on the
 # sample; builds it when it is not there or older than its source. --help says what the exit statuses mean.
 root=${here%/*}
-program=$root/target/bin/$name
+program=$root/target/bin/${name}_main
 
 # A standard descriptor that is closed is opened the wrong way round: the program's first read or write of it fails, and the program says so.
 { true 9<&0; } 2>/dev/null || exec 0>/dev/null

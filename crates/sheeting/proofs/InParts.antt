@@ -26,12 +26,12 @@ use Rattle.book.specs.Way.{Part, way, Ended}
 use Rattle.promises.proofs.RuleThree.{rule-three}
 use Rattle.promises.proofs.StaysInRange.{new-in-range}
 use Rattle.promises.proofs.EachLine.{LineKind, kind-small, Each, each-append, OfLines, call-each}
-use Rattle.sheets.specs.declared.rows.Column.{Column}
-use Rattle.sheets.specs.Rows.{isKind, columns, values, lengthOf, kindAt, isLine, lineRow}
-use Rattle.sheets.specs.Sheets.{item, made, eachBy, lineItem, header, rowsOf, exportOf}
-use Rattle.sheets.proofs.Columns.{widths}
-use Rattle.sheets.proofs.Runs.{each-one}
-use Rattle.sheets.proofs.RoundTrip.{columns-widths, is-line}
+use Rattle.sheet.specs.declared.rows.Column.{Column}
+use Rattle.sheet.specs.Rows.{isKind, columns, values, lengthOf, kindAt, isLine, lineRow}
+use Rattle.sheet.specs.Sheets.{item, made, eachBy, lineItem, header, rowsOf, exportOf}
+use Rattle.sheet.proofs.Columns.{widths}
+use Rattle.sheet.proofs.Runs.{each-one}
+use Rattle.sheet.proofs.RoundTrip.{columns-widths, is-line}
 use Rattle.sheeting.specs.Sheeting.{textOf, rowsOn, sheetOf}
 
 -- ---- one line, whatever stands behind it

@@ -9,10 +9,10 @@ use lib.Seq.{take-append-seam}
 use Rattle.book.specs.declared.State.{State}
 use Rattle.book.specs.declared.Fed.{Fed}
 use Rattle.book.specs.Call.{call, fedOf, laid}
-use Rattle.sheets.specs.declared.Answer.{Answer}
-use Rattle.sheets.specs.declared.Answer.the-variants.{Written, Refused}
-use Rattle.sheets.specs.Sheets.{Made, rowsOf, exportOf, answer, buffer}
-use Rattle.sheets.proofs.Plans.{written-within}
+use Rattle.sheet.specs.declared.Answer.{Answer}
+use Rattle.sheet.specs.declared.Answer.the-variants.{Written, Refused}
+use Rattle.sheet.specs.Sheets.{Made, rowsOf, exportOf, answer, buffer}
+use Rattle.sheet.proofs.Plans.{written-within}
 use Rattle.sheeting.specs.declared.Sheeted.{Sheeted}
 use Rattle.sheeting.specs.Sheeting.{writtenOf, isWritten, Sheets}
 

@@ -13,9 +13,9 @@ use Rattle.book.specs.State.{noRecordYet}
 use Rattle.book.specs.Run.{run}
 use Rattle.book.specs.Call.{Call, call}
 use Rattle.book.specs.Way.{Part}
-use Rattle.sheets.specs.declared.Answer.{Answer}
-use Rattle.sheets.specs.declared.Answer.the-variants.{Written, Refused}
-use Rattle.sheets.specs.Sheets.{Made, made, refused, rowsOf, exportOf, answer, buffer}
+use Rattle.sheet.specs.declared.Answer.{Answer}
+use Rattle.sheet.specs.declared.Answer.the-variants.{Written, Refused}
+use Rattle.sheet.specs.Sheets.{Made, made, refused, rowsOf, exportOf, answer, buffer}
 use Rattle.sheeting.specs.declared.Sheeted.{Sheeted}
 
 -- the bytes written: none where the rows are refused

@@ -1,14 +1,14 @@
 // The sheet of a book that is read in parts: the rows of the lines that each call gives.
 use book::State;
-use sheets::Answer;
-use sheets::export;
-use sheets::rows_of;
+use sheet::Answer;
+use sheet::export;
+use sheet::rows_of;
 ghost use mathlib.Core.Path.{_≡_};
 ghost use Prim.Native.Nat.{_≤_};
 ghost use mathlib.Core.List.{[]};
 ghost use lib.ListN.{length};
 ghost use Rattle.book.specs.Call.{call};
-ghost use Rattle.sheets.specs.Sheets.{exportOf, answer, buffer};
+ghost use Rattle.sheet.specs.Sheets.{exportOf, answer, buffer};
 ghost use Rattle.sheeting.specs.Sheeting.{writtenOf, isWritten, lineRoom, Sheets};
 
 // What one call over a part of a book makes: the new state, the bytes taken, whether its lines have become rows, and the bytes of these.

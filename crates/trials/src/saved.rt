@@ -8,7 +8,7 @@ use crate::shown::put_checksum;
 use crate::shown::put_words;
 use crate::words::read_bytes;
 use crate::words::read_numbers;
-use salvaging::Salvaged;
+use salvage::Salvaged;
 ghost use Prim.Native.Nat.{_≤_};
 
 // The number that refuses it, and both lengths; zeros where there are none.
@@ -33,7 +33,7 @@ fn listed(answer: Salvaged, most: usize) -> usize
 fn filled(damaged: &[u8], book: &mut [u8], list: &mut [u8]) -> Salvaged {
     fill(book);
     fill(list);
-    salvaging::salvage(damaged, book, list)
+    salvage::salvage(damaged, book, list)
 }
 
 // The line of answer: the answer, a checksum of each buffer, and the list.

@@ -1,0 +1,227 @@
+-- The records of some bytes, one after the other, as the code walks over them; and how often one of them stands there.
+-- Assumes nothing.
+use Prim.Native.Nat.{ℕ, zero, suc, _+_, _-_, _≤_, _<_}
+use native.Mathlib.Nat.{sub-zero}
+use mathlib.Core.Path.{_≡_, refl, sym, ap, _∙_}
+use mathlib.Core.List.{List, [], _∷_}
+use mathlib.Core.Bool.{Bool, true, false, _&&_, _||_, not}
+use native.Mathlib.Omega.{arith}
+use borrow.Author.Tests.{eqb-true, ne-eqb}
+use lib.ListN.{length, take, drop, length-drop}
+use lib.Seq.{drop-drop}
+use lib.Dec.{eqb}
+use Rattle.base.specs.Choice.{pick}
+use Rattle.codec.specs.Table.{rowOf, lastRow}
+use Rattle.base.proofs.Tests.{by-test, of-choice, not-true, not-false, and-l, and-r}
+use Rattle.account.specs.declared.Account.{Account}
+use Rattle.account.specs.Sorts.{ofGroup, ofFarm, sortOf, bySort}
+use Rattle.book.specs.Front.{whole, need, front}
+use Rattle.book.specs.WholeRecords.{Ready, recordsOf}
+use Rattle.book.proofs.WholeRecords.{records-whole}
+use Rattle.book.proofs.RecordRuns.{record-in}
+use Rattle.book.proofs.Fronts.{meaning}
+use Rattle.compare.specs.declared.cursor.Cursor.{Cursor}
+use Rattle.compare.specs.Entries.{after, takes, Entry, recordsIn, entriesFrom, entriesAfter, entriesOf}
+use Rattle.compare.specs.Same.{same}
+use Rattle.compare.specs.Moved.{timesIn, asOften, allAsOften, sameDetails}
+use Rattle.compare.specs.Compare.{movedOf}
+use Rattle.compare.specs.Inner.{entry, Reached}
+use Rattle.compare.proofs.Entries.{records-none}
+use Rattle.compare.proofs.Tellings.{long-enough}
+
+take-none : (n : ℕ) → take {A = List ℕ} n [] ≡ []
+take-none zero = refl
+take-none (suc n) = refl
+
+-- ---- a walk over records
+
+-- those of the first many records of xs that stand behind the byte at, i of them being before it
+abbrev pub ahead : List ℕ → ℕ → ℕ → ℕ → List (List ℕ)
+ahead xs many at i = take (many - i) (recordsOf (drop at xs))
+
+pub ahead-all : (xs : List ℕ) (many : ℕ) → ahead xs many 0 0 ≡ take many (recordsOf xs)
+ahead-all xs many = rw sub-zero refl
+
+pub ahead-far : (xs : List ℕ) (many at i : ℕ) → many ≤ i → ahead xs many at i ≡ []
+ahead-far xs many at i h = let z : many - i ≡ 0 = omega arith in rw z refl
+
+module _ (xs : List ℕ) (at : ℕ) (inside : at ≤ length xs) (rest : List ℕ) (e : rest ≡ drop at xs) (n : ℕ) (y : Ready rest n) where
+  pub ahead-none : (many i : ℕ) → n ≡ 0 → ahead xs many at i ≡ []
+  ahead-none many i z = rw (← e, records-none rest (y .none z)) (take-none (many - i))
+
+  module _ (some : n ≡ 0 → ⊥) where
+    here : (front rest ≡ whole) × (n ≡ need rest)
+    here = y .some (omega (arith, some))
+
+    pub size-inside : n ≤ length rest
+    size-inside = record-in rest n (here .0) (here .1)
+
+    pub kind-there : (r : List ℕ) → r ≡ take n rest → 4 ≤ length r
+    kind-there r q = let m = meaning rest whole (here .0) in long-enough n r rest q size-inside (omega (arith, here .1, m .1))
+
+    pub next-inside : at + n ≤ length xs
+    next-inside = omega (arith, size-inside, ap length e, length-drop at xs, inside)
+
+    pub ahead-on : (many i : ℕ) → i < many → ahead xs many at i ≡ take n rest ∷ ahead xs many (at + n) (i + 1)
+    ahead-on many i h =
+        let z : many - i ≡ suc (many - (i + 1)) = omega arith in
+        let d : drop n rest ≡ drop (at + n) xs = rw (e, drop-drop) refl in
+        let r : recordsOf rest ≡ take n rest ∷ recordsOf (drop n rest) = rw (here .1) (records-whole rest (here .0)) in
+        rw (← e, z, r, d) refl
+
+-- ---- how often a record stands there
+
+one-counted : (b : Bool) (n t : ℕ) → pick b (n + 1) n + t ≡ n + pick b (t + 1) t
+one-counted true n t = omega arith
+one-counted false n t = refl
+
+-- n of the first i records of xs are r, up to the byte at; counting those ahead makes the whole
+pub record Counting (r xs : List ℕ) (many at i n : ℕ) : Type 0 where
+  pub inside : at ≤ length xs
+  pub most : n ≤ i
+  pub rest : n + timesIn r (ahead xs many at i) ≡ timesIn r (take many (recordsOf xs))
+
+pub counting-none : (r xs : List ℕ) (many : ℕ) → Counting r xs many 0 0 0
+counting-none r xs many =
+    let e = ap (timesIn r) (ahead-all xs many) in
+    record { inside = omega arith; most = omega arith; rest = omega (arith, e) }
+
+module _ (r xs : List ℕ) (many at i n : ℕ) (c : Counting r xs many at i n) where
+  counted-all : ahead xs many at i ≡ [] → n ≡ timesIn r (take many (recordsOf xs))
+  unfolding timesIn
+  counted-all e = let q = c .rest in let z : timesIn r (ahead xs many at i) ≡ 0 = rw e refl in omega (arith, q, z)
+
+  pub counting-far : many ≤ i → n ≡ timesIn r (take many (recordsOf xs))
+  counting-far h = counted-all (ahead-far xs many at i h)
+
+  module _ (rest : List ℕ) (e : rest ≡ drop at xs) (size : ℕ) (y : Ready rest size) where
+    pub counting-ends : size ≡ 0 → n ≡ timesIn r (take many (recordsOf xs))
+    counting-ends z = counted-all (ahead-none xs at (c .inside) rest e size y many i z)
+
+    pub counting-on : (m : ℕ) (x : List ℕ) (b : Bool) → (size ≡ 0 → ⊥) → i < many → x ≡ take size rest → b ≡ same r x → m ≡ pick b (n + 1) n
+        → Counting r xs many (at + size) (i + 1) m
+    unfolding timesIn
+    counting-on m x b some h p q k =
+        let a : ahead xs many at i ≡ x ∷ ahead xs many (at + size) (i + 1) = rw p (ahead-on xs at (c .inside) rest e size y some many i h) in
+        let t = timesIn r (ahead xs many (at + size) (i + 1)) in
+        let s : timesIn r (ahead xs many at i) ≡ pick b (t + 1) t = rw (a, q) refl in
+        let o = one-counted b n t in
+        record {
+          inside = next-inside xs at (c .inside) rest e size y some;
+          most = rw k (of-choice (λ (l : ℕ). l ≤ i + 1) b (λ z. omega (arith, c .most)) (λ z. omega (arith, c .most)));
+          rest = rw k (o ∙ ap (λ (l : ℕ). n + l) (sym s) ∙ c .rest);
+        }
+
+-- ---- a detail, as the code tests it
+
+detail-kind : (k : ℕ) → not (eqb k 1) && not (eqb k 2) && not (eqb k 8) && not (eqb k lastRow) ≡ bySort (sortOf k) false false true true false
+unfolding sortOf
+detail-kind k =
+    by-test (eqb k 1) (λ q. rw (eqb-true k 1 q) refl)
+    (λ q1. by-test (eqb k 2) (λ q. rw (eqb-true k 2 q) refl)
+    (λ q2. by-test (eqb k 8) (λ q. rw (eqb-true k 8 q) refl)
+    (λ q8. by-test (eqb k lastRow) (λ q. rw (eqb-true k lastRow q) refl)
+    (λ q11. rw (q1, q2, q8, q11) (go (eqb k 3 || (eqb k 4 || (eqb k 5 || eqb k 10))))))))
+  where
+    go : (b : Bool) → true ≡ bySort (pick b ofGroup ofFarm) false false true true false
+    go true = refl
+    go false = refl
+
+-- a farm record of either version is none
+pub detail-test : (v k : ℕ)
+    → not (eqb k 1) && not (eqb k 2) && not (eqb k 8) && not (eqb k lastRow) ≡ bySort (sortOf (rowOf v k)) false false true true false
+unfolding sortOf
+detail-test v k =
+    by-test (eqb v 2 && eqb k 1) (λ q. rw (eqb-true k 1 (and-r (eqb v 2) (eqb k 1) q), eqb-true v 2 (and-l (eqb v 2) (eqb k 1) q)) refl)
+    (λ q. rw q (detail-kind k))
+
+-- ---- each of them
+
+-- those of the first i records of xs are as they should be; asking those ahead makes the whole
+pub record Asking (xs : List ℕ) (ss : List (List ℕ)) (many at i : ℕ) : Type 0 where
+  pub inside : at ≤ length xs
+  pub rest : allAsOften (take many (recordsOf xs)) ss (ahead xs many at i) ≡ allAsOften (take many (recordsOf xs)) ss (take many (recordsOf xs))
+
+pub asking-none : (xs : List ℕ) (ss : List (List ℕ)) (many : ℕ) → Asking xs ss many 0 0
+asking-none xs ss many = record { inside = omega arith; rest = rw (ahead-all xs many) refl }
+
+module _ (xs : List ℕ) (ss : List (List ℕ)) (many at i : ℕ) (c : Asking xs ss many at i) where
+  asked-all : ahead xs many at i ≡ [] → true ≡ allAsOften (take many (recordsOf xs)) ss (take many (recordsOf xs))
+  unfolding allAsOften
+  asked-all e = rw e at (c .rest)
+
+  pub asking-far : many ≤ i → true ≡ allAsOften (take many (recordsOf xs)) ss (take many (recordsOf xs))
+  asking-far h = asked-all (ahead-far xs many at i h)
+
+  module _ (rest : List ℕ) (e : rest ≡ drop at xs) (size : ℕ) (y : Ready rest size) where
+    pub asking-ends : size ≡ 0 → true ≡ allAsOften (take many (recordsOf xs)) ss (take many (recordsOf xs))
+    asking-ends z = asked-all (ahead-none xs at (c .inside) rest e size y many i z)
+
+    module _ (x : List ℕ) (some : size ≡ 0 → ⊥) (h : i < many) (p : x ≡ take size rest) where
+      next-asked : allAsOften (take many (recordsOf xs)) ss (ahead xs many at i)
+          ≡ asOften (take many (recordsOf xs)) ss x && allAsOften (take many (recordsOf xs)) ss (ahead xs many (at + size) (i + 1))
+      unfolding allAsOften
+      next-asked =
+          let a : ahead xs many at i ≡ x ∷ ahead xs many (at + size) (i + 1) = rw p (ahead-on xs at (c .inside) rest e size y some many i h) in
+          rw a refl
+
+      pub asking-stops : (b : Bool) → b ≡ asOften (take many (recordsOf xs)) ss x → not b ≡ true
+          → false ≡ allAsOften (take many (recordsOf xs)) ss (take many (recordsOf xs))
+      asking-stops b q f = rw (next-asked, ← q, not-true b f) at (c .rest)
+
+      pub asking-on : (b : Bool) → b ≡ asOften (take many (recordsOf xs)) ss x → not b ≡ false → Asking xs ss many (at + size) (i + 1)
+      asking-on b q f =
+          record { inside = next-inside xs at (c .inside) rest e size y some; rest = rw (next-asked, ← q, not-false b f) at (c .rest) }
+
+-- ---- the records between, as the code finds them
+
+first-records : (a : Account) (rs : List (List ℕ)) (m : ℕ) → m ≤ length (entriesFrom a rs) → take m rs ≡ recordsIn (take m (entriesFrom a rs))
+unfolding entriesFrom recordsIn
+first-records a rs zero h = refl
+first-records a [] (suc m) h = absurd (omega arith)
+first-records a (r ∷ rs) (suc m) h = go (λ k. first-records (after a r) rs m k) (takes a r) h
+  where
+    go : (m ≤ length (entriesFrom (after a r) rs) → take m rs ≡ recordsIn (take m (entriesFrom (after a r) rs)))
+        → (b : Bool) → suc m ≤ length (pick b (entry a r ∷ entriesFrom (after a r) rs) [])
+        → r ∷ take m rs ≡ recordsIn (take (suc m) (pick b (entry a r ∷ entriesFrom (after a r) rs) []))
+    go ih true h = ap (λ (l : List (List ℕ)). r ∷ l) (ih (omega (arith, h)))
+    go ih false h = absurd (omega (arith, h))
+
+-- the first m records behind the first k entries
+pub records-behind : (xs : List ℕ) (k m : ℕ) (c : Cursor) → Reached xs k c → m ≤ length (entriesOf xs) - k
+    → take m (recordsOf (drop (c .at) xs)) ≡ recordsIn (take m (drop k (entriesOf xs)))
+records-behind xs k m c r h =
+    let l : m ≤ length (entriesAfter (c .account) (drop (c .at) xs)) = rw (r .rest) (omega (arith, h, length-drop k (entriesOf xs))) in
+    first-records (c .account) (recordsOf (drop (c .at) xs)) m l ∙ ap (λ (es : List Entry). recordsIn (take m es)) (r .rest)
+
+pub records-at : (xs rest : List ℕ) (k n o back : ℕ) (c : Cursor) → Reached xs k c → rest ≡ drop (c .at) xs
+    → n ≡ length (entriesOf xs) → o ≡ n - k - back
+    → take o (recordsOf rest) ≡ recordsIn (take o (drop k (entriesOf xs)))
+records-at xs rest k n o back c r e f g = rw e (records-behind xs k o c r (omega (arith, f, g)))
+
+-- ---- by their tests
+
+pub often-none : (b detail t : Bool) → b ≡ detail → not b ≡ true → false ≡ detail && t
+often-none b detail t e h = rw (← e, not-true b h) refl
+
+pub often-some : (b detail : Bool) (n m k l : ℕ) → b ≡ detail → not b ≡ false → n ≡ k → m ≡ l → eqb n m ≡ detail && eqb k l
+often-some b detail n m k l e h p q = rw (← e, not-false b h, p, q) refl
+
+module _ (rs ss : List (List ℕ)) (b : Bool) (e : b ≡ allAsOften rs ss rs) where
+  pub details-none : not b ≡ true → false ≡ sameDetails rs ss
+  details-none h = rw (← e, not-true b h) refl
+
+  pub details-some : (d : Bool) → not b ≡ false → d ≡ allAsOften ss rs ss → d ≡ sameDetails rs ss
+  details-some d h p = rw (← e, not-false b h) p
+
+pub moved-none : (n k front back o : ℕ) (t : Bool) → n ≡ k → o ≡ n - front - back → o ≡ 0 → false ≡ not (eqb (k - front - back) 0) && t
+moved-none n k front back o t e f z = let q : k - front - back ≡ 0 = ap (λ (l : ℕ). l - front - back) (sym e) ∙ sym f ∙ z in rw q refl
+
+pub moved-some : (es ns : List Entry) (front back n o m p : ℕ) (rs ss : List (List ℕ)) (b : Bool) → n ≡ length es → o ≡ n - front - back
+    → (o ≡ 0 → ⊥) → m ≡ length ns → p ≡ m - front - back
+    → rs ≡ recordsIn (take o (drop front es)) → ss ≡ recordsIn (take p (drop front ns)) → b ≡ sameDetails rs ss → b ≡ movedOf front back es ns
+moved-some es ns front back n o m p rs ss b e f z g h k l q =
+    let x : o ≡ length es - front - back = f ∙ ap (λ (l : ℕ). l - front - back) e in
+    let y : p ≡ length ns - front - back = h ∙ ap (λ (l : ℕ). l - front - back) g in
+    let t : eqb (length es - front - back) 0 ≡ false = ne-eqb _ _ (λ w. z (x ∙ w)) in
+    rw (t, ← x, ← y, ← k, ← l) q

@@ -1,0 +1,112 @@
+// Runs of records that are the same details in another order. They are counted: a book has some thousand records at most.
+use crate::cursor::reach;
+use crate::remarks::less;
+use crate::runs::one_if;
+use crate::runs::same;
+use base::first_of;
+use base::rest_of;
+use book::front::ready;
+ghost use mathlib.Core.Path.{_≡_};
+ghost use Prim.Native.Nat.{_-_, _≤_};
+ghost use lib.ListN.{length, take};
+ghost use Rattle.promises.specs.WholeLines.{isDetail};
+ghost use Rattle.book.specs.WholeRecords.{recordsOf};
+ghost use Rattle.compare.specs.Entries.{entriesOf};
+ghost use Rattle.compare.specs.Moved.{timesIn, asOften, eachAsOften, sameDetails};
+ghost use Rattle.compare.specs.Compare.{movedOf};
+
+// How often the record r stands among the first many records of xs.
+fn times(r: &[u8], xs: &[u8], many: usize) -> usize
+    ensures { λ n. ⌜ n ≡ timesIn (now (r .entry)) (take many (recordsOf (now (xs .entry)))) ⌝ }
+{
+    let mut at = 0;
+    let mut i = 0;
+    let mut n = 0;
+    while i < many {
+        let rest = rest_of(xs, at);
+        let size = ready(rest);
+        if size == 0 {
+            return n;
+        }
+        n = one_if(same(r, first_of(rest, size)), n);
+        at += size;
+        i += 1;
+    }
+    n
+}
+
+// Whether the record r is a detail: it neither opens the book nor heads a group nor closes the book. The last row of the table is no kind.
+fn detail(r: &[u8]) -> bool
+    requires { ⌜ 4 ≤ length (now r) ⌝ }
+    ensures { λ b. ⌜ b ≡ isDetail (now (r .entry)) ⌝ }
+{
+    (r[3] != 1) & (r[3] != 2) & (r[3] != 8) & (r[3] != (codec::LAST_ROW as u8))
+}
+
+// Whether the record r is a detail and stands as often among the first m records of xs as among the first n of ys.
+fn as_often(r: &[u8], xs: &[u8], m: usize, ys: &[u8], n: usize) -> bool
+    requires { ⌜ 4 ≤ length (now r) ⌝ }
+    ensures { λ b. ⌜ b ≡ asOften (take m (recordsOf (now (xs .entry)))) (take n (recordsOf (now (ys .entry)))) (now (r .entry)) ⌝ }
+{
+    if !detail(r) {
+        return false;
+    }
+    times(r, xs, m) == times(r, ys, n)
+}
+
+// Whether each of the first m records of xs does.
+fn all_as_often(xs: &[u8], m: usize, ys: &[u8], n: usize) -> bool
+    ensures { λ b. ⌜ b ≡ eachAsOften (take m (recordsOf (now (xs .entry)))) (take n (recordsOf (now (ys .entry)))) ⌝ }
+{
+    let mut at = 0;
+    let mut i = 0;
+    while i < m {
+        let rest = rest_of(xs, at);
+        let size = ready(rest);
+        if size == 0 {
+            return true;
+        }
+        if !as_often(first_of(rest, size), xs, m, ys, n) {
+            return false;
+        }
+        at += size;
+        i += 1;
+    }
+    true
+}
+
+// Whether the first m records of xs and the first n of ys are the same details.
+fn same_details(xs: &[u8], m: usize, ys: &[u8], n: usize) -> bool
+    ensures { λ b. ⌜ b ≡ sameDetails (take m (recordsOf (now (xs .entry)))) (take n (recordsOf (now (ys .entry)))) ⌝ }
+{
+    if !all_as_often(xs, m, ys, n) {
+        return false;
+    }
+    all_as_often(ys, n, xs, m)
+}
+
+// How many records of n stand between the first and the last ones.
+fn between(n: usize, front: usize, back: usize) -> usize
+    ensures { λ r. ⌜ r ≡ n - front - back ⌝ }
+{
+    less(less(n, front), back)
+}
+
+// Whether the records between the first and the last ones of two books, of n and m accepted records, are the same details in another order.
+pub(crate) fn moved(old: &[u8], n: usize, new: &[u8], m: usize, front: usize, back: usize) -> bool
+    requires { ⌜ (n ≡ length (entriesOf (now old))) × (m ≡ length (entriesOf (now new))) ⌝ }
+    ensures { λ b. ⌜ b ≡ movedOf front back (entriesOf (now (old .entry))) (entriesOf (now (new .entry))) ⌝ }
+{
+    let o = between(n, front, back);
+    if o == 0 {
+        return false;
+    }
+    let c = reach(old, front);
+    let d = reach(new, front);
+    same_details(
+        rest_of(old, c.at),
+        o,
+        rest_of(new, d.at),
+        between(m, front, back),
+    )
+}

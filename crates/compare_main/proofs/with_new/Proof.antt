@@ -1,0 +1,22 @@
+use mathlib.Core.Path.{sym}
+use native.Mathlib.Omega.{arith}
+use borrow.Author.Needs.{needs}
+use lib.Seq.{length-take-le}
+use Rattle.compare_main.proofs.with_new.Statement.{statement}
+use Rattle.compare_main.proofs.with_new.Tie as tie
+
+pub with-new-spec : {M : Type 1} → statement M
+with-new-spec =
+    tie.close
+    (tie.spec
+    (λ c κs. search needs)
+    (λ c. search needs)
+    (λ c. search needs)
+    (λ c κs. search needs)
+    (λ c κs. search needs)
+    (λ c. search needs)
+    (λ c. search needs)
+    (λ c. sym (length-take-le _ _ (omega (arith, c .before .before .before .before .read-all .ensures))))
+    (λ c κs. search needs)
+    (λ c κs. search needs)
+    (λ c. search needs))

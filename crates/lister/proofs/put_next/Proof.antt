@@ -1,0 +1,17 @@
+-- A space, then the number. Assumes nothing.
+use Rattle.printing.proofs.Puts.{and-then}
+use borrow.Author.Needs.{needs}
+use Rattle.lister.proofs.put_next.Statement.{statement}
+use Rattle.lister.proofs.put_next.Tie as tie
+
+pub put-next-spec : {M : Type 1} → statement M
+put-next-spec =
+    tie.close
+    (tie.spec
+    (λ c κs. search needs)
+    (λ c κs. search needs)
+    (λ c. search needs)
+    (λ c. (
+      and-then (c .before .before .before .before .before .before .put-byte .ensures) (c .before .before .put-column .ensures .0),
+      search needs,
+    )))

@@ -1,0 +1,128 @@
+// Reads a book on standard input and prints it as typed lines, one for each accepted record. The last word goes to standard error.
+use book::State;
+use inputs::Input;
+use libc::STDERR_FILENO;
+use libc::STDIN_FILENO;
+use libc::STDOUT_FILENO;
+use names::hints::look;
+use names::hints::say_hint;
+ghost use mathlib.Core.Path.{_≡_};
+ghost use Prim.Native.Nat.{_≤_};
+ghost use lib.ListN.{length};
+
+// Where a caller that gives an argument, the word `status`, wants the status byte.
+const STATUS_FILENO: i32 = 3;
+
+// The state behind the records that were typed, the bytes taken, whether no write failed, and whether more may come.
+struct Work {
+    state: State,
+    at: usize,
+    written: bool,
+    more: bool,
+}
+
+// A book has at most 4,096 records of at most 28 bytes: what stands behind so many bytes is behind its end.
+fn book_buffer() -> [u8; 131072]
+    ensures { λ r. ⌜ length r ≡ 131072 ⌝ }
+{
+    [0u8; 131072]
+}
+
+// Where the text can't go out it is told.
+fn send(text: &[u8]) -> bool {
+    if io::write_all(STDOUT_FILENO, text) {
+        return true;
+    }
+    os::fail(b"standard output");
+    false
+}
+
+// The lines of some records, with one write.
+fn turn(mut w: Work, book: &[u8], text: &mut [u8]) -> Work
+    requires { ⌜ 65536 ≤ length (now text) ⌝ }
+    ensures { λ r. ⌜ 65536 ≤ length (now (text .exit)) ⌝ }
+{
+    let at = w.at;
+    if book.len() < at {
+        w.more = false;
+        return w;
+    }
+    let state = w.state;
+    let r = retype::retype(state, &book[at..], text);
+    let next = r.state;
+    let n = r.written;
+    w.state = next;
+    w.at = at + r.taken;
+    w.more = r.more;
+    if !send(&text[..n]) {
+        w.written = false;
+        w.more = false;
+    }
+    w
+}
+
+// Each turn takes a record, so that there are fewer of them than bytes.
+fn run(from: Work, book: &[u8], text: &mut [u8]) -> Work
+    requires { ⌜ 65536 ≤ length (now text) ⌝ }
+{
+    let mut w = from;
+    let mut turns: usize = 131072;
+    while turns > 0 {
+        if !w.more {
+            return w;
+        }
+        turns -= 1;
+        w = turn(w, book, text);
+    }
+    w
+}
+
+// The last word. Where a read or a write failed there is none: the book was not seen whole, or its lines were not.
+fn end(w: Work, input: Input, book: &[u8]) {
+    if !input.good {
+        return;
+    }
+    if !w.written {
+        return;
+    }
+    let mut text = [0u8; 512];
+    let state = w.state;
+    let n = retype::say_end(&mut text, state.account, w.at < input.len);
+    io::write_all(STDERR_FILENO, &text[..n]);
+    tell_hint(book);
+}
+
+// A hint where the input is no book but a typed text, a sheet or nothing.
+fn tell_hint(book: &[u8]) {
+    let mut text = [0u8; 128];
+    let n = say_hint(&mut text, 0, look(book));
+    io::write_all(STDERR_FILENO, &text[..n]);
+}
+
+fn tell_status(w: Work, input: Input) {
+    if os::arg_count() == 2 {
+        let state = w.state;
+        let status = retype::status(state.account, w.at < input.len, input.good, w.written);
+        io::write_all(STATUS_FILENO, &[status]);
+    }
+}
+
+fn answer(book: &[u8], input: Input) {
+    let mut text = io::large_buffer();
+    let start = Work {
+        state: State::new(),
+        at: 0,
+        written: true,
+        more: true,
+    };
+    let last = run(start, book, &mut text);
+    end(last, input, book);
+    tell_status(last, input);
+}
+
+fn main() {
+    let mut book = book_buffer();
+    let input = inputs::read_all(STDIN_FILENO, b"standard input", &mut book);
+    let n = input.len;
+    answer(&book[..n], input);
+}

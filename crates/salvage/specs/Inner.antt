@@ -1,0 +1,44 @@
+-- The contracts of the inner functions, in parts. A reader of the promises can pass this file over: no public contract cites it.
+-- Assumes nothing.
+use Prim.Native.Nat.{ℕ, _+_, _≤_, _<_}
+use mathlib.Core.Path.{_≡_}
+use mathlib.Core.List.{List, [], _∷_, _++_}
+use lib.ListN.{length, take, drop}
+use lib.Dec.{eqb}
+use Rattle.base.specs.Choice.{pick}
+use Rattle.codec.specs.Codec.{recordBytes}
+use Rattle.account.specs.Range.{AccountInRange}
+use Rattle.account.specs.Line.{joined}
+use Rattle.salvage.specs.declared.Reading.{Reading}
+use Rattle.salvage.specs.declared.turns.Turn.{Turn}
+use Rattle.salvage.specs.declared.passes.Sizes.{Sizes}
+use Rattle.salvage.specs.Salvage.{Found, nothing, with, foundIn, entryBytes, bookOf}
+
+-- the account of the kept records is that of an open book
+pub record Open (s : Reading) : Type 0 where
+  pub range : AccountInRange (s .account)
+  pub early : s .account .stage < 2
+
+-- t is one record of xs: its bytes, the number that drops it, and the reading behind it; with no bytes the reading ends
+pub record Turned (s : Reading) (xs : List ℕ) (t : Turn) : Type 0 where
+  pub inside : t .n ≤ length xs
+  pub most : t .n ≤ 28
+  pub ended : t .n ≡ 0 → foundIn s xs ≡ nothing
+  pub goes : 0 < t .n → foundIn s xs ≡ with (t .code) (s .number) (take (t .n) xs) (foundIn (t .next) (drop (t .n) xs))
+  pub opened : Open (t .next)
+  pub number : 0 < t .n → t .next .number ≡ s .number + 1
+  pub records : 0 < t .n → t .next .account .records ≡ s .account .records + pick (eqb (t .code) 0) 1 0
+
+-- the bytes of the clean book that are still to come: records found, and the close with the count of all kept
+abbrev pub bookFrom : Reading → Found → List ℕ
+bookFrom s f = joined (f .kept) ++ recordBytes 8 ((s .account .records + length (f .kept)) ∷ [])
+
+-- the bytes of the list for a record of that number: none with code 0
+abbrev pub noteOf : ℕ → ℕ → List ℕ
+noteOf code number = pick (eqb code 0) [] (entryBytes (record { number = number; code = code }))
+
+-- how much there is: kept records, bytes of the clean book, entries of the list
+pub record Measured (f : Found) (m : Sizes) : Type 0 where
+  pub kept : m .kept ≡ length (f .kept)
+  pub book : m .book ≡ length (bookOf (f .kept))
+  pub dropped : m .dropped ≡ length (f .dropped)

@@ -1,0 +1,106 @@
+// One record of a damaged book: it is kept, it is dropped, or the reading ends before it.
+use crate::Reading;
+use base::first_of;
+use book::front::ready;
+use line_bytes::LINES_MOST;
+use rules::judge;
+ghost use mathlib.Core.Path.{_≡_};
+ghost use mathlib.Core.Bool.{not};
+ghost use Prim.Native.Nat.{_<_};
+ghost use lib.Dec.{eqb};
+ghost use Rattle.base.specs.Choice.{pick};
+ghost use Rattle.account.specs.Judge.{first};
+ghost use Rattle.salvage.specs.Salvage.{ofGroupKind, drops};
+ghost use Rattle.salvage.specs.Inner.{Open, Turned};
+
+// What becomes of one record: its bytes, the number that drops it (0 where it is kept), and the reading behind it. No bytes: the reading ends.
+pub(crate) struct Turn {
+    pub n: usize,
+    pub code: u8,
+    pub next: Reading,
+}
+
+// A detail of the group, by the kind byte.
+fn of_group(kind: u8) -> bool
+    ensures { λ r. ⌜ r ≡ ofGroupKind kind ⌝ }
+{
+    ((3 <= kind) & (kind <= 5)) | (kind == 10)
+}
+
+// The number that drops a record of a kind byte that would get a code; 0 where it is not dropped.
+fn dropped_by(code: u8, kind: u8, lost: bool) -> u8
+    ensures { λ r. ⌜ r ≡ first (drops code kind lost) ⌝ }
+{
+    if (2 <= code) & (code <= 4) {
+        return code;
+    }
+    if lost & of_group(kind) {
+        return 6;
+    }
+    if (6 <= code) & (code <= 11) {
+        return code;
+    }
+    0
+}
+
+// Whether the last record of kind byte 2 was dropped, once a record has got that number.
+fn lost_by(kind: u8, code: u8, lost: bool) -> bool
+    ensures { λ r. ⌜ r ≡ pick (eqb kind 2) (not (eqb code 0)) lost ⌝ }
+{
+    if kind == 2 { code != 0 } else { lost }
+}
+
+impl Reading {
+    // The reading ends.
+    fn ended(self) -> Turn
+        ensures { λ t. ⌜ t ≡ record { n = 0; code = 0; next = self } ⌝ }
+    {
+        Turn {
+            n: 0,
+            code: 0,
+            next: self,
+        }
+    }
+
+    // What becomes of the record at the front of xs.
+    pub(crate) fn turn(self, xs: &[u8]) -> Turn
+        requires { ⌜ Open self × (self .number < 18446744073709551615) ⌝ }
+        ensures { λ t. ⌜ Turned self (now (xs .entry)) t ⌝ }
+    {
+        let a = self.account;
+        let n = ready(xs);
+        if (n == 0) | (4095 <= a.records) {
+            return self.ended();
+        }
+        let r = first_of(xs, n);
+        let kind = r[3];
+        let j = judge(a, r, LINES_MOST);
+        let after = j.account;
+        let code = dropped_by(after.refusal.code, kind, self.lost);
+        if (kind == 8) & (code == 0) {
+            return self.ended();
+        }
+        let lost = lost_by(kind, code, self.lost);
+        let number = self.number + 1;
+        if code == 0 {
+            return Turn {
+                n: n,
+                code: 0,
+                next: Reading {
+                    account: after,
+                    lost: lost,
+                    number: number,
+                },
+            };
+        }
+        Turn {
+            n: n,
+            code: code,
+            next: Reading {
+                account: a,
+                lost: lost,
+                number: number,
+            },
+        }
+    }
+}

@@ -1,0 +1,166 @@
+// Reads a damaged book on standard input and writes a clean one on standard output. What was dropped is told on standard error.
+use libc::STDERR_FILENO;
+use libc::STDIN_FILENO;
+use libc::STDOUT_FILENO;
+use names::hints::look;
+use names::hints::say_hint;
+use salvage::Salvaged;
+use salvage::remarks;
+ghost use mathlib.Core.Path.{_≡_};
+ghost use Prim.Native.Nat.{_≤_, _<_};
+ghost use lib.ListN.{length};
+
+// Where a caller that gives an argument, the word `status`, wants the status byte.
+const STATUS_FILENO: i32 = 3;
+
+// The most bytes of a damaged book: a full one has 114,688.
+const MOST: usize = 131072;
+
+// The bytes of the list that are told with one write: 256 entries.
+const PART: usize = 2304;
+
+// Whether a book was saved, and whether all was read and written.
+struct Done {
+    saved: bool,
+    written: bool,
+}
+
+// A byte more than the most, by which a longer book is known.
+fn damaged_buffer() -> [u8; 131073]
+    ensures { λ r. ⌜ length r ≡ 131073 ⌝ }
+{
+    [0u8; 131073]
+}
+
+// A clean book has at most 4,096 records of at most 28 bytes.
+fn book_buffer() -> [u8; 114688]
+    ensures { λ r. ⌜ length r ≡ 114688 ⌝ }
+{
+    [0u8; 114688]
+}
+
+// An entry of nine bytes for each record of a damaged book: a record has at least six.
+fn list_buffer() -> [u8; 196608]
+    ensures { λ r. ⌜ length r ≡ 196608 ⌝ }
+{
+    [0u8; 196608]
+}
+
+// Where the book can't go out it is told.
+fn send(book: &[u8]) -> bool {
+    if io::write_all(STDOUT_FILENO, book) {
+        return true;
+    }
+    os::fail(b"standard output");
+    false
+}
+
+// Where the next part of the list ends.
+fn part_end(i: usize, n: usize) -> usize
+    requires { ⌜ i < n ⌝ }
+    ensures { λ r. ⌜ (i < r) × (r ≤ n) ⌝ }
+{
+    if n - i < PART { n } else { i + PART }
+}
+
+// The lines of a part of the list, with one write.
+fn tell_part(part: &[u8]) {
+    let mut text = io::large_buffer();
+    let n = remarks::say_list(&mut text, part);
+    io::write_all(STDERR_FILENO, &text[..n]);
+}
+
+fn tell_list(list: &[u8]) {
+    let mut i = 0;
+    while i < list.len() {
+        let end = part_end(i, list.len());
+        tell_part(&list[i..end]);
+        i = end;
+    }
+}
+
+// The last word.
+fn tell_end(answer: Salvaged, book: &[u8]) {
+    let mut text = [0u8; 512];
+    let n = remarks::say_end(&mut text, answer, book);
+    io::write_all(STDERR_FILENO, &text[..n]);
+}
+
+fn tell_too_long() {
+    let mut text = [0u8; 512];
+    let n = remarks::say_too_long(&mut text);
+    io::write_all(STDERR_FILENO, &text[..n]);
+}
+
+// Where the clean book can't go out, nothing more is told.
+fn give(answer: Salvaged, book: &[u8], list: &[u8]) -> Done {
+    if !send(book) {
+        return Done {
+            saved: true,
+            written: false,
+        };
+    }
+    tell_list(list);
+    tell_end(answer, book);
+    Done {
+        saved: true,
+        written: true,
+    }
+}
+
+fn unsaved() -> Done {
+    Done {
+        saved: false,
+        written: true,
+    }
+}
+
+fn save(damaged: &[u8]) -> Done {
+    if MOST < damaged.len() {
+        tell_too_long();
+        return unsaved();
+    }
+    let mut book = book_buffer();
+    let mut list = list_buffer();
+    let answer = salvage::salvage(damaged, &mut book, &mut list);
+    match answer {
+        Salvaged::Saved(l) => give(answer, &book[..l.book], &list[..l.list]),
+        Salvaged::Refused(number) => {
+            tell_end(answer, b"");
+            unsaved()
+        }
+    }
+}
+
+// A hint where the input is no book but a typed text, a sheet or nothing.
+fn tell_hint(damaged: &[u8]) {
+    let mut text = [0u8; 128];
+    let n = say_hint(&mut text, 0, look(damaged));
+    io::write_all(STDERR_FILENO, &text[..n]);
+}
+
+fn tell_status(done: Done) {
+    if os::arg_count() == 2 {
+        let status = remarks::status(done.saved, done.written);
+        io::write_all(STATUS_FILENO, &[status]);
+    }
+}
+
+fn answer(damaged: &[u8]) -> Done {
+    let done = save(damaged);
+    if !done.saved {
+        tell_hint(damaged);
+    }
+    done
+}
+
+fn main() {
+    let mut damaged = damaged_buffer();
+    let input = inputs::read_all(STDIN_FILENO, b"standard input", &mut damaged);
+    if !input.good {
+        tell_status(unsaved());
+        return;
+    }
+    let n = input.len;
+    tell_status(answer(&damaged[..n]));
+}

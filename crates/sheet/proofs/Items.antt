@@ -1,0 +1,75 @@
+-- A row as an item, by what the code read of it.
+use Prim.Native.Nat.{ℕ, _+_, _<_}
+use native.Mathlib.Omega.{arith}
+use mathlib.Core.Bool.{Bool, true, false, not, _&&_}
+use mathlib.Core.Path.{_≡_, refl, sym, ap, _∙_}
+use mathlib.Core.List.{List, _∷_}
+use lib.ListN.{length, drop, length-append}
+use borrow.Author.Tests.{not-true, not-false}
+use Rattle.codec.specs.Codec.{be}
+use Rattle.codec.proofs.BigEndian.{be-length}
+use Rattle.sheet.specs.declared.rows.RowRead.{RowRead}
+use Rattle.sheet.specs.Rows.{columns, isKind, lengthOf, bytes, lineOf, rowText, readRow, kindIn}
+use Rattle.sheet.specs.Sheets.{item, wrong, rowItem}
+use Rattle.sheet.specs.Code.{IsRow}
+use Rattle.base.proofs.Tests.{by-test, and-l}
+use Rattle.sheet.proofs.Columns.{bytes-length, row-reads}
+use Rattle.sheet.proofs.RoundTrip.{sounds, columns-widths, row-some, other}
+
+pub line-length : (k : ℕ) (vs : List ℕ) → length (lineOf k vs) ≡ 2 + lengthOf k
+unfolding lineOf
+line-length k vs = omega
+    (arith, length-append (be 2 (lengthOf k)) (1 ∷ bytes (columns k) vs), be-length 2 (lengthOf k), bytes-length (columns k) vs, columns-widths k)
+
+pub line-parts : (k : ℕ) (vs : List ℕ) → length (lineOf k vs) ≡ 3 + length (bytes (columns k) vs)
+line-parts k vs = omega (arith, line-length k vs, bytes-length (columns k) vs, columns-widths k)
+
+module _ (text : List ℕ) (i : ℕ) (r : RowRead)
+    (o : IsRow text (kindIn (drop i text)) (readRow (columns (kindIn (drop i text))) (drop i text)) r) where
+  pub row-form : not (r .good) ≡ true → rowItem (drop i text) ≡ wrong 20
+  unfolding rowItem
+  row-form f = let g = sym (o .good) ∙ not-true (r .good) f in rw g
+
+  module _ (k : Bool) (e : k ≡ isKind (r .kind)) (g : not (r .good) ≡ false) where
+    good-is : readRow (columns (kindIn (drop i text))) (drop i text) .good ≡ true
+    good-is = sym (o .good) ∙ not-false (r .good) g
+
+    both-is : (r .fits && k) ≡ (readRow (columns (kindIn (drop i text))) (drop i text) .fits && isKind (kindIn (drop i text)))
+    both-is = rw (o .fits, e, o .kinds)
+
+    pub row-field : not (r .fits && k) ≡ true → rowItem (drop i text) ≡ wrong 21
+    unfolding rowItem
+    row-field f = let b = sym both-is ∙ not-true (r .fits && k) f in rw (good-is, b)
+
+    module _ (f : not (r .fits && k) ≡ false) where
+      passed : (readRow (columns (kindIn (drop i text))) (drop i text) .fits && isKind (kindIn (drop i text))) ≡ true
+      passed = sym both-is ∙ not-false (r .fits && k) f
+
+      pub row-right : rowItem (drop i text) ≡ item (lineOf (r .kind) (r .values)) (drop (r .end) text)
+      unfolding rowItem
+      row-right = rw (good-is, passed, o .kinds, o .values, o .rest)
+
+      pub row-shorter : length (drop (r .end) text) < length (drop i text)
+      row-shorter =
+          let kind = kindIn (drop i text) in
+          let row = readRow (columns kind) (drop i text) in
+          let w = row-reads (columns kind) (drop i text) (sounds kind) good-is (and-l _ _ passed) in
+          omega (
+            arith,
+            ap length (w .text),
+            length-append (rowText (columns kind) (row .values)) (row .rest),
+            row-some kind (row .values),
+            ap length
+                (o .rest),
+          )
+
+  -- what it is, where it is one
+  pub row-is : (p q : List ℕ) → rowItem (drop i text) ≡ item p q
+      → (lineOf (r .kind) (r .values) ≡ p) × (drop (r .end) text ≡ q) × (length (drop (r .end) text) < length (drop i text))
+  row-is p q e =
+      by-test (not (r .good))
+      (λ b. other (sym (row-form b) ∙ e))
+      (λ g. by-test (not (r .fits && isKind (r .kind)))
+      (λ b. other (sym (row-field (isKind (r .kind)) refl g b) ∙ e))
+      (λ f. let x : item (lineOf (r .kind) (r .values)) (drop (r .end) text) ≡ item p q = sym (row-right (isKind (r .kind)) refl g f) ∙ e in
+      (cc, cc, row-shorter (isKind (r .kind)) refl g f)))

@@ -1,0 +1,19 @@
+use Rattle.printing.proofs.Sayings.{_⟫_}
+use borrow.Author.Needs.{needs}
+use Rattle.sheet.proofs.remarks.say_people.Statement.{statement}
+use Rattle.sheet.proofs.remarks.say_people.Tie as tie
+
+pub say-people-spec : {M : Type 1} → statement M
+say-people-spec =
+    tie.close
+    (tie.spec
+    (λ c κs. search needs)
+    (λ c κs. search needs)
+    (λ c. search needs)
+    (λ c κs. search needs)
+    (λ c. search needs)
+    (λ c.
+    let p3 = c .before .before in
+    let p2 = p3 .before .before .before .before .before in
+    let p1 = p2 .before .before .before .before in
+    p1 .say-row-head .ensures ⟫ p2 .say-sentence .ensures ⟫ p3 .say .ensures))

@@ -1,0 +1,171 @@
+// Sheets for the spreadsheet: a run of line records as comma-separated text, and such text as line records.
+pub mod numbers; // numbers.rt: numbers read off a text
+pub mod rows; // rows.rt: a row of columns read off a text
+pub mod lines; // lines.rt: a line record from its values
+pub mod texts; // texts.rt: its row as text
+pub mod remarks; // remarks.rt: what is told of a sheet that is read
+
+use base::rest_of;
+use lines::Total;
+use lines::add;
+use lines::is_kind;
+use lines::line_size;
+use lines::put_line;
+use printing::put_text;
+use rows::read_row;
+use rows::starts;
+use texts::front_size;
+use texts::is_line;
+use texts::put_line_row;
+use texts::row_size;
+ghost use mathlib.Core.Path.{_≡_};
+ghost use Prim.Native.Nat.{ℕ, _+_, _≤_};
+ghost use lib.ListN.{length, drop};
+ghost use Rattle.printing.specs.Decimal.{Put};
+ghost use Rattle.sheet.specs.Sheets.{made, each, header, lineItem, rowsOf, exportOf, rowItem, importOf, answer, buffer};
+ghost use Rattle.sheet.specs.Code.{totalOf, answerAfter, madeOf};
+
+// What an export or an import answers: the bytes written, or a refusal with its row (0: none).
+pub enum Answer {
+    Written(usize),
+    Refused(u8, usize),
+}
+
+// The answer to the rows of a text from an index on, with so much room for their lines.
+fn plan_rows(text: &[u8], from: usize, room: usize) -> Answer
+    requires { ⌜ (51 ≤ from) × (from ≤ length (now text)) ⌝ }
+    ensures { λ r. ⌜ r ≡ answer (each rowItem 2 (drop from (now (text .entry)))) room ⌝ }
+{
+    let mut total = Total {
+        over: false,
+        sum: 0,
+    };
+    let mut i = from;
+    let mut row: usize = 2;
+    while i < text.len() {
+        let r = read_row(text, i);
+        if !r.good {
+            return Answer::Refused(20, row);
+        }
+        if !(r.fits & is_kind(r.kind)) {
+            return Answer::Refused(21, row);
+        }
+        total = add(total, line_size(r.kind), room);
+        i = r.end;
+        row += 1;
+    }
+    if total.over {
+        return Answer::Refused(16, 0);
+    }
+    Answer::Written(total.sum)
+}
+
+// Their lines.
+fn write_rows(text: &[u8], from: usize, lines: &mut [u8]) -> usize
+    requires { ⌜ from ≤ length (now text) ⌝ }
+    requires { ⌜ each rowItem 2 (drop from (now text)) ≡ made (madeOf (each rowItem 2 (drop from (now text)))) ⌝ }
+    requires { ⌜ length (madeOf (each rowItem 2 (drop from (now text)))) ≤ length (now lines) ⌝ }
+    ensures { λ r. ⌜ Put (now (lines .entry)) (now (lines .exit)) 0 (madeOf (each rowItem 2 (drop from (now (text .entry))))) r ⌝ }
+{
+    let mut i = from;
+    let mut at = 0;
+    while i < text.len() {
+        let r = read_row(text, i);
+        let values = r.values;
+        at = put_line(lines, at, r.kind, &values);
+        i = r.end;
+    }
+    at
+}
+
+pub fn import(text: &[u8], lines: &mut [u8]) -> Answer
+    ensures { λ r. ⌜ r ≡ answer (importOf (now (text .entry))) (length (now (lines .entry))) ⌝ }
+    ensures { λ r. ⌜ now (lines .exit) ≡ buffer (importOf (now (text .entry))) (now (lines .entry)) ⌝ }
+{
+    if !starts(
+        text,
+        0,
+        b"kind,group,ch4,n2o,co2,excreted,land,grazing,co2e\r\n",
+    ) {
+        return Answer::Refused(20, 1);
+    }
+    let plan = plan_rows(text, 51, lines.len());
+    let Answer::Written(n) = plan else {
+        return plan;
+    };
+    Answer::Written(write_rows(text, 51, lines))
+}
+
+// The answer to the rows of some lines, with so much room, a part of which is taken.
+fn plan_lines(lines: &[u8], start: Total, room: usize) -> Answer
+    ensures { λ r. ⌜ ((k : ℕ) → start ≡ totalOf room k → r ≡ answerAfter k (rowsOf (now (lines .entry))) room) ⌝ }
+{
+    let mut total = start;
+    let mut i = 0;
+    while i < lines.len() {
+        let rest = rest_of(lines, i);
+        if !is_line(rest) {
+            return Answer::Refused(23, 0);
+        }
+        total = add(total, row_size(rest), room);
+        i += front_size(rest);
+    }
+    if total.over {
+        return Answer::Refused(16, 0);
+    }
+    Answer::Written(total.sum)
+}
+
+// The rows.
+fn write_lines(lines: &[u8], text: &mut [u8], from: usize) -> usize
+    requires { ⌜ rowsOf (now lines) ≡ made (madeOf (rowsOf (now lines))) ⌝ }
+    requires { ⌜ from + length (madeOf (rowsOf (now lines))) ≤ length (now text) ⌝ }
+    ensures { λ r. ⌜ Put (now (text .entry)) (now (text .exit)) from (madeOf (rowsOf (now (lines .entry)))) r ⌝ }
+{
+    let mut i = 0;
+    let mut at = from;
+    while i < lines.len() {
+        let rest = rest_of(lines, i);
+        at = put_line_row(text, at, rest);
+        i += front_size(rest);
+    }
+    at
+}
+
+// A row for each line, without the header: for a sheet that is written in parts.
+pub fn rows_of(lines: &[u8], text: &mut [u8]) -> Answer
+    ensures { λ r. ⌜ r ≡ answer (rowsOf (now (lines .entry))) (length (now (text .entry))) ⌝ }
+    ensures { λ r. ⌜ now (text .exit) ≡ buffer (rowsOf (now (lines .entry))) (now (text .entry)) ⌝ }
+{
+    let none = Total {
+        over: false,
+        sum: 0,
+    };
+    let plan = plan_lines(lines, none, text.len());
+    let Answer::Written(n) = plan else {
+        return plan;
+    };
+    Answer::Written(write_lines(lines, text, 0))
+}
+
+// The header, then a row for each line.
+pub fn export(lines: &[u8], text: &mut [u8]) -> Answer
+    ensures { λ r. ⌜ r ≡ answer (exportOf (now (lines .entry))) (length (now (text .entry))) ⌝ }
+    ensures { λ r. ⌜ now (text .exit) ≡ buffer (exportOf (now (lines .entry))) (now (text .entry)) ⌝ }
+{
+    let none = Total {
+        over: false,
+        sum: 0,
+    };
+    let start = add(none, 51, text.len());
+    let plan = plan_lines(lines, start, text.len());
+    let Answer::Written(n) = plan else {
+        return plan;
+    };
+    let at = put_text(
+        text,
+        0,
+        b"kind,group,ch4,n2o,co2,excreted,land,grazing,co2e\r\n",
+    );
+    Answer::Written(write_lines(lines, text, at))
+}

@@ -1,0 +1,112 @@
+// Reads line records on standard input and writes their sheet on standard output: for machines that keep lines. The last word goes to standard error.
+use libc::STDERR_FILENO;
+use libc::STDIN_FILENO;
+use libc::STDOUT_FILENO;
+use sheet::Answer;
+use sheet::remarks;
+ghost use mathlib.Core.Path.{_≡_};
+ghost use lib.ListN.{length};
+
+// Where a caller that gives an argument, the word `status`, wants the status byte.
+const STATUS_FILENO: i32 = 3;
+
+// The most bytes of line records.
+const MOST: usize = 131072;
+
+// Whether the lines were accepted, and whether all was read and written.
+struct Done {
+    accepted: bool,
+    written: bool,
+}
+
+// A byte more than the most, by which a longer run is known.
+fn lines_buffer() -> [u8; 131073]
+    ensures { λ r. ⌜ length r ≡ 131073 ⌝ }
+{
+    [0u8; 131073]
+}
+
+// A line of 54 bytes has a row of at most 140, one of 62 at most 160: no sheet of so many is longer.
+fn sheet_buffer() -> [u8; 344064]
+    ensures { λ r. ⌜ length r ≡ 344064 ⌝ }
+{
+    [0u8; 344064]
+}
+
+// Where the sheet can't go out it is told.
+fn send(sheet: &[u8]) -> bool {
+    if io::write_all(STDOUT_FILENO, sheet) {
+        return true;
+    }
+    os::fail(b"standard output");
+    false
+}
+
+// A sentence where it is refused, and the last word.
+fn tell_end(text: &[u8], answer: Answer) {
+    let mut said = [0u8; 512];
+    let n = remarks::say_end(&mut said, text, answer);
+    io::write_all(STDERR_FILENO, &said[..n]);
+}
+
+fn tell_too_long() {
+    let mut said = [0u8; 128];
+    let n = remarks::say_lines_too_long(&mut said);
+    io::write_all(STDERR_FILENO, &said[..n]);
+}
+
+// Where the sheet can't go out, nothing more is told.
+fn give(answer: Answer, sheet: &[u8]) -> Done {
+    if !send(sheet) {
+        return Done {
+            accepted: true,
+            written: false,
+        };
+    }
+    tell_end(sheet, answer);
+    Done {
+        accepted: true,
+        written: true,
+    }
+}
+
+fn refused() -> Done {
+    Done {
+        accepted: false,
+        written: true,
+    }
+}
+
+fn write_sheet(lines: &[u8]) -> Done {
+    if MOST < lines.len() {
+        tell_too_long();
+        return refused();
+    }
+    let mut sheet = sheet_buffer();
+    let answer = sheet::export(lines, &mut sheet);
+    match answer {
+        Answer::Written(n) => give(answer, &sheet[..n]),
+        Answer::Refused(code, row) => {
+            tell_end(b"", answer);
+            refused()
+        }
+    }
+}
+
+fn tell_status(done: Done) {
+    if os::arg_count() == 2 {
+        let status = remarks::status(done.accepted, done.written);
+        io::write_all(STATUS_FILENO, &[status]);
+    }
+}
+
+fn main() {
+    let mut lines = lines_buffer();
+    let input = inputs::read_all(STDIN_FILENO, b"standard input", &mut lines);
+    if !input.good {
+        tell_status(refused());
+        return;
+    }
+    let n = input.len;
+    tell_status(write_sheet(&lines[..n]));
+}

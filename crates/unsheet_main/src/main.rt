@@ -1,0 +1,112 @@
+// Reads a sheet on standard input and writes its line records on standard output. The last word goes to standard error.
+use libc::STDERR_FILENO;
+use libc::STDIN_FILENO;
+use libc::STDOUT_FILENO;
+use sheet::Answer;
+use sheet::remarks;
+ghost use mathlib.Core.Path.{_≡_};
+ghost use lib.ListN.{length};
+
+// Where a caller that gives an argument, the word `status`, wants the status byte.
+const STATUS_FILENO: i32 = 3;
+
+// The most bytes of a sheet.
+const MOST: usize = 131072;
+
+// Whether the sheet was accepted, and whether all was read and written.
+struct Done {
+    accepted: bool,
+    written: bool,
+}
+
+// A byte more than the most, by which a longer sheet is known.
+fn sheet_buffer() -> [u8; 131073]
+    ensures { λ r. ⌜ length r ≡ 131073 ⌝ }
+{
+    [0u8; 131073]
+}
+
+// A line of 62 bytes has a row of at least 19, one of 54 at least 18: no sheet's lines are longer.
+fn lines_buffer() -> [u8; 427712]
+    ensures { λ r. ⌜ length r ≡ 427712 ⌝ }
+{
+    [0u8; 427712]
+}
+
+// Where the lines can't go out it is told.
+fn send(lines: &[u8]) -> bool {
+    if io::write_all(STDOUT_FILENO, lines) {
+        return true;
+    }
+    os::fail(b"standard output");
+    false
+}
+
+// A sentence where it is refused, and the last word.
+fn tell_end(text: &[u8], answer: Answer) {
+    let mut said = [0u8; 512];
+    let n = remarks::say_end(&mut said, text, answer);
+    io::write_all(STDERR_FILENO, &said[..n]);
+}
+
+fn tell_too_long() {
+    let mut said = [0u8; 128];
+    let n = remarks::say_too_long(&mut said);
+    io::write_all(STDERR_FILENO, &said[..n]);
+}
+
+// Where the lines can't go out, nothing more is told.
+fn give(text: &[u8], answer: Answer, lines: &[u8]) -> Done {
+    if !send(lines) {
+        return Done {
+            accepted: true,
+            written: false,
+        };
+    }
+    tell_end(text, answer);
+    Done {
+        accepted: true,
+        written: true,
+    }
+}
+
+fn refused() -> Done {
+    Done {
+        accepted: false,
+        written: true,
+    }
+}
+
+fn read_sheet(text: &[u8]) -> Done {
+    if MOST < text.len() {
+        tell_too_long();
+        return refused();
+    }
+    let mut lines = lines_buffer();
+    let answer = sheet::import(text, &mut lines);
+    match answer {
+        Answer::Written(n) => give(text, answer, &lines[..n]),
+        Answer::Refused(code, row) => {
+            tell_end(text, answer);
+            refused()
+        }
+    }
+}
+
+fn tell_status(done: Done) {
+    if os::arg_count() == 2 {
+        let status = remarks::status(done.accepted, done.written);
+        io::write_all(STATUS_FILENO, &[status]);
+    }
+}
+
+fn main() {
+    let mut sheet = sheet_buffer();
+    let input = inputs::read_all(STDIN_FILENO, b"standard input", &mut sheet);
+    if !input.good {
+        tell_status(refused());
+        return;
+    }
+    let n = input.len;
+    tell_status(read_sheet(&sheet[..n]));
+}

@@ -1,0 +1,203 @@
+// Reads a typed book on standard input and writes its bytes on standard output; what is said goes to standard error. With two arguments it shows
+// the kinds on standard output and reads nothing.
+use book::State;
+use libc::STDERR_FILENO;
+use libc::STDIN_FILENO;
+use libc::STDOUT_FILENO;
+use text_lines::Cut;
+use writer::Typing;
+use writer::Typist;
+ghost use Prim.Native.Nat.{_≤_};
+ghost use mathlib.Core.Path.{_≡_};
+ghost use lib.ListN.{length};
+
+// Where a caller that gives an argument, the word `status`, wants the status byte.
+const STATUS_FILENO: i32 = 3;
+
+// The typist and the line being read, how many bytes the last call took, whether more may come, and whether all was read and written.
+struct Work {
+    typing: Typing,
+    taken: usize,
+    more: bool,
+    good: bool,
+}
+
+fn stopped(mut w: Work, good: bool) -> Work
+    ensures { λ r. ⌜ r .taken ≡ w .taken ⌝ }
+{
+    w.more = false;
+    w.good = good;
+    w
+}
+
+fn up_to(s: &[u8], n: usize) -> &[u8] {
+    if n <= s.len() {
+        return &s[..n];
+    }
+    s
+}
+
+// Where the bytes can't go out the book would lack a record: nothing more is tried.
+fn send(record: &[u8], remark: &[u8], w: Work) -> Work
+    ensures { λ r. ⌜ r .taken ≡ w .taken ⌝ }
+{
+    io::write_all(STDERR_FILENO, remark);
+    if io::write_all(STDOUT_FILENO, record) {
+        return w;
+    }
+    os::fail(b"standard output");
+    stopped(w, false)
+}
+
+// Up to the end of a line, or of what is left of the part.
+fn take_line(line: &mut [u8], rest: &[u8], from: Work) -> Work
+    ensures { λ r. ⌜ r .taken ≤ length (now (rest .entry)) ⌝ }
+{
+    let mut out = [0u8; 28];
+    let mut remarks = [0u8; 4096];
+    let typing = from.typing;
+    let r = writer::type_part(typing, line, rest, &mut out, &mut remarks);
+    let next = r.typing;
+    let mut w = from;
+    w.typing = next;
+    w.taken = r.taken;
+    send(up_to(&out, r.written), up_to(&remarks, r.told), w)
+}
+
+// A part, line after line. A proved loop has to end: the calls count down from a number that no part uses up, since each takes a byte.
+fn take_part(line: &mut [u8], part: &[u8], from: Work) -> Work {
+    let mut w = from;
+    let mut i = 0;
+    let mut calls = part.len();
+    while calls > 0 {
+        calls -= 1;
+        w = take_line(line, &part[i..], w);
+        i += w.taken;
+        if !w.more {
+            return w;
+        }
+        if i == part.len() {
+            return w;
+        }
+    }
+    w
+}
+
+// Reads once. At the end of the input, or where a read fails, there is no more.
+fn turn(line: &mut [u8], w: Work) -> Work {
+    let mut part = io::buffer();
+    let got = libc::read(STDIN_FILENO, &mut part);
+    if got < 0 {
+        os::fail(b"standard input");
+        return stopped(w, false);
+    }
+    if got == 0 {
+        return stopped(w, true);
+    }
+    let n = io::count(got, &part);
+    take_part(line, &part[..n], w)
+}
+
+// A proved loop has to end, and nothing says that the input does: the turns count down from a number that no run uses up.
+fn run(line: &mut [u8], from: Work) -> Work {
+    let mut w = from;
+    let mut turns = u64::MAX;
+    while turns > 0 {
+        if !w.more {
+            return w;
+        }
+        turns -= 1;
+        w = turn(line, w);
+    }
+    w
+}
+
+// The unfinished line; where a read failed it may have been cut, and is not entered.
+fn last_line(line: &[u8], w: Work) -> Work {
+    if !w.good {
+        return w;
+    }
+    let mut out = [0u8; 28];
+    let mut remarks = [0u8; 4096];
+    let typing = w.typing;
+    let cut = typing.cut;
+    let l = writer::type_last(typing, line, &mut out, &mut remarks);
+    let typist = l.typist;
+    let moved = Typing {
+        typist: typist,
+        cut: cut,
+    };
+    let mut next = w;
+    next.typing = moved;
+    send(up_to(&out, l.written), up_to(&remarks, l.told), next)
+}
+
+// The end of the text: a close that waits is written, where all of it was read.
+fn end_text(w: Work) -> Work {
+    let mut out = [0u8; 28];
+    let mut remarks = [0u8; 4096];
+    let typing = w.typing;
+    let cut = typing.cut;
+    let typist = typing.typist;
+    let l = writer::type_end(typist, w.good, &mut out, &mut remarks);
+    let ended = l.typist;
+    let moved = Typing {
+        typist: ended,
+        cut: cut,
+    };
+    let mut next = w;
+    next.typing = moved;
+    send(up_to(&out, l.written), up_to(&remarks, l.told), next)
+}
+
+fn say_end(w: Work) {
+    let mut text = [0u8; 1024];
+    let typing = w.typing;
+    let t = typing.typist;
+    let n = writer::remarks::say_verdict(&mut text, t, w.good);
+    io::write_all(STDERR_FILENO, up_to(&text, n));
+    if os::arg_count() == 2 {
+        let status = [writer::remarks::status(t, w.good)];
+        io::write_all(STATUS_FILENO, &status);
+    }
+}
+
+// The kinds on a screen; the status is 0 where they were written.
+fn show_kinds() {
+    let mut text = [0u8; 4096];
+    let n = kinds_screen::say_screen(&mut text);
+    if io::write_all(STDOUT_FILENO, up_to(&text, n)) {
+        io::write_all(STATUS_FILENO, b"0");
+        return;
+    }
+    os::fail(b"standard output");
+    io::write_all(STATUS_FILENO, b"1");
+}
+
+fn type_book() {
+    let mut line = [0u8; 1027];
+    let typist = Typist::new(State::new());
+    let typing = Typing {
+        typist: typist,
+        cut: Cut::new(),
+    };
+    let last = run(
+        &mut line,
+        Work {
+            typing: typing,
+            taken: 0,
+            more: true,
+            good: true,
+        },
+    );
+    say_end(end_text(last_line(&line, last)));
+}
+
+// `writer status kinds` shows the kinds.
+fn main() {
+    if os::arg_count() == 3 {
+        show_kinds();
+    } else {
+        type_book();
+    }
+}
