@@ -83,3 +83,13 @@ pub fn next_record(a: Account, xs: &[u8], lines: &mut [u8]) -> Next
         written: line.given,
     }
 }
+
+// The same where nobody asks for its lines.
+pub fn next_alone(a: Account, xs: &[u8]) -> Next
+    requires { ⌜ AccountInRange a ⌝ }
+    ensures result { λ r. ⌜ r ≡ nextOf a (now (xs .entry)) ⌝ }
+    ensures inside { λ r. ⌜ (r .size ≤ length (now (xs .entry))) × AccountInRange (r .account) ⌝ }
+{
+    let mut lines = [0u8; LINES_MOST];
+    next_record(a, xs, &mut lines)
+}
