@@ -14,7 +14,7 @@ use Rattle.account.specs.declared.Account.{Account}
 use Rattle.account.specs.Judge.{judge}
 use Rattle.book.specs.declared.walk.Next.{Next}
 use Rattle.book.specs.Front.{Front, unfinished, badLength, whole, need, front}
-use Rattle.book.specs.WholeRecords.{beginsWith, recordsBy, recordsOf}
+use Rattle.book.specs.WholeRecords.{Ready, beginsWith, recordsBy, recordsOf}
 use Rattle.book.specs.Walk.{recordAt, linesOf, atFront, nextOf, linesNext, entryOf, entriesFrom, entriesAfter}
 use Rattle.book.proofs.Fronts.{meaning}
 use Rattle.book.proofs.WholeRecords.{records-whole}
@@ -115,3 +115,11 @@ module _ (a : Account) (xs : List ℕ) (t : Next) (e : t ≡ nextOf a xs) where
         let s = stands a xs t e n in
         ap (entriesFrom a) records-next
         ∙ entries-refused a (take (t .size) xs) (recordsOf (drop (t .size) xs)) (s .early) (rw (s .account) at refused)
+
+-- the same as front::ready has it
+pub next-ready : (a : Account) (xs : List ℕ) (t : Next) → t ≡ nextOf a xs → a .stage < 2 → Ready xs (t .size)
+next-ready a xs t e early =
+    record {
+      some = λ h. let s = stands a xs t e (λ z. omega arith) in (s .front, s .size);
+      none = λ z. none-whole a xs t e z early;
+    }
