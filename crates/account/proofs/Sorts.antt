@@ -1,6 +1,6 @@
 -- Laws of sorts and of kinds: what holds of each of the five sorts, and of each row of the table, holds of all.
 -- Assumes nothing.
-use Prim.Native.Nat.{ℕ}
+use Prim.Native.Nat.{ℕ, _≤_}
 use mathlib.Core.Path.{_≡_, refl, sym, _∙_}
 use mathlib.Core.Bool.{Bool, true, false, _||_}
 use native.Mathlib.Omega.{arith}
@@ -8,9 +8,10 @@ use borrow.Author.Tests.{eqb-true}
 use lib.Dec.{eqb}
 use Rattle.base.specs.Choice.{pick}
 use Rattle.base.proofs.Tests.{by-test, no-bool}
+use Rattle.codec.specs.Table.{lastKind}
 use Rattle.account.specs.declared.sort.Sort.{Sort}
 use Rattle.account.specs.declared.sort.Sort.the-variants.{Opens, Heads, OfGroup, OfFarm, Closes}
-use Rattle.account.specs.Sorts.{isFarm, sortOf, bySort}
+use Rattle.account.specs.Sorts.{isFarm, sortOf, bySort, isOfGroup}
 
 -- ---- sorts
 
@@ -78,3 +79,20 @@ not-of-group k e = go (isFarm k) (eqb k 2) (eqb k 3) (eqb k 4) (eqb k 5) (eqb k 
     go false false false false true h g e = let z : _≡_ {A = ℕ} 0 1 = cc in absurd (omega arith)
     go false false false false false true g e = let z : _≡_ {A = ℕ} 0 1 = cc in absurd (omega arith)
     go false false false false false false g e = (refl, (refl, (refl, refl)))
+
+-- the kinds of a group's details lie between the heading and the last kind
+pub group-kinds : (k : ℕ) → isOfGroup k ≡ true → (3 ≤ k) × (k ≤ lastKind)
+unfolding sortOf
+group-kinds k g = go (isFarm k) (eqb k 2) (eqb k 3) (eqb k 4) (eqb k 5) (eqb k 10) (eqb k 8) refl refl refl refl g
+  where
+    go : (a b c d f h i : Bool) → eqb k 3 ≡ c → eqb k 4 ≡ d → eqb k 5 ≡ f → eqb k 10 ≡ h
+        → bySort (pick a Opens (pick b Heads (pick (c || (d || (f || h))) OfGroup (pick i Closes OfFarm)))) false false true false false ≡ true
+        → (3 ≤ k) × (k ≤ lastKind)
+    go true b c d f h i p q r s g = no-bool g
+    go false true c d f h i p q r s g = no-bool g
+    go false false true d f h i p q r s g = let e = eqb-true k 3 p in (omega (arith, e), omega (arith, e))
+    go false false false true f h i p q r s g = let e = eqb-true k 4 q in (omega (arith, e), omega (arith, e))
+    go false false false false true h i p q r s g = let e = eqb-true k 5 r in (omega (arith, e), omega (arith, e))
+    go false false false false false true i p q r s g = let e = eqb-true k 10 s in (omega (arith, e), omega (arith, e))
+    go false false false false false false true p q r s g = no-bool g
+    go false false false false false false false p q r s g = no-bool g

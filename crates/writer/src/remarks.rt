@@ -11,7 +11,7 @@ use crate::lines::say_unread;
 use crate::unusual::say_unusual;
 use printing::say;
 use printing::say_number;
-use typed_line::Entry;
+use crate::typed_line::Entry;
 ghost use mathlib.Core.Path.{_≡_};
 ghost use mathlib.Core.Bool.{Bool};
 ghost use mathlib.Core.List.{[], _++_};

@@ -10,7 +10,7 @@ use names::usual::say_usual;
 use names::usual::usual_range;
 use printing::say;
 use printing::say_number;
-use typed_line::Entry;
+use crate::typed_line::Entry;
 ghost use mathlib.Core.Path.{_≡_};
 ghost use Prim.Native.Nat.{_≤_};
 ghost use lib.ListN.{length};
