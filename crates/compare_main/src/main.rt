@@ -210,7 +210,7 @@ fn answer(old: &[u8], new: &[u8]) -> bool {
 // The new book, where the old one was read.
 fn with_new(old: &[u8]) {
     let mut book = book_buffer();
-    let input = inputs::read_all(NEW_FILENO, b"the new book", &mut book);
+    let input = program::read_all(NEW_FILENO, b"the new book", &mut book);
     if !input.good {
         tell_status(false, false);
         return;
@@ -221,7 +221,7 @@ fn with_new(old: &[u8]) {
 
 fn main() {
     let mut book = book_buffer();
-    let input = inputs::read_all(STDIN_FILENO, b"the old book", &mut book);
+    let input = program::read_all(STDIN_FILENO, b"the old book", &mut book);
     if !input.good {
         tell_status(false, false);
         return;

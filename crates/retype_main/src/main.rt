@@ -1,11 +1,11 @@
 // Reads a book on standard input and prints it as typed lines, one for each accepted record. The last word goes to standard error.
 use book::State;
-use inputs::Input;
 use libc::STDERR_FILENO;
 use libc::STDIN_FILENO;
 use libc::STDOUT_FILENO;
 use names::hints::look;
 use names::hints::say_hint;
+use program::Input;
 ghost use mathlib.Core.Path.{_≡_};
 ghost use Prim.Native.Nat.{_≤_};
 ghost use lib.ListN.{length};
@@ -122,7 +122,7 @@ fn answer(book: &[u8], input: Input) {
 
 fn main() {
     let mut book = book_buffer();
-    let input = inputs::read_all(STDIN_FILENO, b"standard input", &mut book);
+    let input = program::read_all(STDIN_FILENO, b"standard input", &mut book);
     let n = input.len;
     answer(&book[..n], input);
 }

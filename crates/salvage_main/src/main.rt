@@ -156,7 +156,7 @@ fn answer(damaged: &[u8]) -> Done {
 
 fn main() {
     let mut damaged = damaged_buffer();
-    let input = inputs::read_all(STDIN_FILENO, b"standard input", &mut damaged);
+    let input = program::read_all(STDIN_FILENO, b"standard input", &mut damaged);
     if !input.good {
         tell_status(unsaved());
         return;

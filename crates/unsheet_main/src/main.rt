@@ -102,7 +102,7 @@ fn tell_status(done: Done) {
 
 fn main() {
     let mut sheet = sheet_buffer();
-    let input = inputs::read_all(STDIN_FILENO, b"standard input", &mut sheet);
+    let input = program::read_all(STDIN_FILENO, b"standard input", &mut sheet);
     if !input.good {
         tell_status(refused());
         return;

@@ -68,7 +68,7 @@ fn answer(book: &[u8]) {
 
 fn main() {
     let mut book = book_buffer();
-    let input = inputs::read_all(STDIN_FILENO, b"standard input", &mut book);
+    let input = program::read_all(STDIN_FILENO, b"standard input", &mut book);
     if !input.good {
         tell_status(false, false);
         return;

@@ -3,8 +3,8 @@ use Prim.Native.Nat.{_-_, _≤_}
 use mathlib.Core.Path.{_≡_}
 use borrow.Author.Needs.{needs}
 use lib.ListN.{length}
-use Rattle.inputs.proofs.read_all.Statement.{statement}
-use Rattle.inputs.proofs.read_all.Tie as tie
+use Rattle.program.proofs.read_all.Statement.{statement}
+use Rattle.program.proofs.read_all.Tie as tie
 
 abbrev Inv-loop : tie.InvT-loop
 Inv-loop fd name buf₀ n₀ buf n = (n ≤ length buf) × (length buf ≡ length buf₀)
@@ -18,13 +18,6 @@ read-all-spec =
     (tie.spec
     Inv-loop
     μ-loop
-    (λ c. search needs)
-    (λ c. search needs)
-    (λ c. search needs)
-    (λ c. search needs)
-    (λ c κs. search needs)
-    (λ c κs. search needs)
-    (λ c. search needs)
     (λ c. search needs)
     (λ c. search needs)
     (λ c. search needs)
