@@ -2,7 +2,7 @@
 use libc::STDERR_FILENO;
 use libc::STDOUT_FILENO;
 ghost use Prim.Native.Nat.{_-_, _≤_};
-ghost use lib.ListN.{length};
+ghost use Rattle.io.specs.Counts.{Counts};
 
 // Where a caller that gives an argument, the word `status`, wants the status byte.
 pub const STATUS_FILENO: i32 = 3;
@@ -32,7 +32,7 @@ impl Reading {
 
     // Reads once, a part of at most the buffer's length; a read that fails is reported by the input's name.
     pub fn next(self, fd: i32, name: &[u8], buf: &mut [u8]) -> Reading
-        ensures { λ r. ⌜ r .len ≤ length (now (buf .exit)) ⌝ }
+        ensures { λ r. ⌜ Counts (r .len) (now (buf .exit)) ⌝ }
         ensures { λ r. ⌜ r .turns ≤ self .turns - 1 ⌝ }
     {
         let input = read_once(fd, name, buf);
@@ -83,7 +83,7 @@ pub fn tell_status(status: u8) {
 
 // One read. A read that fails gives no byte.
 fn read_once(fd: i32, name: &[u8], buf: &mut [u8]) -> Input
-    ensures { λ r. ⌜ r .len ≤ length (now (buf .exit)) ⌝ }
+    ensures { λ r. ⌜ Counts (r .len) (now (buf .exit)) ⌝ }
 {
     let got = libc::read(fd, buf);
     if got < 0 {
@@ -102,7 +102,7 @@ fn read_once(fd: i32, name: &[u8], buf: &mut [u8]) -> Input
 // Reads up to the input's end, or until the buffer is full; a read that fails is reported by the input's name. A proved loop has to end:
 // each read takes a byte, or is the last.
 pub fn read_all(fd: i32, name: &[u8], buf: &mut [u8]) -> Input
-    ensures { λ r. ⌜ r .len ≤ length (now (buf .exit)) ⌝ }
+    ensures { λ r. ⌜ Counts (r .len) (now (buf .exit)) ⌝ }
 {
     let mut n = 0;
     while n < buf.len() {
