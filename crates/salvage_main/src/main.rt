@@ -5,12 +5,13 @@ use names::hints::say_hint;
 use program::report;
 use program::send;
 use salvage::Salvaged;
+use salvage::how_far::bytes_read;
 use salvage::remarks;
 ghost use mathlib.Core.Path.{_≡_};
 ghost use Prim.Native.Nat.{_≤_, _<_};
 ghost use lib.ListN.{length};
 
-// The most bytes of a damaged book: a full one has 114,688.
+// The most bytes that are read, kept or dropped: a full book has 114,688, so that at least 585 dropped records have room beside it.
 const MOST: usize = 131072;
 
 // The bytes of the list that are printed with one write: 256 entries.
@@ -22,11 +23,11 @@ struct Done {
     written: bool,
 }
 
-// A byte more than the most, by which a longer book is known.
-fn damaged_buffer() -> [u8; 131073]
-    ensures { λ r. ⌜ length r ≡ 131073 ⌝ }
+// A longest record more than the most: where the reading ends before it, what comes after all of this changes nothing (salvage, proofs/AfterEnd).
+fn damaged_buffer() -> [u8; 131100]
+    ensures { λ r. ⌜ length r ≡ 131100 ⌝ }
 {
-    [0u8; 131073]
+    [0u8; 131100]
 }
 
 // A clean book has at most 4,096 records of at most 28 bytes.
@@ -104,7 +105,7 @@ fn unsaved() -> Done {
 }
 
 fn save(damaged: &[u8]) -> Done {
-    if MOST < damaged.len() {
+    if MOST < bytes_read(damaged) {
         tell_too_long();
         return unsaved();
     }
