@@ -96,11 +96,12 @@ places() {
 build() {
     command -v rt >/dev/null || stop 1 "the program is to be built, and the Rattle kit's command rt is not there: see README.md"
     log=$root/target/log/bin-$name.txt
-    { mkdir -p "${log%/*}" && : >>"$root/target/lock" && : >>"$log"; } 2>/dev/null || stop 1 "the program is to be built, and $root/target can't be written"
+    { mkdir -p "${log%/*}" && true >>"$root/target/lock" && true >>"$log"; } 2>/dev/null || stop 1 "the program is to be built, and $root/target can't be written"
     exec 9>>"$root/target/lock"
     ! command -v flock >/dev/null || flock 9 # in a pipe two programs may want to be built
     if stale; then
         say "building, which takes some minutes the first time; each crate is reported when it is proved"
+        [ -x "$program" ] || rm -f "$root/target/stamp/${name}_main" # rt does not make again what it made and somebody removed
         touch "$root/target/lock"
         failed=$({ { (cd "$root" && rt check "${name}_main") </dev/null 2>&1 9>&- || echo failed >&3; } | tee "$log" | places "$(needed | wc -l)"; } 3>&1 >&2)
         [ -z "$failed" ] || { tail -n 20 "$log" >&2; stop 1 "the build failed: $log has all of it"; }
