@@ -1,5 +1,5 @@
 // .ci/largest.mjs FOLDER: the longest inputs that the programs take, and longer ones: books of 4,096 records with the most bytes and with the most
-// lines, damaged ones at the limit of 131,072 bytes, a sheet with the most rows. .ci/ports makes texts and lines of them by the second program.
+// lines, damaged ones at the limit of 131,072 bytes read, a sheet with the most rows. .ci/ports makes texts and lines of them by the second program.
 import { writeFileSync } from "node:fs";
 
 const MOST_RECORDS = 4096, MOST_DAMAGED = 131072, MOST_DAYS = 366;
@@ -57,7 +57,7 @@ const files = {
     "open.book": pigs(0).slice(0, -1),
     "dropped.book": dropped,
     "filled.book": filled(pigs(0).slice(0, -6), MOST_DAMAGED),
-    "too-long.book": filled(dropped, MOST_DAMAGED + 1),
+    "too-long.book": filled(dropped, MOST_DAMAGED + none.length),
     "rows.csv": Buffer.from(head + row.repeat(Math.floor((MOST_DAMAGED - head.length) / row.length))),
     "slips.txt": Buffer.from(Array.from({ length: 5000 }, (_, i) => `${slip(i)}\n`).join("")),
 };

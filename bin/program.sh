@@ -1,9 +1,9 @@
-# Sourced by the scripts of the programs. They set $here (this folder), $name, $sample, $about and $example (for --help), $bytes (yes where
-# the program writes a book's bytes), $heading (names of the columns, for a terminal), $usage and $count where more arguments are right, and $option
-# (a word: with --WORD the program is given it too and reads nothing). Runs the program on a file, on standard input (-) or, with no argument, on the
-# sample; builds it when it is not there or older than its source. --help says what the exit statuses mean.
+# shellcheck shell=sh disable=SC2154 # the script that sources this has set $here
+# Sourced first by the script of each program, which then sets what differs and calls `run "$@"`. It has set $here, this folder. It sets $name, $sample,
+# $about and $example (for --help); and where they are wanted $bytes (yes where the program writes a book's bytes), $heading (names of the columns, for a
+# terminal), $usage and $count where more arguments are right, and $option (a word: with --WORD the program is given it too and reads nothing).
+name='' sample='' about='' example='' bytes='' heading='' usage='' count='' option='' # none of them comes from the environment
 root=${here%/*}
-program=$root/target/bin/${name}_main
 
 # A standard descriptor that is closed is opened the wrong way round: the program's first read or write of it fails, and the program says so.
 { true 9<&0; } 2>/dev/null || exec 0>/dev/null
@@ -31,73 +31,115 @@ Example: $example
 END
 }
 
-# By git where this is a repository of it, else the word kept beside this file.
+# By git where this is a repository of it, else what bin/release wrote beside this file.
 version() {
     described=
     [ ! -e "$root/.git" ] || described=$(git -c safe.directory="$root" -C "$root" describe --tags --always --dirty 2>/dev/null) || described=
-    [ -n "$described" ] || described=$(cat "$here/version.txt")
+    [ -n "$described" ] || described=$(cat "$here/version.txt" 2>/dev/null) || described='of no release'
     printf 'farm book, bin/%s %s\n' "$name" "$described"
 }
 
-[ $# -le 1 ] || misused "${count:-one argument at most}"
-input=${1-$root/$sample} more=
-case $input in
-'') misused "the name of the file is empty" ;;
--h | --help) help; exit 0 ;;
---version) version; exit 0 ;;
-"--${option:-help}") more=$option input=/dev/null bytes='' heading='' ;; # a text, for a terminal too
-- | /dev/stdin) input=- ;;
--*) misused "there is no option $input" ;;
-*)
-    [ -e "$input" ] || stop 2 "there is no file $input"
-    [ ! -d "$input" ] || stop 2 "$input is a folder, not a file"
-    [ -r "$input" ] || stop 2 "the file $input can't be read"
-    ;;
-esac
-[ "${bytes:-}" != yes ] || [ ! -t 1 ] || stop 2 "a book's bytes are not for a terminal: write them to a file, as in $example"
+# named FILE: `-` for each name of standard input.
+named() {
+    case $1 in
+    /dev/stdin | /dev/fd/0 | /proc/self/fd/0) printf '%s' - ;;
+    *) printf '%s' "$1" ;;
+    esac
+}
 
-# Whether the program is not there, or older than the source of one of its crates.
+# readable FILE [WHAT]: a file that can be opened, or standard input.
+readable() {
+    case $1 in
+    '') misused "the name of ${2:-the file} is empty" ;;
+    -) return ;;
+    -*) misused "there is no option $1" ;;
+    esac
+    [ -e "$1" ] || stop 2 "there is no file $1"
+    [ ! -d "$1" ] || stop 2 "$1 is a folder, not a file"
+    [ -r "$1" ] || stop 2 "the file $1 can't be read"
+}
+
+# The crates of this repository that the program needs, itself the last: a crate's line of crates.txt names what it needs.
+needed() {
+    awk -v program="${name}_main" '
+        function mark(crate, list, n, i) {
+            if (crate in marked || !(crate in needs)) return # the kit has the others
+            marked[crate] = 1
+            n = split(needs[crate], list, " ")
+            for (i = 1; i <= n; i++) mark(list[i])
+            print crate
+        }
+        { sub(/#.*/, ""); if (split($0, part, ":") == 2) needs[part[1]] = part[2] }
+        END { mark(program) }
+    ' "$root/crates.txt"
+}
+
+# Whether the program is not there, or older than the source of a crate that it needs.
 stale() {
     [ -x "$program" ] || return 0
     [ -d "$root/crates" ] || return 1 # a copy without sources
-    folders=
-    for crate in $name $(sed -n "s/^$name://p" "$root/crates.txt"); do
-        [ ! -d "$root/crates/$crate" ] || folders="$folders $crate"
-    done
-    # shellcheck disable=SC2086
-    [ -n "$(cd "$root/crates" && find $folders -name '*.rt' -newer "$program")" ]
+    # shellcheck disable=SC2046 # names of crates
+    [ -n "$(cd "$root/crates" && find $(needed) -name '*.rt' -newer "$program")" ]
 }
 
+# places OF: of what rt prints, a line for each crate that it proves, with its place among so many.
+places() {
+    place=0
+    while IFS= read -r line; do
+        case $line in 'rt: '*' proved ('*')') ;; *) continue ;; esac
+        place=$((place + 1)) crate=${line#rt: } took=${line##*(}
+        case $took in *' s)') say "$place of $1: ${crate%% *} proved, ${took%)}" ;; esac # the others were proved before
+    done
+}
+
+# The program gets the time of before its build: a source that is edited during it is newer, and the program is built again.
 build() {
     command -v rt >/dev/null || stop 1 "the program is to be built, and the Rattle kit's command rt is not there: see README.md"
-    mkdir -p "$root/target"
-    exec 9>"$root/target/lock"
+    log=$root/target/log/bin-$name.txt
+    { mkdir -p "${log%/*}" && true >>"$root/target/lock" && true >>"$log"; } 2>/dev/null || stop 1 "the program is to be built, and $root/target can't be written"
+    exec 9>>"$root/target/lock"
     ! command -v flock >/dev/null || flock 9 # in a pipe two programs may want to be built
     if stale; then
-        say "building, which takes some minutes the first time; each crate is told when it is proved"
-        (cd "$root" && rt check "$name") </dev/null >&2 || stop 1 "the build failed"
-        touch "$program" # where nothing of it had changed it was not made anew
+        say "building, which takes some minutes the first time; each crate is reported when it is proved"
+        [ -x "$program" ] || rm -f "$root/target/stamp/${name}_main" # rt does not make again what it made and somebody removed
+        touch "$root/target/lock"
+        failed=$({ { (cd "$root" && rt check "${name}_main") </dev/null 2>&1 9>&- || echo failed >&3; } | tee "$log" | places "$(needed | wc -l)"; } 3>&1 >&2)
+        [ -z "$failed" ] || { tail -n 20 "$log" >&2; stop 1 "the build failed: $log has all of it"; }
+        touch -r "$root/target/lock" "$program"
     fi
     exec 9>&-
 }
-! stale || build
 
-# Programs are for x86-64: on another machine the kit's emulator runs them.
-set -- "$program"
-if [ "$(uname -m)" != x86_64 ]; then
-    command -v rt >/dev/null || stop 1 "on this machine the Rattle kit runs the program, and its command rt is not there: see README.md"
-    tools=$(dirname "$(dirname "$(rt doc)")")/on/$(uname -m)/toolchain
-    set -- "$tools/bin/qemu-x86_64" "$tools/lib/ld-linux-x86-64.so.2" --library-path "$tools/lib" "$program"
-fi
+# run "$@": runs the program on a file, on standard input (-) or, with no argument, on the sample; builds it where it is stale.
+run() {
+    program=$root/target/bin/${name}_main
+    [ $# -le 1 ] || misused "${count:-one argument at most}"
+    input=$(named "${1-$root/$sample}") more=
+    case $input in
+    -h | --help) help; exit 0 ;;
+    --version) version; exit 0 ;;
+    "--${option:-help}") more=$option input=/dev/null bytes='' heading='' ;; # a text, for a terminal too
+    *) readable "$input" ;;
+    esac
+    [ "$bytes" != yes ] || [ ! -t 1 ] || stop 2 "a book's bytes are not for a terminal: write them to a file, as in $example"
+    ! stale || build
 
-[ "$input" = - ] || exec <"$input"
-[ -z "${heading:-}" ] || [ ! -t 1 ] || printf '%s\n' "$heading" >&2 || :
+    # Programs are for x86-64: on another machine the kit's emulator runs them.
+    set -- "$program"
+    if [ "$(uname -m)" != x86_64 ]; then
+        command -v rt >/dev/null || stop 1 "on this machine the Rattle kit runs the program, and its command rt is not there: see README.md"
+        tools=$(dirname "$(dirname "$(rt doc)")")/on/$(uname -m)/toolchain
+        set -- "$tools/bin/qemu-x86_64" "$tools/lib/ld-linux-x86-64.so.2" --library-path "$tools/lib" "$program"
+    fi
+    [ "$input" = - ] || exec <"$input"
+    [ -z "$heading" ] || [ ! -t 1 ] || printf '%s\n' "$heading" >&2 || :
 
-# A program has no exit status: with the word `status` it writes, as its last act, 0 or 1 on descriptor 3. It is told of a closed pipe, and tells it.
-trap '' PIPE
-exec 4>&1
-status=$("$@" status ${more:+"$more"} 3>&1 >&4 4>&-) || status=
-case $status in
-0 | 1) exit "$status" ;;
-*) stop 1 "the program did not come to its end" ;;
-esac
+    # A program has no exit status: with the word `status` it writes, as its last act, 0 or 1 on descriptor 3. It is told of a closed pipe, and tells it.
+    trap '' PIPE
+    exec 4>&1
+    status=$("$@" status ${more:+"$more"} 3>&1 >&4 4>&-) || status=
+    case $status in
+    0 | 1) exit "$status" ;;
+    *) stop 1 "the program did not come to its end" ;;
+    esac
+}

@@ -10,17 +10,18 @@ use crate::words::sentence;
 /// The reading ends once so many records are kept, so that the close is the last of 4,096.
 const MOST_KEPT: u16 = 4_095;
 
-/// The longest damaged book that the program takes.
+/// The most bytes that the program reads before the reading ends: what stands after its end does not count.
 pub const LONGEST: usize = 131_072;
 
 /// A record that was dropped: its number in the damaged book, from 0, and the code.
 type Dropped = (u64, u8);
 
-/// The kept records, which are all that the state has read, and the dropped ones.
+/// The kept records, which are all that the state has read, the dropped ones, and the bytes of both.
 pub struct Found {
     kept: Vec<u8>,
     state: State,
     dropped: Vec<Dropped>,
+    read: usize,
 }
 
 /// What becomes of one record.
@@ -55,14 +56,14 @@ fn fate(state: &State, heading_dropped: bool, record: &[u8]) -> Fate {
 
 /// Reads the damaged book up to where its reading ends.
 pub fn find(damaged: &[u8]) -> Found {
-    let mut found = Found { kept: Vec::new(), state: State::default(), dropped: Vec::new() };
+    let mut found =
+        Found { kept: Vec::new(), state: State::default(), dropped: Vec::new(), read: 0 };
     let mut heading_dropped = false;
-    let mut rest = damaged;
     for number in 0.. {
         if found.state.records >= MOST_KEPT {
             break;
         }
-        let Some(record) = first_record(rest) else { break };
+        let Some(record) = first_record(&damaged[found.read..]) else { break };
         let dropped = match fate(&found.state, heading_dropped, record) {
             Fate::End => break,
             Fate::Dropped(code) => {
@@ -78,7 +79,7 @@ pub fn find(damaged: &[u8]) -> Found {
         if record[3] == kind::HEADING {
             heading_dropped = dropped;
         }
-        rest = &rest[record.len()..];
+        found.read += record.len();
     }
     found
 }
@@ -150,10 +151,10 @@ pub fn tell(damaged: &[u8]) -> Told {
 }
 
 fn saved_from(damaged: &[u8]) -> Told {
-    if damaged.len() > LONGEST {
+    let found = find(damaged);
+    if found.read > LONGEST {
         return unsaved("the damaged book is longer than 131072 bytes: nothing is written\n");
     }
-    let found = find(damaged);
     if found.has_no_farm() {
         return unsaved("refused 19\n");
     }

@@ -2,36 +2,23 @@
 // go to standard error.
 use compare::Plan;
 use compare::remarks;
-use libc::STDERR_FILENO;
 use libc::STDIN_FILENO;
-use libc::STDOUT_FILENO;
 use names::hints::look;
+use program::send;
 ghost use mathlib.Core.Path.{_≡_};
 ghost use Prim.Native.Nat.{_≤_, _<_};
 ghost use lib.ListN.{length};
 
-// Where a caller that gives an argument, the word `status`, wants the status byte.
-const STATUS_FILENO: i32 = 3;
-
 const NEW_FILENO: i32 = 5;
 
-// The records that are told with one write.
+// The records that are printed with one write.
 const PART: usize = 64;
 
-// The 4,096 records that a book may have and one more, of 28 bytes each: what stands behind them changes no answer.
+// The 4,096 records that a book may have and one more, of 28 bytes each: what stands after them changes no answer.
 fn book_buffer() -> [u8; 114716]
     ensures { λ r. ⌜ length r ≡ 114716 ⌝ }
 {
     [0u8; 114716]
-}
-
-// Where the text can't go out it is told.
-fn send(text: &[u8]) -> bool {
-    if io::write_all(STDOUT_FILENO, text) {
-        return true;
-    }
-    os::fail(b"standard output");
-    false
 }
 
 fn tell_book(new: bool) -> bool {
@@ -168,7 +155,7 @@ fn tell_rest(old: &[u8], new: &[u8], p: Plan) -> bool {
     tell_last(p)
 }
 
-// What differs, behind what becomes of either book.
+// What differs, after what becomes of either book.
 fn tell(old: &[u8], new: &[u8]) -> bool {
     if !tell_verdict(false, old) {
         return false;
@@ -190,14 +177,11 @@ fn tell(old: &[u8], new: &[u8]) -> bool {
 fn tell_hint(new: bool, book: &[u8]) {
     let mut text = [0u8; 128];
     let n = remarks::say_hint(&mut text, new, look(book));
-    io::write_all(STDERR_FILENO, &text[..n]);
+    program::report(&text[..n]);
 }
 
 fn tell_status(read: bool, written: bool) {
-    if os::arg_count() == 2 {
-        let status = remarks::status(read, written);
-        io::write_all(STATUS_FILENO, &[status]);
-    }
+    program::tell_status(remarks::status(read, written));
 }
 
 fn answer(old: &[u8], new: &[u8]) -> bool {
@@ -210,7 +194,7 @@ fn answer(old: &[u8], new: &[u8]) -> bool {
 // The new book, where the old one was read.
 fn with_new(old: &[u8]) {
     let mut book = book_buffer();
-    let input = inputs::read_all(NEW_FILENO, b"the new book", &mut book);
+    let input = program::read_all(NEW_FILENO, b"the new book", &mut book);
     if !input.good {
         tell_status(false, false);
         return;
@@ -221,7 +205,7 @@ fn with_new(old: &[u8]) {
 
 fn main() {
     let mut book = book_buffer();
-    let input = inputs::read_all(STDIN_FILENO, b"the old book", &mut book);
+    let input = program::read_all(STDIN_FILENO, b"the old book", &mut book);
     if !input.good {
         tell_status(false, false);
         return;

@@ -146,7 +146,7 @@ fn begin(first: &[u8], read: bool, text: &mut [u8]) -> Work {
 fn main() {
     let mut text = io::large_buffer();
     let mut first = [0u8; FIRST];
-    let input = inputs::read_all(STDIN_FILENO, b"standard input", &mut first);
+    let input = program::read_all(STDIN_FILENO, b"standard input", &mut first);
     let n = input.len;
     let begun = begin(&first[..n], input.good, &mut text);
     let last = run(begun, &mut text);

@@ -1,19 +1,16 @@
 // Reads a book on standard input and prints it as typed lines, one for each accepted record. The last word goes to standard error.
 use book::State;
-use inputs::Input;
-use libc::STDERR_FILENO;
 use libc::STDIN_FILENO;
-use libc::STDOUT_FILENO;
 use names::hints::look;
 use names::hints::say_hint;
+use program::Input;
+use program::report;
+use program::send;
 ghost use mathlib.Core.Path.{_≡_};
 ghost use Prim.Native.Nat.{_≤_};
 ghost use lib.ListN.{length};
 
-// Where a caller that gives an argument, the word `status`, wants the status byte.
-const STATUS_FILENO: i32 = 3;
-
-// The state behind the records that were typed, the bytes taken, whether no write failed, and whether more may come.
+// The state after the records that were typed, the bytes taken, whether no write failed, and whether more may come.
 struct Work {
     state: State,
     at: usize,
@@ -21,20 +18,11 @@ struct Work {
     more: bool,
 }
 
-// A book has at most 4,096 records of at most 28 bytes: what stands behind so many bytes is behind its end.
+// A book has at most 4,096 records of at most 28 bytes: what stands after so many bytes is after its end.
 fn book_buffer() -> [u8; 131072]
     ensures { λ r. ⌜ length r ≡ 131072 ⌝ }
 {
     [0u8; 131072]
-}
-
-// Where the text can't go out it is told.
-fn send(text: &[u8]) -> bool {
-    if io::write_all(STDOUT_FILENO, text) {
-        return true;
-    }
-    os::fail(b"standard output");
-    false
 }
 
 // The lines of some records, with one write.
@@ -88,7 +76,7 @@ fn end(w: Work, input: Input, book: &[u8]) {
     let mut text = [0u8; 512];
     let state = w.state;
     let n = retype::say_end(&mut text, state.account, w.at < input.len);
-    io::write_all(STDERR_FILENO, &text[..n]);
+    report(&text[..n]);
     tell_hint(book);
 }
 
@@ -96,15 +84,12 @@ fn end(w: Work, input: Input, book: &[u8]) {
 fn tell_hint(book: &[u8]) {
     let mut text = [0u8; 128];
     let n = say_hint(&mut text, 0, look(book));
-    io::write_all(STDERR_FILENO, &text[..n]);
+    report(&text[..n]);
 }
 
 fn tell_status(w: Work, input: Input) {
-    if os::arg_count() == 2 {
-        let state = w.state;
-        let status = retype::status(state.account, w.at < input.len, input.good, w.written);
-        io::write_all(STATUS_FILENO, &[status]);
-    }
+    let state = w.state;
+    program::tell_status(retype::status(state.account, w.at < input.len, input.good, w.written));
 }
 
 fn answer(book: &[u8], input: Input) {
@@ -122,7 +107,7 @@ fn answer(book: &[u8], input: Input) {
 
 fn main() {
     let mut book = book_buffer();
-    let input = inputs::read_all(STDIN_FILENO, b"standard input", &mut book);
+    let input = program::read_all(STDIN_FILENO, b"standard input", &mut book);
     let n = input.len;
     answer(&book[..n], input);
 }

@@ -2,6 +2,7 @@ pub mod KindRows
 pub mod Fates
 pub mod OneTurn
 pub mod OnePass
+pub mod AfterEnd
 pub mod Closes
 pub mod Answers
 pub mod RemarkTexts

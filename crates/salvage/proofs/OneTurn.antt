@@ -98,6 +98,7 @@ turned-ended s xs o e =
       inside = omega arith;
       most = omega arith;
       ended = λ z. e;
+      first-of = λ h. absurd (omega arith);
       goes = λ h. absurd (omega arith);
       opened = o;
       number = λ h. absurd (omega arith);
@@ -128,6 +129,7 @@ module _ (s : Reading) (xs : List ℕ) (n : ℕ) (o : Open s) (y : Ready xs n) w
         inside = omega (arith, is-n, w .1, m .3);
         most = omega (arith, is-n, w .1, m .2);
         ended = λ z. absurd (omega arith);
+        first-of = λ z. rw (is-n, w .1) (records-whole xs (w .0));
         goes = λ z. rw (is-n, is-code, is-next, records-whole xs (w .0), ← w .1) (found-goes s (take n xs) (recordsOf (drop n xs)) e);
         opened = rw is-next (open-after s (take n xs) e o);
         number = λ z. rw is-next refl;

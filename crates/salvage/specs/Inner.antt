@@ -9,6 +9,7 @@ use Rattle.base.specs.Choice.{pick}
 use Rattle.codec.specs.Codec.{recordBytes}
 use Rattle.account.specs.Range.{AccountInRange}
 use Rattle.account.specs.Line.{joined}
+use Rattle.book.specs.WholeRecords.{recordsOf}
 use Rattle.salvage.specs.declared.Reading.{Reading}
 use Rattle.salvage.specs.declared.turns.Turn.{Turn}
 use Rattle.salvage.specs.declared.passes.Sizes.{Sizes}
@@ -24,6 +25,7 @@ pub record Turned (s : Reading) (xs : List ℕ) (t : Turn) : Type 0 where
   pub inside : t .n ≤ length xs
   pub most : t .n ≤ 28
   pub ended : t .n ≡ 0 → foundIn s xs ≡ nothing
+  pub first-of : 0 < t .n → recordsOf xs ≡ take (t .n) xs ∷ recordsOf (drop (t .n) xs)
   pub goes : 0 < t .n → foundIn s xs ≡ with (t .code) (s .number) (take (t .n) xs) (foundIn (t .next) (drop (t .n) xs))
   pub opened : Open (t .next)
   pub number : 0 < t .n → t .next .number ≡ s .number + 1

@@ -1,4 +1,5 @@
 pub mod Salvage
 pub mod Promised
+pub mod HowFar
 pub mod Remarks
 pub mod Inner

@@ -1,4 +1,5 @@
 // A damaged book saved: a clean book of the records that are kept, and a list of those that are dropped.
+pub mod how_far; // how_far.rt: the bytes that are read
 pub mod remarks; // remarks.rt: what a person is told
 mod moves;
 mod passes;

@@ -1,22 +1,20 @@
-// Reads a damaged book on standard input and writes a clean one on standard output. What was dropped is told on standard error.
-use libc::STDERR_FILENO;
+// Reads a damaged book on standard input and writes a clean one on standard output. What was dropped is reported on standard error.
 use libc::STDIN_FILENO;
-use libc::STDOUT_FILENO;
 use names::hints::look;
 use names::hints::say_hint;
+use program::report;
+use program::send;
 use salvage::Salvaged;
+use salvage::how_far::bytes_read;
 use salvage::remarks;
 ghost use mathlib.Core.Path.{_≡_};
 ghost use Prim.Native.Nat.{_≤_, _<_};
 ghost use lib.ListN.{length};
 
-// Where a caller that gives an argument, the word `status`, wants the status byte.
-const STATUS_FILENO: i32 = 3;
-
-// The most bytes of a damaged book: a full one has 114,688.
+// The most bytes that are read, kept or dropped: a full book has 114,688, so that at least 585 dropped records have room beside it.
 const MOST: usize = 131072;
 
-// The bytes of the list that are told with one write: 256 entries.
+// The bytes of the list that are printed with one write: 256 entries.
 const PART: usize = 2304;
 
 // Whether a book was saved, and whether all was read and written.
@@ -25,11 +23,11 @@ struct Done {
     written: bool,
 }
 
-// A byte more than the most, by which a longer book is known.
-fn damaged_buffer() -> [u8; 131073]
-    ensures { λ r. ⌜ length r ≡ 131073 ⌝ }
+// A longest record more than the most: where the reading ends before it, what comes after all of this changes nothing (salvage, proofs/AfterEnd).
+fn damaged_buffer() -> [u8; 131100]
+    ensures { λ r. ⌜ length r ≡ 131100 ⌝ }
 {
-    [0u8; 131073]
+    [0u8; 131100]
 }
 
 // A clean book has at most 4,096 records of at most 28 bytes.
@@ -46,15 +44,6 @@ fn list_buffer() -> [u8; 196608]
     [0u8; 196608]
 }
 
-// Where the book can't go out it is told.
-fn send(book: &[u8]) -> bool {
-    if io::write_all(STDOUT_FILENO, book) {
-        return true;
-    }
-    os::fail(b"standard output");
-    false
-}
-
 // Where the next part of the list ends.
 fn part_end(i: usize, n: usize) -> usize
     requires { ⌜ i < n ⌝ }
@@ -67,7 +56,7 @@ fn part_end(i: usize, n: usize) -> usize
 fn tell_part(part: &[u8]) {
     let mut text = io::large_buffer();
     let n = remarks::say_list(&mut text, part);
-    io::write_all(STDERR_FILENO, &text[..n]);
+    report(&text[..n]);
 }
 
 fn tell_list(list: &[u8]) {
@@ -83,16 +72,16 @@ fn tell_list(list: &[u8]) {
 fn tell_end(answer: Salvaged, book: &[u8]) {
     let mut text = [0u8; 512];
     let n = remarks::say_end(&mut text, answer, book);
-    io::write_all(STDERR_FILENO, &text[..n]);
+    report(&text[..n]);
 }
 
 fn tell_too_long() {
     let mut text = [0u8; 512];
     let n = remarks::say_too_long(&mut text);
-    io::write_all(STDERR_FILENO, &text[..n]);
+    report(&text[..n]);
 }
 
-// Where the clean book can't go out, nothing more is told.
+// Where the clean book can't go out, nothing more is printed.
 fn give(answer: Salvaged, book: &[u8], list: &[u8]) -> Done {
     if !send(book) {
         return Done {
@@ -116,7 +105,7 @@ fn unsaved() -> Done {
 }
 
 fn save(damaged: &[u8]) -> Done {
-    if MOST < damaged.len() {
+    if MOST < bytes_read(damaged) {
         tell_too_long();
         return unsaved();
     }
@@ -136,14 +125,11 @@ fn save(damaged: &[u8]) -> Done {
 fn tell_hint(damaged: &[u8]) {
     let mut text = [0u8; 128];
     let n = say_hint(&mut text, 0, look(damaged));
-    io::write_all(STDERR_FILENO, &text[..n]);
+    report(&text[..n]);
 }
 
 fn tell_status(done: Done) {
-    if os::arg_count() == 2 {
-        let status = remarks::status(done.saved, done.written);
-        io::write_all(STATUS_FILENO, &[status]);
-    }
+    program::tell_status(remarks::status(done.saved, done.written));
 }
 
 fn answer(damaged: &[u8]) -> Done {
@@ -156,7 +142,7 @@ fn answer(damaged: &[u8]) -> Done {
 
 fn main() {
     let mut damaged = damaged_buffer();
-    let input = inputs::read_all(STDIN_FILENO, b"standard input", &mut damaged);
+    let input = program::read_all(STDIN_FILENO, b"standard input", &mut damaged);
     if !input.good {
         tell_status(unsaved());
         return;

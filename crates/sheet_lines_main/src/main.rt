@@ -1,14 +1,11 @@
 // Reads line records on standard input and writes their sheet on standard output: for machines that keep lines. The last word goes to standard error.
-use libc::STDERR_FILENO;
 use libc::STDIN_FILENO;
-use libc::STDOUT_FILENO;
+use program::report;
+use program::send;
 use sheet::Answer;
 use sheet::remarks;
 ghost use mathlib.Core.Path.{_≡_};
 ghost use lib.ListN.{length};
-
-// Where a caller that gives an argument, the word `status`, wants the status byte.
-const STATUS_FILENO: i32 = 3;
 
 // The most bytes of line records.
 const MOST: usize = 131072;
@@ -33,29 +30,20 @@ fn sheet_buffer() -> [u8; 344064]
     [0u8; 344064]
 }
 
-// Where the sheet can't go out it is told.
-fn send(sheet: &[u8]) -> bool {
-    if io::write_all(STDOUT_FILENO, sheet) {
-        return true;
-    }
-    os::fail(b"standard output");
-    false
-}
-
 // A sentence where it is refused, and the last word.
 fn tell_end(text: &[u8], answer: Answer) {
     let mut said = [0u8; 512];
     let n = remarks::say_end(&mut said, text, answer);
-    io::write_all(STDERR_FILENO, &said[..n]);
+    report(&said[..n]);
 }
 
 fn tell_too_long() {
     let mut said = [0u8; 128];
     let n = remarks::say_lines_too_long(&mut said);
-    io::write_all(STDERR_FILENO, &said[..n]);
+    report(&said[..n]);
 }
 
-// Where the sheet can't go out, nothing more is told.
+// Where the sheet can't go out, nothing more is printed.
 fn give(answer: Answer, sheet: &[u8]) -> Done {
     if !send(sheet) {
         return Done {
@@ -94,15 +82,12 @@ fn write_sheet(lines: &[u8]) -> Done {
 }
 
 fn tell_status(done: Done) {
-    if os::arg_count() == 2 {
-        let status = remarks::status(done.accepted, done.written);
-        io::write_all(STATUS_FILENO, &[status]);
-    }
+    program::tell_status(remarks::status(done.accepted, done.written));
 }
 
 fn main() {
     let mut lines = lines_buffer();
-    let input = inputs::read_all(STDIN_FILENO, b"standard input", &mut lines);
+    let input = program::read_all(STDIN_FILENO, b"standard input", &mut lines);
     if !input.good {
         tell_status(refused());
         return;

@@ -148,7 +148,7 @@ fn tell_status(w: Work) {
 fn main() {
     let mut text = io::large_buffer();
     let mut first = [0u8; FIRST];
-    let input = inputs::read_all(STDIN_FILENO, b"standard input", &mut first);
+    let input = program::read_all(STDIN_FILENO, b"standard input", &mut first);
     let n = input.len;
     let begun = begin(&first[..n], input.good, &mut text);
     let done = run(begun, &mut text);

@@ -1,23 +1,18 @@
 // Reads `GE Ym head days CHANGE X` lines on standard input and prints the what-if slip of each; standard error has what is not read or refused.
-use libc::STDERR_FILENO;
 use libc::STDIN_FILENO;
-use libc::STDOUT_FILENO;
+use program::Reading;
 use text_lines::Cut;
 use whatif::Counts;
 ghost use Prim.Native.Nat.{_≤_};
 ghost use lib.ListN.{length};
 
-// Where a caller that gives an argument, the word `status`, wants the status byte.
-const STATUS_FILENO: i32 = 3;
-
-// The line being read, the counts, whether no read and no write has failed, and whether more may come.
+// The line being read, the counts, whether no read failed, and whether slips and remarks went out.
 struct Work {
     cut: Cut,
     counts: Counts,
     read: bool,
     written: bool,
-    told: bool,
-    more: bool,
+    reported: bool,
 }
 
 struct Stepped {
@@ -27,18 +22,15 @@ struct Stepped {
 
 // Where slips can't go out nothing more is tried.
 fn send(text: &[u8], mut w: Work) -> Work {
-    if io::write_all(STDOUT_FILENO, text) {
-        return w;
+    if !program::send(text) {
+        w.written = false;
     }
-    os::fail(b"standard output");
-    w.written = false;
-    w.more = false;
     w
 }
 
-fn tell(text: &[u8], mut w: Work) -> Work {
-    if !io::write_all(STDERR_FILENO, text) {
-        w.told = false;
+fn report(text: &[u8], mut w: Work) -> Work {
+    if !program::report(text) {
+        w.reported = false;
     }
     w
 }
@@ -53,7 +45,7 @@ fn remark(typed: &[u8], w: Work) -> Work {
     let mut out = [0u8; 256];
     let cut = w.cut;
     let n = whatif::say_remark(&mut out, cut.number, typed);
-    tell(&out[..n], w)
+    report(&out[..n], w)
 }
 
 fn count(typed: &[u8], mut w: Work) -> Work {
@@ -118,37 +110,24 @@ fn take_part(line: &mut [u8], part: &[u8], from: Work) -> Work {
     w
 }
 
-// Reads once. At the end of the input, or where a read or a write fails, there is no more.
-fn turn(line: &mut [u8], mut w: Work) -> Work {
-    let mut part = io::buffer();
-    let got = libc::read(STDIN_FILENO, &mut part);
-    if got < 0 {
-        os::fail(b"standard input");
-        w.read = false;
-    }
-    if got <= 0 {
-        w.more = false;
-        return w;
-    }
-    let n = io::count(got, &part);
-    take_part(line, &part[..n], w)
-}
-
-// Nothing says that the input ends: the turns count down from a number that no run uses up.
+// Part after part, up to the input's end or to a read or a write that fails.
 fn run(line: &mut [u8], from: Work) -> Work {
     let mut w = from;
-    let mut turns = u64::MAX;
-    while turns > 0 {
-        if !w.more {
+    let mut part = io::buffer();
+    let mut input = Reading::new();
+    while 0 < input.turns {
+        input = input.next(STDIN_FILENO, b"standard input", &mut part);
+        let n = input.len;
+        w = take_part(line, &part[..n], w);
+        if !w.written {
             return w;
         }
-        turns -= 1;
-        w = turn(line, w);
     }
+    w.read = input.good;
     w
 }
 
-// The line behind the last line feed. Where a read failed it may have been cut, so it is not read.
+// The line after the last line feed. Where a read failed it may have been cut, so it is not read.
 fn finish(line: &[u8], w: Work) -> Work {
     if w.read & w.written {
         return end_line(line, w);
@@ -156,17 +135,14 @@ fn finish(line: &[u8], w: Work) -> Work {
     w
 }
 
-fn tell_counts(w: Work) -> Work {
+fn report_counts(w: Work) -> Work {
     let mut out = [0u8; 128];
     let n = whatif::say_counts(&mut out, w.counts);
-    tell(&out[..n], w)
+    report(&out[..n], w)
 }
 
 fn tell_status(w: Work) {
-    if os::arg_count() == 2 {
-        let status = whatif::status(w.counts, w.read & w.written & w.told);
-        io::write_all(STATUS_FILENO, &[status]);
-    }
+    program::tell_status(whatif::status(w.counts, w.read & w.written & w.reported));
 }
 
 fn main() {
@@ -180,14 +156,13 @@ fn main() {
         },
         read: true,
         written: true,
-        told: true,
-        more: true,
+        reported: true,
     };
-    let headed = tell(
+    let headed = report(
         b"estimate only, put in no book: answer, GE, Ym, head, days, kg CH4, kg before, difference\n",
         start,
     );
     let last = run(&mut line, headed);
     let done = finish(&line, last);
-    tell_status(tell_counts(done));
+    tell_status(report_counts(done));
 }

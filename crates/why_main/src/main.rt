@@ -1,8 +1,6 @@
 // Reads a book on standard input and says why it is refused, if it is: a line for machines and a line for people, on standard output. A hint goes to
 // standard error.
-use libc::STDERR_FILENO;
 use libc::STDIN_FILENO;
-use libc::STDOUT_FILENO;
 use names::hints::look;
 use names::hints::say_hint;
 use why::Verdict;
@@ -10,10 +8,7 @@ use why::remarks;
 ghost use mathlib.Core.Path.{_≡_};
 ghost use lib.ListN.{length};
 
-// Where a caller that gives an argument, the word `status`, wants the status byte.
-const STATUS_FILENO: i32 = 3;
-
-// The 4,096 records that a book may have and one more, of 28 bytes each: what stands behind them changes no answer.
+// The 4,096 records that a book may have and one more, of 28 bytes each: what stands after them changes no answer.
 fn book_buffer() -> [u8; 114716]
     ensures { λ r. ⌜ length r ≡ 114716 ⌝ }
 {
@@ -23,40 +18,32 @@ fn book_buffer() -> [u8; 114716]
 fn tell_first(v: Verdict) -> bool {
     let mut text = [0u8; 512];
     let n = remarks::say_first(&mut text, v);
-    io::write_all(STDOUT_FILENO, &text[..n])
+    program::send(&text[..n])
 }
 
 fn tell_second(v: Verdict) -> bool {
     let mut text = [0u8; 512];
     let n = remarks::say_second(&mut text, v);
-    io::write_all(STDOUT_FILENO, &text[..n])
+    program::send(&text[..n])
 }
 
-// Both lines; where they can't go out it is told.
+// Both lines.
 fn tell(v: Verdict) -> bool {
     if !tell_first(v) {
-        os::fail(b"standard output");
         return false;
     }
-    if !tell_second(v) {
-        os::fail(b"standard output");
-        return false;
-    }
-    true
+    tell_second(v)
 }
 
 // A hint where the input is no book but a typed text, a sheet or nothing.
 fn tell_hint(input: &[u8]) {
     let mut text = [0u8; 128];
     let n = say_hint(&mut text, 0, look(input));
-    io::write_all(STDERR_FILENO, &text[..n]);
+    program::report(&text[..n]);
 }
 
 fn tell_status(accepted: bool, written: bool) {
-    if os::arg_count() == 2 {
-        let status = remarks::status(accepted, written);
-        io::write_all(STATUS_FILENO, &[status]);
-    }
+    program::tell_status(remarks::status(accepted, written));
 }
 
 fn answer(book: &[u8]) {
@@ -68,7 +55,7 @@ fn answer(book: &[u8]) {
 
 fn main() {
     let mut book = book_buffer();
-    let input = inputs::read_all(STDIN_FILENO, b"standard input", &mut book);
+    let input = program::read_all(STDIN_FILENO, b"standard input", &mut book);
     if !input.good {
         tell_status(false, false);
         return;

@@ -1,9 +1,9 @@
-// Reads a typed book on standard input and writes its bytes on standard output; what is said goes to standard error. With two arguments it shows
+// Reads a typed book on standard input and writes its bytes on standard output; what is reported goes to standard error. With two arguments it shows
 // the kinds on standard output and reads nothing.
 use book::State;
-use libc::STDERR_FILENO;
 use libc::STDIN_FILENO;
-use libc::STDOUT_FILENO;
+use program::Reading;
+use program::report;
 use text_lines::Cut;
 use writer::Typing;
 use writer::Typist;
@@ -11,23 +11,11 @@ ghost use Prim.Native.Nat.{_≤_};
 ghost use mathlib.Core.Path.{_≡_};
 ghost use lib.ListN.{length};
 
-// Where a caller that gives an argument, the word `status`, wants the status byte.
-const STATUS_FILENO: i32 = 3;
-
-// The typist and the line being read, how many bytes the last call took, whether more may come, and whether all was read and written.
+// The typist and the line being read, how many bytes the last call took, and whether all was read and written.
 struct Work {
     typing: Typing,
     taken: usize,
-    more: bool,
     good: bool,
-}
-
-fn stopped(mut w: Work, good: bool) -> Work
-    ensures { λ r. ⌜ r .taken ≡ w .taken ⌝ }
-{
-    w.more = false;
-    w.good = good;
-    w
 }
 
 fn up_to(s: &[u8], n: usize) -> &[u8] {
@@ -38,15 +26,14 @@ fn up_to(s: &[u8], n: usize) -> &[u8] {
 }
 
 // Where the bytes can't go out the book would lack a record: nothing more is tried.
-fn send(record: &[u8], remark: &[u8], w: Work) -> Work
+fn send(record: &[u8], remark: &[u8], mut w: Work) -> Work
     ensures { λ r. ⌜ r .taken ≡ w .taken ⌝ }
 {
-    io::write_all(STDERR_FILENO, remark);
-    if io::write_all(STDOUT_FILENO, record) {
-        return w;
+    report(remark);
+    if !program::send(record) {
+        w.good = false;
     }
-    os::fail(b"standard output");
-    stopped(w, false)
+    w
 }
 
 // Up to the end of a line, or of what is left of the part.
@@ -73,7 +60,7 @@ fn take_part(line: &mut [u8], part: &[u8], from: Work) -> Work {
         calls -= 1;
         w = take_line(line, &part[i..], w);
         i += w.taken;
-        if !w.more {
+        if !w.good {
             return w;
         }
         if i == part.len() {
@@ -83,32 +70,20 @@ fn take_part(line: &mut [u8], part: &[u8], from: Work) -> Work {
     w
 }
 
-// Reads once. At the end of the input, or where a read fails, there is no more.
-fn turn(line: &mut [u8], w: Work) -> Work {
-    let mut part = io::buffer();
-    let got = libc::read(STDIN_FILENO, &mut part);
-    if got < 0 {
-        os::fail(b"standard input");
-        return stopped(w, false);
-    }
-    if got == 0 {
-        return stopped(w, true);
-    }
-    let n = io::count(got, &part);
-    take_part(line, &part[..n], w)
-}
-
-// A proved loop has to end, and nothing says that the input does: the turns count down from a number that no run uses up.
+// Part after part, up to the input's end or to a read or a write that fails.
 fn run(line: &mut [u8], from: Work) -> Work {
     let mut w = from;
-    let mut turns = u64::MAX;
-    while turns > 0 {
-        if !w.more {
+    let mut part = io::buffer();
+    let mut input = Reading::new();
+    while 0 < input.turns {
+        input = input.next(STDIN_FILENO, b"standard input", &mut part);
+        let n = input.len;
+        w = take_part(line, &part[..n], w);
+        if !w.good {
             return w;
         }
-        turns -= 1;
-        w = turn(line, w);
     }
+    w.good = input.good;
     w
 }
 
@@ -155,23 +130,19 @@ fn say_end(w: Work) {
     let typing = w.typing;
     let t = typing.typist;
     let n = writer::remarks::say_verdict(&mut text, t, w.good);
-    io::write_all(STDERR_FILENO, up_to(&text, n));
-    if os::arg_count() == 2 {
-        let status = [writer::remarks::status(t, w.good)];
-        io::write_all(STATUS_FILENO, &status);
-    }
+    report(up_to(&text, n));
+    program::tell_status(writer::remarks::status(t, w.good));
 }
 
 // The kinds on a screen; the status is 0 where they were written.
 fn show_kinds() {
     let mut text = [0u8; 4096];
     let n = kinds_screen::say_screen(&mut text);
-    if io::write_all(STDOUT_FILENO, up_to(&text, n)) {
-        io::write_all(STATUS_FILENO, b"0");
-        return;
+    if program::send(up_to(&text, n)) {
+        program::tell_status(b'0');
+    } else {
+        program::tell_status(b'1');
     }
-    os::fail(b"standard output");
-    io::write_all(STATUS_FILENO, b"1");
 }
 
 fn type_book() {
@@ -186,7 +157,6 @@ fn type_book() {
         Work {
             typing: typing,
             taken: 0,
-            more: true,
             good: true,
         },
     );

@@ -132,11 +132,31 @@ fn no_farm_record_is_19() {
     }
 }
 
+/// A farm record and dropped ones, so many bytes.
+fn dropping(bytes: usize) -> Vec<u8> {
+    let unknown = |size: usize| [vec![0, size as u8 - 2, 1, 99], vec![0; size - 4]].concat();
+    let mut book = farm();
+    while book.len() + 12 <= bytes {
+        book.extend(unknown(6));
+    }
+    let last = bytes - book.len();
+    [book, unknown(last)].concat()
+}
+
 #[test]
 fn the_longest_book() {
-    let fills = |bytes: usize| [farm(), vec![0; bytes - farm().len()]].concat();
-    assert!(tell(&fills(LONGEST)).saved);
-    assert!(!tell(&fills(LONGEST + 1)).saved);
+    assert!(tell(&dropping(LONGEST)).saved);
+    assert!(!tell(&dropping(LONGEST + 1)).saved);
+}
+
+#[test]
+fn what_stands_after_the_end_does_not_count() {
+    let after = vec![0; 300_000];
+    for book in [dropping(LONGEST), sample(), [farm(), vec![0; 2]].concat()] {
+        let (alone, followed) = (tell(&book), tell(&[&book[..], &after[..]].concat()));
+        assert!(alone.saved);
+        assert_eq!((alone.book, alone.said), (followed.book, followed.said));
+    }
 }
 
 #[test]

@@ -6,10 +6,10 @@ use Rattle.whatif_main.proofs.run.Statement.{statement}
 use Rattle.whatif_main.proofs.run.Tie as tie
 
 abbrev Inv-loop : tie.InvT-loop
-Inv-loop line₀ w₀ turns₀ line w turns = length line ≡ length line₀
+Inv-loop line₀ w₀ part₀ input₀ name line w part input = (length line ≡ length line₀) × (4096 ≡ length part)
 
 abbrev μ-loop : tie.MeasureT-loop
-μ-loop line₀ w₀ turns₀ line w turns = turns
+μ-loop line₀ w₀ part₀ input₀ name line w part input = input .turns
 
 pub run-spec : {M : Type 1} → statement M
 run-spec =
@@ -17,11 +17,17 @@ run-spec =
     (tie.spec
     Inv-loop
     μ-loop
-    (λ c. search needs)
+    (λ c κs. search needs)
+    (λ c κs. search needs)
     (λ c. search needs)
     (λ c. search needs)
     (λ c. search needs)
     (λ c κs. search needs)
+    (λ c. search needs)
+    (λ c. search needs)
+    (λ c κs. search needs)
+    (λ c. search needs)
+    (λ c. search needs)
     (λ c. search needs)
     (λ c. search needs)
     (λ c. search needs)

@@ -1,4 +1,4 @@
--- The steps lie one behind the other in the part. Assumes nothing.
+-- The steps lie one after the other in the part. Assumes nothing.
 use Prim.Native.Nat.{_+_, _-_, _≤_}
 use mathlib.Core.Path.{_≡_}
 use native.Mathlib.Omega.{arith}

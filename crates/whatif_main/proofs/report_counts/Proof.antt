@@ -2,11 +2,11 @@
 use mathlib.Core.Path.{sym}
 use lib.Seq.{length-take-le}
 use borrow.Author.Needs.{needs}
-use Rattle.whatif_main.proofs.tell_counts.Statement.{statement}
-use Rattle.whatif_main.proofs.tell_counts.Tie as tie
+use Rattle.whatif_main.proofs.report_counts.Statement.{statement}
+use Rattle.whatif_main.proofs.report_counts.Tie as tie
 
-pub tell-counts-spec : {M : Type 1} → statement M
-tell-counts-spec =
+pub report-counts-spec : {M : Type 1} → statement M
+report-counts-spec =
     tie.close
     (tie.spec
     (λ c. search needs)
