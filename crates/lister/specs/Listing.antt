@@ -21,6 +21,10 @@ use Rattle.book.specs.Call.{Call, call}
 use Rattle.book.specs.Way.{Part, way}
 use Rattle.lister.specs.declared.Listed.{Listed}
 
+-- a text line per line record, as the lister prints them
+abbrev pub linesText : List ℕ → List ℕ
+linesText xs = rowsText Listing xs
+
 -- the words of the last line
 abbrev pub closedWord : List ℕ
 closedWord = ascii "closed\n"
