@@ -8,6 +8,7 @@ use account::Account;
 use base::first_of;
 use base::rest_of;
 use codec::numbers::be8;
+use line_rows::Form;
 use names::hints;
 use names::hints::Given;
 use names::say_kind;
@@ -69,7 +70,7 @@ fn say_lines(out: &mut [u8], at: usize, a: Account, r: &[u8]) -> usize
     ensures { λ w. ⌜ Said (now (out .entry)) (now (out .exit)) at (linesText (linesOf a (now (r .entry)))) w ⌝ }
 {
     let mut text = [0u8; 512];
-    let listed = lister::list(idle(a), r, &mut text);
+    let listed = lister::list(Form::Listing, idle(a), r, &mut text);
     say(out, at, first_of(&text, listed.written))
 }
 
