@@ -1,4 +1,5 @@
 // A line's bytes from its figures, and its numbers from its bytes: the fields are those of specs/Lines.antt.
+use codec::kinds::CLOSE;
 use codec::numbers::be8;
 use codec::numbers::be16;
 use codec::numbers::be64;
@@ -29,6 +30,9 @@ pub const LINE_NUMBERS: usize = 2 + FIGURES;
 
 pub const TOTAL_NUMBERS: usize = LINE_NUMBERS + 1;
 
+// The kind of a group's subtotal, a line that no record has the kind of.
+pub const SUBTOTAL: u8 = 16;
+
 // Figures, one after the other.
 fn put_figures(out: &mut [u8], at: usize, f: &[u64])
     requires { ⌜ at + 8 * length (now f) ≤ length (now out) ⌝ }
@@ -58,7 +62,7 @@ pub fn put_total(out: &mut [u8], at: usize, f: [u64; FIGURES], co2e: u64)
     requires { ⌜ at + totalSize ≤ length (now out) ⌝ }
     ensures { λ _. ⌜ now (out .exit) ≡ sets (now (out .entry)) at (totalBytes f co2e) ⌝ }
 {
-    put_start(out, at, (TOTAL_SIZE - 2) as u64, 8);
+    put_start(out, at, (TOTAL_SIZE - 2) as u64, CLOSE);
     put2(out, at + 4, 0);
     put_figures(out, at + 6, &f);
     put8(out, at + LINE_SIZE, co2e);
@@ -106,7 +110,11 @@ pub fn front_size(s: &[u8]) -> usize
     requires { ⌜ lineSize ≤ length (now s) ⌝ }
     ensures { λ n. ⌜ n ≡ frontSize (now (s .entry)) ⌝ }
 {
-    if s[3] == 8 { TOTAL_SIZE } else { LINE_SIZE }
+    if s[3] == CLOSE as u8 {
+        TOTAL_SIZE
+    } else {
+        LINE_SIZE
+    }
 }
 
 // The bytes of a line of a kind.

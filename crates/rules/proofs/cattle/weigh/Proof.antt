@@ -143,6 +143,7 @@ weigh-spec =
     (λ c κs. tt)
     (λ c. search needs)
     (λ c κs. tt)
+    (λ c. search needs)
     grouped-detail-requires
     returns-5
     returns-6)

@@ -51,5 +51,6 @@ weigh-spec =
     (λ c. search needs)
     (λ c κs. energy-in _ (passed c .ranges))
     (λ c κs. tt)
+    (λ c. search needs)
     detailed-requires
     returns-2)

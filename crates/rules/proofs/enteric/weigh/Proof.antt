@@ -82,5 +82,6 @@ weigh-spec =
     (λ c. search needs)
     enteric-requires
     (λ c κs. tt)
+    (λ c. search needs)
     grouped-detail-requires
     returns-3)

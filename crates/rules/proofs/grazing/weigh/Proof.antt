@@ -83,5 +83,6 @@ weigh-spec =
     grazing-requires
     (λ c κs. tt)
     (λ c. search needs)
+    (λ c. search needs)
     grouped-detail-requires
     returns-3)

@@ -98,5 +98,6 @@ weigh-spec =
     (λ c. search needs)
     manure-requires
     (λ c κs. tt)
+    (λ c. search needs)
     grouped-detail-requires
     returns-4)

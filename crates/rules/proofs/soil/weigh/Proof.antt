@@ -50,5 +50,6 @@ weigh-spec =
     (λ c. search needs)
     (λ c κs. soil-in _ (passed c .ranges))
     (λ c κs. tt)
+    (λ c. search needs)
     detailed-requires
     returns-2)

@@ -54,5 +54,6 @@ weigh-spec =
     (λ c. search needs)
     (λ c κs. tillage-in _ (passed c .ranges))
     (λ c κs. tt)
+    (λ c. search needs)
     detailed-requires
     returns-2)
