@@ -1,5 +1,5 @@
 // Reads a book on standard input and prints it as typed lines, one for each accepted record. The last word goes to standard error.
-use book::State;
+use account::Account;
 use inputs::Input;
 use libc::STDERR_FILENO;
 use libc::STDIN_FILENO;
@@ -7,21 +7,20 @@ use libc::STDOUT_FILENO;
 use names::hints::look;
 use names::hints::say_hint;
 ghost use mathlib.Core.Path.{_≡_};
-ghost use Prim.Native.Nat.{_≤_};
 ghost use lib.ListN.{length};
 
 // Where a caller that gives an argument, the word `status`, wants the status byte.
 const STATUS_FILENO: i32 = 3;
 
-// The state behind the records that were typed, the bytes taken, whether no write failed, and whether more may come.
+// The account after the records that were typed, the bytes taken, whether no write failed, and whether more may come.
 struct Work {
-    state: State,
+    account: Account,
     at: usize,
     written: bool,
     more: bool,
 }
 
-// A book has at most 4,096 records of at most 28 bytes: what stands behind so many bytes is behind its end.
+// A book has at most 4,096 records of at most 28 bytes: what stands after so many bytes is after its end.
 fn book_buffer() -> [u8; 131072]
     ensures { λ r. ⌜ length r ≡ 131072 ⌝ }
 {
@@ -38,20 +37,17 @@ fn send(text: &[u8]) -> bool {
 }
 
 // The lines of some records, with one write.
-fn turn(mut w: Work, book: &[u8], text: &mut [u8]) -> Work
-    requires { ⌜ 65536 ≤ length (now text) ⌝ }
-    ensures { λ r. ⌜ 65536 ≤ length (now (text .exit)) ⌝ }
-{
+fn turn(mut w: Work, book: &[u8], text: &mut [u8]) -> Work {
     let at = w.at;
     if book.len() < at {
         w.more = false;
         return w;
     }
-    let state = w.state;
-    let r = retype::retype(state, &book[at..], text);
-    let next = r.state;
+    let account = w.account;
+    let r = retype::retype(account, &book[at..], text);
+    let next = r.account;
     let n = r.written;
-    w.state = next;
+    w.account = next;
     w.at = at + r.taken;
     w.more = r.more;
     if !send(&text[..n]) {
@@ -62,9 +58,7 @@ fn turn(mut w: Work, book: &[u8], text: &mut [u8]) -> Work
 }
 
 // Each turn takes a record, so that there are fewer of them than bytes.
-fn run(from: Work, book: &[u8], text: &mut [u8]) -> Work
-    requires { ⌜ 65536 ≤ length (now text) ⌝ }
-{
+fn run(from: Work, book: &[u8], text: &mut [u8]) -> Work {
     let mut w = from;
     let mut turns: usize = 131072;
     while turns > 0 {
@@ -86,8 +80,7 @@ fn end(w: Work, input: Input, book: &[u8]) {
         return;
     }
     let mut text = [0u8; 512];
-    let state = w.state;
-    let n = retype::say_end(&mut text, state.account, w.at < input.len);
+    let n = retype::say_end(&mut text, w.account, w.at < input.len);
     io::write_all(STDERR_FILENO, &text[..n]);
     tell_hint(book);
 }
@@ -101,8 +94,7 @@ fn tell_hint(book: &[u8]) {
 
 fn tell_status(w: Work, input: Input) {
     if os::arg_count() == 2 {
-        let state = w.state;
-        let status = retype::status(state.account, w.at < input.len, input.good, w.written);
+        let status = retype::status(w.account, w.at < input.len, input.good, w.written);
         io::write_all(STATUS_FILENO, &[status]);
     }
 }
@@ -110,7 +102,7 @@ fn tell_status(w: Work, input: Input) {
 fn answer(book: &[u8], input: Input) {
     let mut text = io::large_buffer();
     let start = Work {
-        state: State::new(),
+        account: Account::new(),
         at: 0,
         written: true,
         more: true,
