@@ -13,7 +13,7 @@ use Rattle.grams.specs.Cattle.{belowZero}
 use Rattle.account.specs.declared.Account.{Account}
 use Rattle.account.specs.declared.Subtotal.{Subtotal}
 use Rattle.account.specs.declared.Used.{Used}
-use Rattle.account.specs.Sorts.{isFarm, sortOf, bySort}
+use Rattle.account.specs.Sorts.{isFarm, sortOf, bySort, isOfGroup}
 use Rattle.account.specs.Figures.{grouped, cattleRation, figuresOf}
 use Rattle.account.specs.Account.{refused, opened, underHeading, withDetail, closed, farmOf, usedAfter}
 use Rattle.account.specs.Line.{lineOf, subtotals, totalOf}
@@ -41,11 +41,9 @@ valuesOf r = valuesAt (fields (kindOf r)) r 4
 
 -- ---- the refusals
 
--- kinds 3, 4 and 10 need a cattle heading (classes 1 to 3), kind 5 a pig heading (class 4)
+-- of the group's details a pig record (5) needs a pig heading (class 4), the others (3, 4 and 10) a cattle heading (classes 1 to 3)
 abbrev pub headingServes : ℕ → ℕ → Bool
-headingServes class k =
-    pick (eqb k 3 || (eqb k 4 || eqb k 10)) (leb 1 class && leb class 3)
-    (pick (eqb k 5) (eqb class 4) true)
+headingServes class k = pick (isOfGroup k) (pick (eqb k 5) (eqb class 4) (leb 1 class && leb class 3)) true
 
 -- the first record is kind 1 and no other is
 unfoldable pub inPlace : Account → ℕ → Bool

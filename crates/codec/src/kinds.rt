@@ -5,6 +5,30 @@ ghost use Prim.Native.Nat.{_+_, _<_, _≤_};
 ghost use lib.ListN.{length};
 ghost use Rattle.codec.specs.Table.{fields, fieldAt, rowOf, rowVersion, rowKind, lastRow, lengthOf};
 
+// The kinds by name: each is a kind byte and, in version 1, its row.
+pub const FARM: u64 = 1;
+
+pub const HEADING: u64 = 2;
+
+pub const ENTERIC: u64 = 3;
+
+pub const CATTLE: u64 = 4;
+
+pub const PIG: u64 = 5;
+
+pub const ENERGY: u64 = 6;
+
+pub const SOIL: u64 = 7;
+
+pub const CLOSE: u64 = 8;
+
+pub const TILLAGE: u64 = 9;
+
+pub const GRAZING: u64 = 10;
+
+// The row of the farm record of version 2.
+pub const FARM_FACTORS: u64 = LAST_ROW;
+
 // How many values a record of each row has; there is no row 0.
 const VALUES: [usize; 12] = [0, 3, 3, 3, 9, 12, 3, 1, 1, 5, 4, 4];
 

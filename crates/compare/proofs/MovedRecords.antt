@@ -14,7 +14,7 @@ use Rattle.base.specs.Choice.{pick}
 use Rattle.codec.specs.Table.{rowOf, lastRow}
 use Rattle.base.proofs.Tests.{by-test, of-choice, not-true, not-false, and-l, and-r}
 use Rattle.account.specs.declared.Account.{Account}
-use Rattle.account.specs.Sorts.{ofGroup, ofFarm, sortOf, bySort}
+use Rattle.account.specs.Sorts.{OfGroup, OfFarm, sortOf, bySort}
 use Rattle.book.specs.Front.{whole, need, front}
 use Rattle.book.specs.WholeRecords.{Ready, recordsOf}
 use Rattle.book.proofs.WholeRecords.{records-whole}
@@ -124,7 +124,7 @@ detail-kind k =
     (λ q8. by-test (eqb k lastRow) (λ q. rw (eqb-true k lastRow q) refl)
     (λ q11. rw (q1, q2, q8, q11) (go (eqb k 3 || (eqb k 4 || (eqb k 5 || eqb k 10))))))))
   where
-    go : (b : Bool) → true ≡ bySort (pick b ofGroup ofFarm) false false true true false
+    go : (b : Bool) → true ≡ bySort (pick b OfGroup OfFarm) false false true true false
     go true = refl
     go false = refl
 

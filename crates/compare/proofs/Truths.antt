@@ -15,7 +15,7 @@ use Rattle.base.specs.Choice.{pick}
 use Rattle.base.proofs.Tests.{lt-or-ge}
 use Rattle.account.specs.declared.Account.{Account}
 use Rattle.account.specs.declared.Heading.{Heading}
-use Rattle.account.specs.Sorts.{ofGroup, sortOf}
+use Rattle.account.specs.Sorts.{OfGroup, sortOf}
 use Rattle.account.specs.Line.{joined, lineOf}
 use Rattle.account.specs.Range.{AccountInRange}
 use Rattle.account.specs.Account.{noRecord}
@@ -324,7 +324,7 @@ own-line xs pre post x q d =
 -- both: it is never told as one that gives other lines. By same-line.
 pub unchanged-unlisted : (old new : List ℕ) (pre post pre′ post′ : List Entry) (e n : Entry)
     → entriesOf old ≡ pre ++ (e ∷ post) → entriesOf new ≡ pre′ ++ (n ∷ post′) → e .bytes ≡ n .bytes → isDetail (e .bytes) ≡ true
-    → (sortOf (kindOf (e .bytes)) ≡ ofGroup → headingBefore (recordsIn pre) ≡ headingBefore (recordsIn pre′))
+    → (sortOf (kindOf (e .bytes)) ≡ OfGroup → headingBefore (recordsIn pre) ≡ headingBefore (recordsIn pre′))
     → (e .lines ≡ n .lines) × ((b : Bool) (number : ℕ) → otherText (same (e .lines) (n .lines)) b number (e .bytes) (e .lines) ≡ [])
 unchanged-unlisted old new pre post pre′ post′ e n p q r d h =
     let a = accepts-entry old pre post e p in

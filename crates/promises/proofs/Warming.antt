@@ -16,7 +16,7 @@ use Rattle.codec.proofs.Round.{record-length, record-back}
 use Rattle.grams.specs.Farm.{setFactors}
 use Rattle.grams.specs.declared.farm.Factors.{Factors}
 use Rattle.account.specs.declared.Account.{Account}
-use Rattle.account.specs.Sorts.{isFarm, opens, heads, ofGroup, ofFarm, closes, sortOf}
+use Rattle.account.specs.Sorts.{isFarm, Opens, Heads, OfGroup, OfFarm, Closes, sortOf}
 use Rattle.account.specs.Account.{opened, refused, noRecord, farmOf, factorsOf}
 use Rattle.account.specs.Judge.{WholeRecord, versionOf, kindByte, kindOf, valuesOf, refusals, first, inPlace, Step}
 use Rattle.account.specs.Judge.{accepted, weigh, judge}
@@ -32,11 +32,11 @@ use Rattle.promises.proofs.SameLine.{book-record}
 
 -- ---- the factors stay
 
-opens-farm : (k : ℕ) → sortOf k ≡ opens → isFarm k ≡ true
+opens-farm : (k : ℕ) → sortOf k ≡ Opens → isFarm k ≡ true
 unfolding sortOf
 opens-farm k e = go (isFarm k) (eqb k 2) (eqb k 3 || (eqb k 4 || (eqb k 5 || eqb k 10))) (eqb k 8) e
   where
-    go : (a b c d : Bool) → pick a opens (pick b heads (pick c ofGroup (pick d closes ofFarm))) ≡ opens → a ≡ true
+    go : (a b c d : Bool) → pick a Opens (pick b Heads (pick c OfGroup (pick d Closes OfFarm))) ≡ Opens → a ≡ true
     go true b c d e = refl
     go false true c d e = let z : _≡_ {A = ℕ} 0 1 = cc in absurd (omega arith)
     go false false true d e = let z : _≡_ {A = ℕ} 0 1 = cc in absurd (omega arith)

@@ -15,7 +15,7 @@ use Rattle.codec.specs.Table.{lengthOf}
 use Rattle.codec.specs.Codec.{valAt}
 use Rattle.account.specs.declared.Account.{Account}
 use Rattle.account.specs.Range.{AccountInRange}
-use Rattle.account.specs.Sorts.{opens, heads, ofGroup, ofFarm, closes, isFarm, sortOf}
+use Rattle.account.specs.Sorts.{Opens, Heads, OfGroup, OfFarm, Closes, isFarm, sortOf}
 use Rattle.account.specs.Account.{closed}
 use Rattle.account.specs.Judge.{versionOf, kindByte, kindOf, valuesOf, headingServes, inPlace, first, refusals, Step, accepted, judge}
 use Rattle.account.proofs.Sorts.{by-sort}
@@ -35,11 +35,11 @@ pub record Grown (a : Account) (k : ℕ) (j : Step) : Type 0 where
   pub early : (k ≡ 8 → ⊥) → a .stage < 2 → j .account .stage < 2
 
 -- only kind 8 closes
-closes-eight : (k : ℕ) → sortOf k ≡ closes → k ≡ 8
+closes-eight : (k : ℕ) → sortOf k ≡ Closes → k ≡ 8
 unfolding sortOf
 closes-eight k e = go (isFarm k) (eqb k 2) (eqb k 3 || (eqb k 4 || (eqb k 5 || eqb k 10))) (eqb k 8) refl e
   where
-    go : (a b c d : Bool) → eqb k 8 ≡ d → pick a opens (pick b heads (pick c ofGroup (pick d closes ofFarm))) ≡ closes → k ≡ 8
+    go : (a b c d : Bool) → eqb k 8 ≡ d → pick a Opens (pick b Heads (pick c OfGroup (pick d Closes OfFarm))) ≡ Closes → k ≡ 8
     go true b c d q e = let z : _≡_ {A = ℕ} 0 1 = cc in absurd (omega arith)
     go false true c d q e = let z : _≡_ {A = ℕ} 0 1 = cc in absurd (omega arith)
     go false false true d q e = let z : _≡_ {A = ℕ} 0 1 = cc in absurd (omega arith)

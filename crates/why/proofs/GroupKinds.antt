@@ -7,7 +7,7 @@ use borrow.Author.Tests.{eqb-true, eqb-false, ne-eqb}
 use lib.Dec.{eqb}
 use Rattle.base.specs.Choice.{pick}
 use Rattle.base.proofs.Tests.{by-test}
-use Rattle.account.specs.Sorts.{isFarm, opens, heads, ofGroup, ofFarm, closes, sortOf, bySort}
+use Rattle.account.specs.Sorts.{isFarm, Opens, Heads, OfGroup, OfFarm, Closes, sortOf, bySort}
 use Rattle.why.specs.Remarks.{ofGroupKind}
 
 abbrev Same : ℕ → Type 0
@@ -18,7 +18,7 @@ at n k p q = by-test (eqb k n) (λ e. rw (eqb-true k n e) p) (λ e. q (eqb-false
 
 -- no other sort is a group's
 others : (farm two eight : Bool)
-    → false ≡ bySort (pick farm opens (pick two heads (pick false ofGroup (pick eight closes ofFarm)))) false false true false false
+    → false ≡ bySort (pick farm Opens (pick two Heads (pick false OfGroup (pick eight Closes OfFarm)))) false false true false false
 others true two eight = refl
 others false true eight = refl
 others false false true = refl

@@ -15,7 +15,7 @@ use Rattle.base.proofs.Tests.{and-l, and-r, of-choice, by-test}
 use Rattle.codec.specs.Table.{table, fields, recordMost}
 use Rattle.account.specs.declared.Account.{Account}
 use Rattle.account.specs.Judge.{Step, inPlace, accepted, weigh}
-use Rattle.account.specs.Sorts.{isFarm, Sort, opens, heads, ofGroup, ofFarm, closes, sortOf}
+use Rattle.account.specs.Sorts.{isFarm, Sort, Opens, Heads, OfGroup, OfFarm, Closes, sortOf}
 use Rattle.account.proofs.Sorts.{by-sort}
 use Rattle.account.proofs.Refusals.{passed, weighed-none, weighed-passes}
 use Rattle.book.specs.declared.State.{State}
@@ -43,11 +43,11 @@ use Rattle.writer.proofs.InParts.{whole-in-parts, bytes-typed, typist-t
 
 -- ---- a record that is written
 
-closes-eight : (k : ℕ) → sortOf k ≡ closes → k ≡ 8
+closes-eight : (k : ℕ) → sortOf k ≡ Closes → k ≡ 8
 unfolding sortOf
 closes-eight k e = go (isFarm k) (eqb k 2) (eqb k 3 || (eqb k 4 || (eqb k 5 || eqb k 10))) (eqb k 8) refl e
   where
-    go : (a b c d : Bool) → eqb k 8 ≡ d → pick a opens (pick b heads (pick c ofGroup (pick d closes ofFarm))) ≡ closes → k ≡ 8
+    go : (a b c d : Bool) → eqb k 8 ≡ d → pick a Opens (pick b Heads (pick c OfGroup (pick d Closes OfFarm))) ≡ Closes → k ≡ 8
     go true b c d q e = let z : _≡_ {A = ℕ} 0 1 = cc in absurd (omega arith)
     go false true c d q e = let z : _≡_ {A = ℕ} 0 1 = cc in absurd (omega arith)
     go false false true d q e = let z : _≡_ {A = ℕ} 0 1 = cc in absurd (omega arith)
