@@ -22,7 +22,8 @@ use Rattle.grams.specs.Grazing.{pastureTable, pastureFactor, grazingOf}
 use Rattle.grams.specs.declared.units.Co2.{Co2}
 use Rattle.account.specs.declared.Figures.{Figures}
 use Rattle.account.specs.declared.Heading.{Heading}
-use Rattle.account.specs.Sorts.{OfFarm, sortOf}
+use Rattle.account.specs.declared.sort.Sort.the-variants.{OfFarm}
+use Rattle.account.specs.Sorts.{sortOf}
 use Rattle.account.specs.Figures.{co2Alone, figuresOf}
 use Rattle.account.specs.Judge.{partsWrong}
 use Rattle.account.specs.Told.{Small}

@@ -22,7 +22,8 @@ use Rattle.account.specs.declared.Figures.{Figures}
 use Rattle.account.specs.declared.Heading.{Heading}
 use Rattle.account.specs.declared.Subtotal.{Subtotal}
 use Rattle.account.specs.declared.Used.{Used}
-use Rattle.account.specs.Sorts.{isFarm, Heads, OfGroup, OfFarm, sortOf}
+use Rattle.account.specs.declared.sort.Sort.the-variants.{Heads, OfGroup, OfFarm}
+use Rattle.account.specs.Sorts.{isFarm, sortOf}
 use Rattle.account.specs.Figures.{figuresOf, grouped, groupFigures}
 use Rattle.account.specs.Line.{joined, lineWith, lineOf, subtotals, totalOf}
 use Rattle.account.specs.Range.{FarmIn, UsedMost, Under, AccountInRange}

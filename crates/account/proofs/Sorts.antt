@@ -8,7 +8,9 @@ use borrow.Author.Tests.{eqb-true}
 use lib.Dec.{eqb}
 use Rattle.base.specs.Choice.{pick}
 use Rattle.base.proofs.Tests.{by-test, no-bool}
-use Rattle.account.specs.Sorts.{isFarm, Sort, Opens, Heads, OfGroup, OfFarm, Closes, sortOf, bySort}
+use Rattle.account.specs.declared.sort.Sort.{Sort}
+use Rattle.account.specs.declared.sort.Sort.the-variants.{Opens, Heads, OfGroup, OfFarm, Closes}
+use Rattle.account.specs.Sorts.{isFarm, sortOf, bySort}
 
 -- ---- sorts
 

@@ -14,7 +14,8 @@ use Rattle.base.specs.Choice.{pick}
 use Rattle.codec.specs.Table.{rowOf, lastRow}
 use Rattle.base.proofs.Tests.{by-test, of-choice, not-true, not-false, and-l, and-r}
 use Rattle.account.specs.declared.Account.{Account}
-use Rattle.account.specs.Sorts.{OfGroup, OfFarm, sortOf, bySort}
+use Rattle.account.specs.declared.sort.Sort.the-variants.{OfGroup, OfFarm}
+use Rattle.account.specs.Sorts.{sortOf, bySort}
 use Rattle.book.specs.Front.{whole, need, front}
 use Rattle.book.specs.WholeRecords.{Ready, recordsOf}
 use Rattle.book.proofs.WholeRecords.{records-whole}

@@ -15,7 +15,8 @@ use Rattle.base.specs.Choice.{pick}
 use Rattle.base.proofs.Tests.{lt-or-ge}
 use Rattle.account.specs.declared.Account.{Account}
 use Rattle.account.specs.declared.Heading.{Heading}
-use Rattle.account.specs.Sorts.{OfGroup, sortOf}
+use Rattle.account.specs.declared.sort.Sort.the-variants.{OfGroup}
+use Rattle.account.specs.Sorts.{sortOf}
 use Rattle.account.specs.Line.{joined, lineOf}
 use Rattle.account.specs.Range.{AccountInRange}
 use Rattle.account.specs.Account.{noRecord}

@@ -17,7 +17,8 @@ use Rattle.codec.specs.Table.{table, isRow}
 use Rattle.codec.specs.Codec.{valAt, be, valuesAt, bytesOf}
 use Rattle.line_bytes.specs.Lines.{lineFields, totalFields, lineBytes, totalBytes}
 use Rattle.account.specs.declared.Account.{Account}
-use Rattle.account.specs.Sorts.{Heads, OfGroup, sortOf}
+use Rattle.account.specs.declared.sort.Sort.the-variants.{Heads, OfGroup}
+use Rattle.account.specs.Sorts.{sortOf}
 use Rattle.account.specs.Line.{lineWith, subtotals, totalOf}
 use Rattle.account.specs.Figures.{groupFigures}
 use Rattle.account.specs.Range.{AccountInRange}

@@ -16,7 +16,8 @@ use Rattle.codec.proofs.Round.{record-length, record-back}
 use Rattle.grams.specs.Farm.{setFactors}
 use Rattle.grams.specs.declared.farm.Factors.{Factors}
 use Rattle.account.specs.declared.Account.{Account}
-use Rattle.account.specs.Sorts.{isFarm, Opens, Heads, OfGroup, OfFarm, Closes, sortOf}
+use Rattle.account.specs.declared.sort.Sort.the-variants.{Opens, Heads, OfGroup, OfFarm, Closes}
+use Rattle.account.specs.Sorts.{isFarm, sortOf}
 use Rattle.account.specs.Account.{opened, refused, noRecord, farmOf, factorsOf}
 use Rattle.account.specs.Judge.{WholeRecord, versionOf, kindByte, kindOf, valuesOf, refusals, first, inPlace, Step}
 use Rattle.account.specs.Judge.{accepted, weigh, judge}

@@ -11,7 +11,9 @@ use lib.Dec.{eqb}
 use Rattle.base.proofs.Tests.{and-l, and-r, lt-or-ge, no-bool, not-true, of-choice}
 use Rattle.account.specs.declared.Account.{Account}
 use Rattle.account.specs.declared.Heading.{Heading}
-use Rattle.account.specs.Sorts.{Sort, Opens, Heads, OfGroup, OfFarm, Closes, sortOf, bySort}
+use Rattle.account.specs.declared.sort.Sort.{Sort}
+use Rattle.account.specs.declared.sort.Sort.the-variants.{Opens, Heads, OfGroup, OfFarm, Closes}
+use Rattle.account.specs.Sorts.{sortOf, bySort}
 use Rattle.account.specs.Line.{lineOf}
 use Rattle.account.specs.Range.{AccountInRange}
 use Rattle.account.specs.Judge.{WholeRecord, kindOf, valuesOf, first, refusals, Step, accepted, judge}

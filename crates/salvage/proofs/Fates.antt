@@ -15,7 +15,8 @@ use Rattle.codec.specs.Table.{lengthOf}
 use Rattle.codec.specs.Codec.{valAt}
 use Rattle.account.specs.declared.Account.{Account}
 use Rattle.account.specs.Range.{AccountInRange}
-use Rattle.account.specs.Sorts.{Opens, Heads, OfGroup, OfFarm, Closes, isFarm, sortOf}
+use Rattle.account.specs.declared.sort.Sort.the-variants.{Opens, Heads, OfGroup, OfFarm, Closes}
+use Rattle.account.specs.Sorts.{isFarm, sortOf}
 use Rattle.account.specs.Account.{closed}
 use Rattle.account.specs.Judge.{versionOf, kindByte, kindOf, valuesOf, headingServes, inPlace, first, refusals, Step, accepted, judge}
 use Rattle.account.proofs.Sorts.{by-sort}

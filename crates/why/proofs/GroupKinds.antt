@@ -7,7 +7,8 @@ use borrow.Author.Tests.{eqb-true, eqb-false, ne-eqb}
 use lib.Dec.{eqb}
 use Rattle.base.specs.Choice.{pick}
 use Rattle.base.proofs.Tests.{by-test}
-use Rattle.account.specs.Sorts.{isFarm, Opens, Heads, OfGroup, OfFarm, Closes, sortOf, bySort}
+use Rattle.account.specs.declared.sort.Sort.the-variants.{Opens, Heads, OfGroup, OfFarm, Closes}
+use Rattle.account.specs.Sorts.{isFarm, sortOf, bySort}
 use Rattle.why.specs.Remarks.{ofGroupKind}
 
 abbrev Same : ℕ → Type 0

@@ -15,7 +15,9 @@ use Rattle.base.proofs.Tests.{and-l, and-r, of-choice, by-test}
 use Rattle.codec.specs.Table.{table, fields, recordMost}
 use Rattle.account.specs.declared.Account.{Account}
 use Rattle.account.specs.Judge.{Step, inPlace, accepted, weigh}
-use Rattle.account.specs.Sorts.{isFarm, Sort, Opens, Heads, OfGroup, OfFarm, Closes, sortOf}
+use Rattle.account.specs.declared.sort.Sort.{Sort}
+use Rattle.account.specs.declared.sort.Sort.the-variants.{Opens, Heads, OfGroup, OfFarm, Closes}
+use Rattle.account.specs.Sorts.{isFarm, sortOf}
 use Rattle.account.proofs.Sorts.{by-sort}
 use Rattle.account.proofs.Refusals.{passed, weighed-none, weighed-passes}
 use Rattle.book.specs.declared.State.{State}
