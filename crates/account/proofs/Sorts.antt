@@ -47,6 +47,18 @@ heads-two k e = go (isFarm k) (eqb k 2) (eqb k 3 || (eqb k 4 || (eqb k 5 || eqb 
     go false false false true q e = let z : _≡_ {A = ℕ} 0 1 = cc in absurd (omega arith)
     go false false false false q e = let z : _≡_ {A = ℕ} 0 1 = cc in absurd (omega arith)
 
+-- only kind 8 closes
+pub closes-eight : (k : ℕ) → sortOf k ≡ Closes → k ≡ 8
+unfolding sortOf
+closes-eight k e = go (isFarm k) (eqb k 2) (eqb k 3 || (eqb k 4 || (eqb k 5 || eqb k 10))) (eqb k 8) refl e
+  where
+    go : (a b c d : Bool) → eqb k 8 ≡ d → pick a Opens (pick b Heads (pick c OfGroup (pick d Closes OfFarm))) ≡ Closes → k ≡ 8
+    go true b c d q e = let z : _≡_ {A = ℕ} 0 1 = cc in absurd (omega arith)
+    go false true c d q e = let z : _≡_ {A = ℕ} 0 1 = cc in absurd (omega arith)
+    go false false true d q e = let z : _≡_ {A = ℕ} 0 1 = cc in absurd (omega arith)
+    go false false false true q e = eqb-true _ _ q
+    go false false false false q e = let z : _≡_ {A = ℕ} 0 1 = cc in absurd (omega arith)
+
 -- the kinds of details are none of the others
 pub other-kind : (k n : ℕ) → bySort (sortOf k) false false true true false ≡ true → bySort (sortOf n) false false true true false ≡ false
     → eqb k n ≡ false
