@@ -1,22 +1,23 @@
 -- What a caller learns from the next record of a walk, and how the accepted records go on with it.
 -- Assumes nothing.
-use Prim.Native.Nat.{ℕ, _+_, _≤_, _<_}
+use Prim.Native.Nat.{ℕ, zero, suc, _+_, _≤_, _<_}
 use mathlib.Core.Path.{_≡_, refl, sym, ap, _∙_}
 use mathlib.Core.List.{List, [], _∷_}
-use mathlib.Core.Bool.{Bool, true, false}
+use mathlib.Core.Bool.{Bool, true, false, _||_}
 use mathlib.Core.Logic.{⊎-elim}
 use native.Mathlib.Omega.{arith}
-use borrow.Author.Tests.{lt-ltb, le-ltb, eq-eqb, ne-eqb}
+use borrow.Author.Tests.{lt-ltb, le-ltb, eq-eqb, ne-eqb, eqb-true, eqb-false}
+use lib.Dec.{eqb}
 use lib.ListN.{length, take, drop}
 use Rattle.base.specs.Choice.{pick}
-use Rattle.base.proofs.Tests.{lt-or-ge}
+use Rattle.base.proofs.Tests.{lt-or-ge, by-test}
 use Rattle.account.specs.declared.Account.{Account}
 use Rattle.account.specs.Judge.{judge}
 use Rattle.book.specs.declared.walk.Next.{Next}
 use Rattle.book.specs.Front.{Front, unfinished, badLength, whole, need, front}
 use Rattle.book.specs.WholeRecords.{Ready, beginsWith, recordsBy, recordsOf}
-use Rattle.book.specs.Walk.{recordAt, linesOf, atFront, nextOf, linesNext, entryOf, entriesFrom, entriesAfter}
-use Rattle.book.proofs.Fronts.{meaning}
+use Rattle.book.specs.Walk.{recordAt, linesOf, atFront, nextOf, linesNext, accepts, entryOf, recordsIn, entriesFrom, entriesAfter}
+use Rattle.book.proofs.Fronts.{meaning, front-none}
 use Rattle.book.proofs.WholeRecords.{records-whole}
 use Rattle.book.proofs.RecordRuns.{record-in}
 use Rattle.book.proofs.NextRecords.{next-ended, next-open, lines-open}
@@ -76,17 +77,17 @@ pub records-none : (xs : List ℕ) → (front xs ≡ whole → ⊥) → recordsO
 unfolding recordsOf recordsBy
 records-none xs n = beginning-none (front xs) xs _ n
 
-entries-ended : (a : Account) (rs : List (List ℕ)) → 2 ≤ a .stage → entriesFrom a rs ≡ []
+pub entries-ended : (a : Account) (rs : List (List ℕ)) → 2 ≤ a .stage → entriesFrom a rs ≡ []
 unfolding entriesFrom
 entries-ended a [] h = refl
 entries-ended a (r ∷ rs) h = rw (le-ltb _ _ h) refl
 
-entries-first : (a : Account) (r : List ℕ) (rs : List (List ℕ)) → a .stage < 2 → (judge a r .account .stage ≡ 3 → ⊥)
+pub entries-first : (a : Account) (r : List ℕ) (rs : List (List ℕ)) → a .stage < 2 → (judge a r .account .stage ≡ 3 → ⊥)
     → entriesFrom a (r ∷ rs) ≡ entryOf a r ∷ entriesFrom (judge a r .account) rs
 unfolding entriesFrom
 entries-first a r rs h n = rw (lt-ltb _ _ h, ne-eqb _ _ n) refl
 
-entries-refused : (a : Account) (r : List ℕ) (rs : List (List ℕ)) → a .stage < 2 → judge a r .account .stage ≡ 3 → entriesFrom a (r ∷ rs) ≡ []
+pub entries-refused : (a : Account) (r : List ℕ) (rs : List (List ℕ)) → a .stage < 2 → judge a r .account .stage ≡ 3 → entriesFrom a (r ∷ rs) ≡ []
 unfolding entriesFrom
 entries-refused a r rs h n = rw (lt-ltb _ _ h, eq-eqb _ _ n) refl
 
@@ -115,6 +116,33 @@ module _ (a : Account) (xs : List ℕ) (t : Next) (e : t ≡ nextOf a xs) where
         let s = stands a xs t e n in
         ap (entriesFrom a) records-next
         ∙ entries-refused a (take (t .size) xs) (recordsOf (drop (t .size) xs)) (s .early) (rw (s .account) at refused)
+
+  -- as the code asks: there is none, or it is refused
+  pub entries-end : eqb (t .size) 0 || eqb (t .account .stage) 3 ≡ true → entriesAfter a xs ≡ []
+  entries-end h =
+      by-test (eqb (t .size) 0) (λ z. entries-none (eqb-true _ _ z)) (λ z. entries-stop (eqb-false _ _ z) (eqb-true _ _ (rw z at h)))
+
+-- no bytes have no entries
+pub entries-nil : (a : Account) → entriesAfter a [] ≡ []
+unfolding entriesFrom
+entries-nil a = rw (records-none [] (λ e. let q : _≡_ {A = ℕ} 0 1 = cc (e, front-none) in absurd (omega (arith, q)))) refl
+
+-- there are no more entries than records, and no more records than turns
+pub entries-few : (a : Account) (rs : List (List ℕ)) → length (recordsIn (entriesFrom a rs)) ≤ length rs
+unfolding recordsIn entriesFrom
+entries-few a [] = omega arith
+entries-few a (r ∷ rs) =
+    by-test (accepts a r) (λ t. rw t (let i = entries-few (judge a r .account) rs in omega (arith, i))) (λ t. rw t (omega arith))
+
+pub records-few : (n : ℕ) (xs : List ℕ) → length (recordsBy n xs) ≤ n
+unfolding recordsBy
+records-few zero xs = omega arith
+records-few (suc n) xs = go (front xs) (records-few n (drop (need xs) xs))
+  where
+    go : (f : Front) → length (recordsBy n (drop (need xs) xs)) ≤ n → length (beginsWith f xs (recordsBy n (drop (need xs) xs))) ≤ suc n
+    go unfinished h = omega arith
+    go badLength h = omega arith
+    go whole h = omega (arith, h)
 
 -- the same as front::ready has it
 pub next-ready : (a : Account) (xs : List ℕ) (t : Next) → t ≡ nextOf a xs → a .stage < 2 → Ready xs (t .size)

@@ -65,6 +65,11 @@ pub record Entry : Type 0 where
 abbrev pub entryOf : Account → List ℕ → Entry
 entryOf a r = record { bytes = r; lines = linesOf a r }
 
+-- the records of entries
+unfoldable pub recordsIn : List Entry → List (List ℕ)
+recordsIn [] = []
+recordsIn (e ∷ es) = e .bytes ∷ recordsIn es
+
 -- the first of the records rs that are accepted, up to one that is not, a being the account before them
 unfoldable pub entriesFrom : Account → List (List ℕ) → List Entry
 entriesFrom a [] = []

@@ -22,12 +22,13 @@ use Rattle.book.proofs.WholeRecords.{records-whole}
 use Rattle.book.proofs.RecordRuns.{record-in}
 use Rattle.book.proofs.Fronts.{meaning}
 use Rattle.compare.specs.declared.cursor.Cursor.{Cursor}
-use Rattle.compare.specs.Entries.{after, takes, Entry, recordsIn, entriesFrom, entriesAfter, entriesOf}
+use Rattle.account.specs.Judge.{judge}
+use Rattle.book.specs.Walk.{accepts, Entry, entryOf, recordsIn, entriesFrom, entriesAfter, entriesOf}
 use Rattle.compare.specs.Same.{same}
 use Rattle.compare.specs.Moved.{timesIn, asOften, allAsOften, sameDetails}
 use Rattle.compare.specs.Compare.{movedOf}
-use Rattle.compare.specs.Inner.{entry, Reached}
-use Rattle.compare.proofs.Entries.{records-none}
+use Rattle.compare.specs.Inner.{Reached}
+use Rattle.book.proofs.Walks.{records-none}
 use Rattle.compare.proofs.Tellings.{long-enough}
 
 take-none : (n : ℕ) → take {A = List ℕ} n [] ≡ []
@@ -180,11 +181,11 @@ first-records : (a : Account) (rs : List (List ℕ)) (m : ℕ) → m ≤ length 
 unfolding entriesFrom recordsIn
 first-records a rs zero h = refl
 first-records a [] (suc m) h = absurd (omega arith)
-first-records a (r ∷ rs) (suc m) h = go (λ k. first-records (after a r) rs m k) (takes a r) h
+first-records a (r ∷ rs) (suc m) h = go (λ k. first-records (judge a r .account) rs m k) (accepts a r) h
   where
-    go : (m ≤ length (entriesFrom (after a r) rs) → take m rs ≡ recordsIn (take m (entriesFrom (after a r) rs)))
-        → (b : Bool) → suc m ≤ length (pick b (entry a r ∷ entriesFrom (after a r) rs) [])
-        → r ∷ take m rs ≡ recordsIn (take (suc m) (pick b (entry a r ∷ entriesFrom (after a r) rs) []))
+    go : (m ≤ length (entriesFrom (judge a r .account) rs) → take m rs ≡ recordsIn (take m (entriesFrom (judge a r .account) rs)))
+        → (b : Bool) → suc m ≤ length (pick b (entryOf a r ∷ entriesFrom (judge a r .account) rs) [])
+        → r ∷ take m rs ≡ recordsIn (take (suc m) (pick b (entryOf a r ∷ entriesFrom (judge a r .account) rs) []))
     go ih true h = ap (λ (l : List (List ℕ)). r ∷ l) (ih (omega (arith, h)))
     go ih false h = absurd (omega (arith, h))
 
