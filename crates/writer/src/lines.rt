@@ -1,12 +1,12 @@
 // What is told of a line that is not read or refused.
+use crate::typed_line::Entry;
+use crate::typed_line::has_field;
 use account::Account;
 use account::Refusal;
 use account::Used;
 use printing::say;
 use printing::say_number;
 use printing::say_pointed;
-use crate::typed_line::Entry;
-use crate::typed_line::has_field;
 ghost use mathlib.Core.Path.{_≡_};
 ghost use mathlib.Core.List.{_++_};
 ghost use Prim.Native.Nat.{_-_, _≤_};
