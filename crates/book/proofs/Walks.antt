@@ -3,10 +3,11 @@
 use Prim.Native.Nat.{ℕ, zero, suc, _+_, _≤_, _<_}
 use mathlib.Core.Path.{_≡_, refl, sym, ap, _∙_}
 use mathlib.Core.List.{List, [], _∷_}
-use mathlib.Core.Bool.{Bool, true, false}
+use mathlib.Core.Bool.{Bool, true, false, _||_}
 use mathlib.Core.Logic.{⊎-elim}
 use native.Mathlib.Omega.{arith}
-use borrow.Author.Tests.{lt-ltb, le-ltb, eq-eqb, ne-eqb}
+use borrow.Author.Tests.{lt-ltb, le-ltb, eq-eqb, ne-eqb, eqb-true, eqb-false}
+use lib.Dec.{eqb}
 use lib.ListN.{length, take, drop}
 use Rattle.base.specs.Choice.{pick}
 use Rattle.base.proofs.Tests.{lt-or-ge, by-test}
@@ -115,6 +116,11 @@ module _ (a : Account) (xs : List ℕ) (t : Next) (e : t ≡ nextOf a xs) where
         let s = stands a xs t e n in
         ap (entriesFrom a) records-next
         ∙ entries-refused a (take (t .size) xs) (recordsOf (drop (t .size) xs)) (s .early) (rw (s .account) at refused)
+
+  -- as the code asks: there is none, or it is refused
+  pub entries-end : eqb (t .size) 0 || eqb (t .account .stage) 3 ≡ true → entriesAfter a xs ≡ []
+  entries-end h =
+      by-test (eqb (t .size) 0) (λ z. entries-none (eqb-true _ _ z)) (λ z. entries-stop (eqb-false _ _ z) (eqb-true _ _ (rw z at h)))
 
 -- no bytes have no entries
 pub entries-nil : (a : Account) → entriesAfter a [] ≡ []

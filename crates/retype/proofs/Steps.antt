@@ -30,7 +30,7 @@ use Rattle.account.proofs.Refusals.{passed, judged-passes}
 use Rattle.book.specs.declared.walk.Next.{Next}
 use Rattle.book.specs.Walk.{nextOf, recordsIn, entryOf, entriesAfter}
 use Rattle.book.proofs.RecordRuns.{record-whole}
-use Rattle.book.proofs.Walks.{stands, entries-none, entries-stop, entries-next}
+use Rattle.book.proofs.Walks.{stands, entries-next, entries-end}
 use Rattle.retype.specs.declared.Retyped.{Retyped}
 use Rattle.retype.specs.Typed.{valuesTyped, lineTyped, textTyped, accountBehind}
 use Rattle.retype.proofs.Tables.{name-short, fields-few}
@@ -99,15 +99,10 @@ first-accepted n a xs r k after p h f e =
 
 -- t is the next record of the walk
 module _ (a : Account) (xs : List ℕ) (t : Next) (e : t ≡ nextOf a xs) where
-  none-next : eqb (t .size) 0 || eqb (t .account .stage) 3 ≡ true → entriesAfter a xs ≡ []
-  none-next h =
-      by-test (eqb (t .size) 0) (λ z. entries-none a xs t e (eqb-true _ _ z))
-      (λ z. entries-stop a xs t e (eqb-false _ _ z) (eqb-true _ _ (rw z at h)))
-
   pub stops : eqb (t .size) 0 || eqb (t .account .stage) 3 ≡ true → (out : List ℕ) (at : ℕ) → at ≤ length out
       → Retypes (typedBy 1 a xs) out out at (record { account = t .account; taken = 0; written = at; more = false })
   stops h out at l =
-      rw (none-accepted 0 a xs (none-next h))
+      rw (none-accepted 0 a xs (entries-end a xs t e h))
       (record { account = ap (λ (x : Next). x .account) e; taken = refl; more = refl; put = none out at l })
 
   module _ (h : eqb (t .size) 0 || eqb (t .account .stage) 3 ≡ false) where
@@ -148,7 +143,7 @@ module _ (n : ℕ) (a : Account) (xs : List ℕ) where
   ends = eqb (t .size) 0 || eqb (t .account .stage) 3
 
   one-none : ends ≡ true → typedBy 1 a xs .more ≡ false
-  one-none h = ap (λ (x : Retyping). x .more) (none-accepted 0 a xs (none-next a xs t refl h))
+  one-none h = ap (λ (x : Retyping). x .more) (none-accepted 0 a xs (entries-end a xs t refl h))
 
   one-is : ends ≡ false → typedBy 1 a xs ≡ one (t .account) (take (t .size) xs)
   one-is h =
@@ -159,7 +154,7 @@ module _ (n : ℕ) (a : Account) (xs : List ℕ) where
   pub one-stops : typedBy 1 a xs .more ≡ false → typedBy (suc n) a xs ≡ typedBy 1 a xs
   one-stops m =
       by-test ends
-      (λ h. none-accepted n a xs (none-next a xs t refl h) ∙ sym (none-accepted 0 a xs (none-next a xs t refl h)))
+      (λ h. none-accepted n a xs (entries-end a xs t refl h) ∙ sym (none-accepted 0 a xs (entries-end a xs t refl h)))
       (λ h. absurd (clash (sym (ap (λ (x : Retyping). x .more) (one-is h)) ∙ m)))
 
   pub one-more : typedBy 1 a xs .more ≡ true

@@ -1,6 +1,6 @@
 use borrow.Author.Needs.{needs}
-use Rattle.account.specs.Judge.{versionOf, kindByte}
-use Rattle.compare.proofs.MovedRecords.{detail-test}
+use Rattle.account.specs.declared.sort.Sort.the-variants.{Opens, Heads, OfGroup, OfFarm, Closes}
+use Rattle.compare.proofs.MovedRecords.{detail-by}
 use Rattle.compare.proofs.moved.detail.Statement.{statement}
 use Rattle.compare.proofs.moved.detail.Tie as tie
 
@@ -8,9 +8,4 @@ pub detail-spec : {M : Type 1} → statement M
 detail-spec =
     tie.close
     (tie.spec
-    (λ c. search needs)
-    (λ c. search needs)
-    (λ c. search needs)
-    (λ c. search needs)
-    (λ c. search needs)
-    (λ c. let r = c .before .before .before .before .args .r .now in detail-test (versionOf r) (kindByte r)))
+    ?)
