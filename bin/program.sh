@@ -1,6 +1,6 @@
 # shellcheck shell=sh disable=SC2154 # the script that sources this has set $here
-# Sourced first by the script of each program, which then sets what differs and calls `run "$@"`. It has set $here, this folder. It sets $name, $sample,
-# $about and $example (for --help); and where they are wanted $bytes (yes where the program writes a book's bytes), $heading (names of the columns, for a
+# Sourced first by the script of each program, which has set $here (this folder), sets what differs and calls `run "$@"`: $name, $sample, $about
+# and $example (for --help); and where they are wanted $bytes (yes where the program writes a book's bytes), $heading (names of the columns, for a
 # terminal), $usage and $count where more arguments are right, and $option (a word: with --WORD the program is given it too and reads nothing).
 name='' sample='' about='' example='' bytes='' heading='' usage='' count='' option='' # none of them comes from the environment
 root=${here%/*}
@@ -96,14 +96,16 @@ places() {
 build() {
     command -v rt >/dev/null || stop 1 "the program is to be built, and the Rattle kit's command rt is not there: see README.md"
     log=$root/target/log/bin-$name.txt
-    { mkdir -p "${log%/*}" && true >>"$root/target/lock" && true >>"$log"; } 2>/dev/null || stop 1 "the program is to be built, and $root/target can't be written"
+    { mkdir -p "${log%/*}" && true >>"$root/target/lock" && true >>"$log"; } 2>/dev/null ||
+        stop 1 "the program is to be built, and $root/target can't be written"
     exec 9>>"$root/target/lock"
     ! command -v flock >/dev/null || flock 9 # in a pipe two programs may want to be built
     if stale; then
         say "building, which takes some minutes the first time; each crate is reported when it is proved"
         [ -x "$program" ] || rm -f "$root/target/stamp/${name}_main" # rt does not make again what it made and somebody removed
         touch "$root/target/lock"
-        failed=$({ { (cd "$root" && rt check "${name}_main") </dev/null 2>&1 9>&- || echo failed >&3; } | tee "$log" | places "$(needed | wc -l)"; } 3>&1 >&2)
+        failed=$({ { (cd "$root" && rt check "${name}_main") </dev/null 2>&1 9>&- || echo failed >&3; } |
+            tee "$log" | places "$(needed | wc -l)"; } 3>&1 >&2)
         [ -z "$failed" ] || { tail -n 20 "$log" >&2; stop 1 "the build failed: $log has all of it"; }
         touch -r "$root/target/lock" "$program"
     fi
@@ -134,7 +136,8 @@ run() {
     [ "$input" = - ] || exec <"$input"
     [ -z "$heading" ] || [ ! -t 1 ] || printf '%s\n' "$heading" >&2 || :
 
-    # A program has no exit status: with the word `status` it writes, as its last act, 0 or 1 on descriptor 3. It is told of a closed pipe, and tells it.
+    # A program has no exit status: with the word `status` it writes, as its last act, 0 or 1 on descriptor 3. It gets the error of a closed pipe, and
+    # reports it.
     trap '' PIPE
     exec 4>&1
     status=$("$@" status ${more:+"$more"} 3>&1 >&4 4>&-) || status=

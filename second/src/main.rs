@@ -1,48 +1,13 @@
 //! The second program: the farm book once more, from documents 01 and 02 alone, to compare with.
 
-mod books;
-mod calls;
-mod cases;
-mod damages;
-mod desk;
-mod dice;
-mod doubts;
-mod feed;
-mod fields;
-mod figures;
-mod grazing;
-mod grazings;
-mod halves;
-mod hints;
-mod judge;
-mod kind;
-mod lister;
-mod parts;
-mod plain;
-mod programs;
-mod record;
-mod salvage;
-mod sheets;
-mod slip;
-mod slips;
-mod state;
-mod states;
-mod texts;
-mod tillage;
-mod tillages;
-mod trial;
-mod typed;
-mod usual;
-mod warming;
-mod warmings;
-mod why;
-mod words;
-mod writer;
-mod writes;
+mod makers;
+mod model;
 
 #[cfg(test)]
 mod tests;
 
+use makers::{cases, damages, desk, dice, doubts, pairs, rows, texts, trial, whole_books};
+use model::{compare, feed, lister, programs, salvage, sheets, state, typed, why};
 use std::io::{self, BufRead, BufWriter, Read, Write};
 
 const USAGE: &str = "usage:
@@ -66,6 +31,9 @@ const USAGE: &str = "usage:
   second sheet SEED INDEX            a sheet by chance
   second booksheet                   reads a book, writes and says what sheet does
   second booklines                   reads a book, writes its line records
+  second compare OLD NEW             two books, says what compare says of them
+  second pair SEED INDEX OLD NEW     writes two books by chance, one an edited copy of the other
+  second doubts                      how many doubtful books reach each end of each field's range
 ";
 
 fn main() {
@@ -89,10 +57,13 @@ fn main() {
         ["doubtful", seed, index] => some_doubtful(seed, index),
         ["sheeted"] => tell_sheet(sheets::sheeted),
         ["unsheeted"] => tell_sheet(sheets::unsheeted),
-        ["lines", seed, index] => by_chance(sheets::lines, seed, index),
-        ["sheet", seed, index] => by_chance(sheets::sheet, seed, index),
+        ["lines", seed, index] => by_chance(rows::lines, seed, index),
+        ["sheet", seed, index] => by_chance(rows::sheet, seed, index),
         ["booksheet"] => tell_sheet(sheets::booksheet),
         ["booklines"] => book_lines(),
+        ["compare", old, new] => compare_books(old, new),
+        ["pair", seed, index, old, new] => write_pair(seed, index, old, new),
+        ["doubts"] => write_all(std::iter::once(format!("{}\n", doubts::enough()))),
         _ => Err(USAGE.to_string()),
     };
     if let Err(fault) = done {
@@ -198,7 +169,7 @@ fn some_damaged(seed: &str, index: &str) -> Result<(), String> {
 
 fn some_book(seed: &str, index: &str) -> Result<(), String> {
     let (seed, index) = (whole_number(seed)?, whole_number(index)?);
-    write_bytes(&programs::book(seed, index))
+    write_bytes(&whole_books::book(seed, index))
 }
 
 /// What a program makes of the book on standard input, with its status.
@@ -251,4 +222,23 @@ fn book_lines() -> Result<(), String> {
     let mut book = Vec::new();
     io::stdin().read_to_end(&mut book).map_err(|e| e.to_string())?;
     write_bytes(&feed::feed(&state::State::default(), &book, state::LARGE).lines)
+}
+
+fn read_file(file: &str) -> Result<Vec<u8>, String> {
+    std::fs::read(file).map_err(|e| format!("{file}: {e}"))
+}
+
+fn compare_books(old: &str, new: &str) -> Result<(), String> {
+    let (old, new) = (read_file(old)?, read_file(new)?);
+    write_bytes(compare::compare(&old, &new).as_bytes())?;
+    eprint!("{}", compare::hints(&old, &new));
+    Ok(())
+}
+
+fn write_pair(seed: &str, index: &str, old: &str, new: &str) -> Result<(), String> {
+    let (first, second) = pairs::pair(whole_number(seed)?, whole_number(index)?);
+    for (file, book) in [(old, first), (new, second)] {
+        std::fs::write(file, book).map_err(|e| format!("{file}: {e}"))?;
+    }
+    Ok(())
 }

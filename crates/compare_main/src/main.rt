@@ -175,7 +175,7 @@ fn tell(old: &[u8], new: &[u8]) -> bool {
 
 // A hint where one of the two is no book but a typed text, a sheet or nothing.
 fn tell_hint(new: bool, book: &[u8]) {
-    let mut text = [0u8; 128];
+    let mut text = [0u8; 256];
     let n = remarks::say_hint(&mut text, new, look(book));
     program::report(&text[..n]);
 }

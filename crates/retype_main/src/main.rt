@@ -75,7 +75,7 @@ fn end(w: Work, input: Input, book: &[u8]) {
 
 // A hint where the input is no book but a typed text, a sheet or nothing.
 fn tell_hint(book: &[u8]) {
-    let mut text = [0u8; 128];
+    let mut text = [0u8; 256];
     let n = say_hint(&mut text, 0, look(book));
     report(&text[..n]);
 }

@@ -123,7 +123,7 @@ fn save(damaged: &[u8]) -> Done {
 
 // A hint where the input is no book but a typed text, a sheet or nothing.
 fn tell_hint(damaged: &[u8]) {
-    let mut text = [0u8; 128];
+    let mut text = [0u8; 256];
     let n = say_hint(&mut text, 0, look(damaged));
     report(&text[..n]);
 }

@@ -38,7 +38,7 @@ fn tell_end(text: &[u8], answer: Answer) {
 }
 
 fn tell_too_long() {
-    let mut said = [0u8; 128];
+    let mut said = [0u8; 256];
     let n = remarks::say_lines_too_long(&mut said);
     report(&said[..n]);
 }

@@ -136,7 +136,7 @@ fn finish(line: &[u8], w: Work) -> Work {
 }
 
 fn report_counts(w: Work) -> Work {
-    let mut out = [0u8; 128];
+    let mut out = [0u8; 256];
     let n = whatif::say_counts(&mut out, w.counts);
     report(&out[..n], w)
 }

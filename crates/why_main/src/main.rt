@@ -37,7 +37,7 @@ fn tell(v: Verdict) -> bool {
 
 // A hint where the input is no book but a typed text, a sheet or nothing.
 fn tell_hint(input: &[u8]) {
-    let mut text = [0u8; 128];
+    let mut text = [0u8; 256];
     let n = say_hint(&mut text, 0, look(input));
     program::report(&text[..n]);
 }

@@ -1,12 +1,12 @@
 //! The table of kinds, and the text of trial cases.
 
-use crate::cases;
-use crate::figures::Subtotal;
-use crate::kind;
-use crate::plain::plain_rows;
-use crate::record::{fields_with, length_of};
-use crate::trial::Case;
-use crate::warming::factors;
+use crate::makers::cases;
+use crate::makers::plain::plain_rows;
+use crate::makers::trial::Case;
+use crate::model::figures::Subtotal;
+use crate::model::kind;
+use crate::model::record::{fields_with, length_of};
+use crate::model::warming::factors;
 
 #[test]
 fn lengths_of_the_table() {

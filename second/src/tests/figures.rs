@@ -1,9 +1,9 @@
 //! Document 01's arithmetic: P1 to P9, what is rounded when, the warming sets.
 
 use super::{adds, under, COW, PIG};
-use crate::figures::{self, pig_ch4_product, round, Figures};
-use crate::kind;
-use crate::warming::{SET_1, SET_2};
+use crate::model::figures::{self, pig_ch4_product, round, Figures};
+use crate::model::kind;
+use crate::model::warming::{SET_1, SET_2};
 
 #[test]
 fn round_takes_halves_to_the_even_number() {

@@ -2,21 +2,21 @@
 
 use super::typed::{record_typed, remarks, said};
 use super::{accepted, adds, all, no_group, refused_by, under, with_group};
-use crate::books::{after, right_close, wrong_record};
-use crate::dice::Dice;
-use crate::doubts::doubtful;
-use crate::feed::{feed, Answer};
-use crate::figures::Figures;
-use crate::grazing::factor;
-use crate::kind;
-use crate::lister::list;
-use crate::plain::{plain_values, sample};
-use crate::programs::retyped;
-use crate::record::record_of;
-use crate::salvage::tell;
-use crate::state::{Heading, State, CLOSED};
-use crate::states::right_state;
-use crate::why::why;
+use crate::makers::books::{after, right_close, wrong_record};
+use crate::makers::dice::Dice;
+use crate::makers::doubts::doubtful;
+use crate::makers::plain::{plain_values, sample};
+use crate::makers::states::right_state;
+use crate::model::feed::{feed, Answer};
+use crate::model::figures::Figures;
+use crate::model::grazing::factor;
+use crate::model::kind;
+use crate::model::lister::list;
+use crate::model::programs::retyped;
+use crate::model::record::record_of;
+use crate::model::salvage::tell;
+use crate::model::state::{Heading, State, CLOSED};
+use crate::model::why::why;
 
 /// Table 2.4.6 of source document 000, copied.
 const PRINT: &str = "Atl Prov.\t1.90\t1.34\t1.16

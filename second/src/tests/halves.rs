@@ -1,11 +1,11 @@
 //! Document 02's W8: every figure that can have an exact half, above an even and above an odd number, worked by hand.
 
 use super::{adds, all, under};
-use crate::cases;
-use crate::feed::Answer;
-use crate::figures::Figures;
-use crate::halves::{PLACES, RECORDS};
-use crate::trial::Case;
+use crate::makers::cases;
+use crate::makers::halves::{PLACES, RECORDS};
+use crate::makers::trial::Case;
+use crate::model::feed::Answer;
+use crate::model::figures::Figures;
 
 fn figures(ch4: u64, n2o: u64, co2: i64, excreted: u64, land: u64) -> Figures {
     Figures { ch4, n2o, co2, excreted, land, grazing: 0 }

@@ -1,14 +1,14 @@
 //! The sample's lines, lines and their rooms, the longest book.
 
 use super::{all, no_group, under, with_group};
-use crate::books::right_close;
-use crate::desk::{long_book, many_groups};
-use crate::feed::{feed, herd_desk, Answer};
-use crate::kind;
-use crate::lister::list;
-use crate::plain::sample;
-use crate::record::record_of;
-use crate::state::{Refusal, State};
+use crate::makers::books::right_close;
+use crate::makers::desk::{long_book, many_groups};
+use crate::makers::plain::sample;
+use crate::model::feed::{feed, herd_desk, Answer};
+use crate::model::kind;
+use crate::model::lister::list;
+use crate::model::record::record_of;
+use crate::model::state::{Refusal, State};
 
 const SAMPLE_TEXT: &str = "3 12 434501 0 0 0 0 0
 6 0 0 0 875000 0 0 0

@@ -26,11 +26,11 @@ mod warming;
 mod why;
 mod writer;
 
-use crate::feed::{feed, Answer, Reply};
-use crate::figures::{Figures, Subtotal};
-use crate::record::record_of;
-use crate::state::{Heading, State, LARGE, OPEN};
-use crate::warming::SET_1;
+use crate::model::feed::{feed, Answer, Reply};
+use crate::model::figures::{Figures, Subtotal};
+use crate::model::record::record_of;
+use crate::model::state::{Heading, State, LARGE, OPEN};
+use crate::model::warming::SET_1;
 
 /// An open state under a heading of this class and head count.
 fn under(class: u8, head: u16) -> State {

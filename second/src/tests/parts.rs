@@ -1,15 +1,15 @@
 //! Books cut into parts: the same lines and the same state.
 
 use super::all;
-use crate::books::{closed_run, damaged_run};
-use crate::dice::Dice;
-use crate::feed::{feed, Answer, Reply};
-use crate::kind;
-use crate::parts::{every_part_size, of_each_size, ENOUGH, SHORT, SIZES};
-use crate::plain::{sample, several_groups};
-use crate::state::State;
-use crate::trial::Case;
-use crate::writes::records_of;
+use crate::makers::books::{closed_run, damaged_run};
+use crate::makers::dice::Dice;
+use crate::makers::parts::{every_part_size, of_each_size, ENOUGH, SHORT, SIZES};
+use crate::makers::plain::{sample, several_groups};
+use crate::makers::trial::Case;
+use crate::makers::writes::records_of;
+use crate::model::feed::{feed, Answer, Reply};
+use crate::model::kind;
+use crate::model::state::State;
 use std::collections::BTreeSet;
 
 #[test]

@@ -1,11 +1,11 @@
 //! What the lister and retype print and say of the sample, of nothing, of a typed text, and of a book with bytes behind it.
 
-use crate::books::closed_run;
-use crate::dice::Dice;
-use crate::plain::sample;
-use crate::programs::{listed, retyped};
-use crate::state::State;
-use crate::typed::enter;
+use crate::makers::books::closed_run;
+use crate::makers::dice::Dice;
+use crate::makers::plain::sample;
+use crate::model::programs::{listed, retyped};
+use crate::model::state::State;
+use crate::model::typed::enter;
 
 const SAMPLE_TYPED: &str = "farm 7 2010 1
 heading 12 milking 40

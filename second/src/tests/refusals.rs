@@ -1,13 +1,13 @@
 //! The refusal numbers, P10 to P12 among them, and their order.
 
 use super::{accepted, all, refused_by, under, COW, PIG};
-use crate::books::{after, wrong_record};
-use crate::dice::Dice;
-use crate::feed::{feed, Answer};
-use crate::kind;
-use crate::record::record_of;
-use crate::state::{Heading, Refusal, State, MOST_RECORDS};
-use crate::states::right_state;
+use crate::makers::books::{after, wrong_record};
+use crate::makers::dice::Dice;
+use crate::makers::states::right_state;
+use crate::model::feed::{feed, Answer};
+use crate::model::kind;
+use crate::model::record::record_of;
+use crate::model::state::{Heading, Refusal, State, MOST_RECORDS};
 
 #[test]
 fn p10_days() {

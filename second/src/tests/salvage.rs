@@ -1,11 +1,11 @@
 //! Document 02's W5, sentence by sentence, and that the makers of damaged books make what they say.
 
-use crate::damages::damaged;
-use crate::desk::long_book;
-use crate::lister::list;
-use crate::plain::{plain_values, sample};
-use crate::record::record_of;
-use crate::salvage::{tell, Told, LONGEST};
+use crate::makers::damages::damaged;
+use crate::makers::desk::long_book;
+use crate::makers::plain::{plain_values, sample};
+use crate::model::lister::list;
+use crate::model::record::record_of;
+use crate::model::salvage::{tell, Told, LONGEST};
 use std::collections::BTreeSet;
 
 fn farm() -> Vec<u8> {

@@ -1,6 +1,7 @@
 //! Document 02's W13, sentence by sentence, and that the makers of sheets make what they say.
 
-use crate::sheets::{lines, sheet, sheeted, unsheeted, HEADER};
+use crate::makers::rows::{lines, sheet};
+use crate::model::sheets::{sheeted, unsheeted, HEADER};
 use std::collections::BTreeSet;
 
 /// The last line, which is for machines, of what is said of a text.
@@ -30,7 +31,14 @@ fn text_that_is_not_of_the_form() {
     for co2 in ["-0", "00", "+1", "01", "-01", "", "-", " 1", "\"1\"", "1.0"] {
         assert_eq!(said(&format!("3,7,0,0,{co2},0,0,0,\r\n")), "refused 20 row 2", "{co2}");
     }
-    for rows in ["\r\n", "3,7,0,0,0,0,0,0,\n", "3,7,0,0,0,0,0,0,", "3,7,-1,0,0,0,0,0,\r\n", "3,7,0,0,0,0,0,0,0\r\n", "8,0,0,0,0,0,0,0,\r\n"] {
+    for rows in [
+        "\r\n",
+        "3,7,0,0,0,0,0,0,\n",
+        "3,7,0,0,0,0,0,0,",
+        "3,7,-1,0,0,0,0,0,\r\n",
+        "3,7,0,0,0,0,0,0,0\r\n",
+        "8,0,0,0,0,0,0,0,\r\n",
+    ] {
         assert_eq!(said(rows), "refused 20 row 2", "{rows}");
     }
     assert_eq!(answer(b""), "refused 20 row 1");
@@ -39,7 +47,12 @@ fn text_that_is_not_of_the_form() {
 
 #[test]
 fn numbers_outside_their_fields() {
-    for rows in ["2,7,0,0,0,0,0,0,\r\n", "11,7,0,0,0,0,0,0,\r\n", "3,65536,0,0,0,0,0,0,\r\n", "3,7,18446744073709551616,0,0,0,0,0,\r\n"] {
+    for rows in [
+        "2,7,0,0,0,0,0,0,\r\n",
+        "11,7,0,0,0,0,0,0,\r\n",
+        "3,65536,0,0,0,0,0,0,\r\n",
+        "3,7,18446744073709551616,0,0,0,0,0,\r\n",
+    ] {
         assert_eq!(said(rows), "refused 21 row 2", "{rows}");
     }
     assert_eq!(said("3,7,0,0,9223372036854775808,0,0,0,\r\n"), "refused 21 row 2");

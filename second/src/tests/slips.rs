@@ -1,6 +1,6 @@
 //! The what-if slip.
 
-use crate::slip::{slip, Change, Ration};
+use crate::model::slip::{slip, Change, Ration};
 
 fn plain() -> Ration {
     Ration { ge: 300.0, ym: 6.5, head: 40.0, days: 31 }

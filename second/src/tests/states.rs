@@ -1,13 +1,13 @@
 //! States: their ranges, refusal 13, what ends for ever, the sure step.
 
 use super::{all, under, with_group};
-use crate::books::{after, closed_run, damaged_run, right_close};
-use crate::dice::Dice;
-use crate::feed::{feed, Answer, Reply};
-use crate::plain::sample;
-use crate::state::{Heading, Refusal, State, CLOSED, OPEN, REFUSED};
-use crate::states::{beside_bounds, right_state};
-use crate::warming::{NONE, SET_2};
+use crate::makers::books::{after, closed_run, damaged_run, right_close};
+use crate::makers::dice::Dice;
+use crate::makers::plain::sample;
+use crate::makers::states::{beside_bounds, right_state};
+use crate::model::feed::{feed, Answer, Reply};
+use crate::model::state::{Heading, Refusal, State, CLOSED, OPEN, REFUSED};
+use crate::model::warming::{NONE, SET_2};
 
 #[test]
 fn closed_and_refused_take_nothing() {

@@ -1,16 +1,16 @@
 //! Document 02's W2: a subtotal for each group.
 
 use super::{all, no_group, refused_by, with_group, COW, PIG};
-use crate::books::{after, closed_run, right_close};
-use crate::desk::many_groups;
-use crate::dice::Dice;
-use crate::feed::Answer;
-use crate::figures::Subtotal;
-use crate::kind;
-use crate::lister::list;
-use crate::plain::several_groups;
-use crate::record::{number, record_of};
-use crate::state::{Heading, State, CLOSED};
+use crate::makers::books::{after, closed_run, right_close};
+use crate::makers::desk::many_groups;
+use crate::makers::dice::Dice;
+use crate::makers::plain::several_groups;
+use crate::model::feed::Answer;
+use crate::model::figures::Subtotal;
+use crate::model::kind;
+use crate::model::lister::list;
+use crate::model::record::{number, record_of};
+use crate::model::state::{Heading, State, CLOSED};
 
 /// The line of `with_group`.
 const GROUP_LINE: [u8; 54] = [

@@ -2,19 +2,19 @@
 
 use super::typed::{record_typed, remarks};
 use super::{accepted, adds, all, no_group, refused_by, under, with_group};
-use crate::books::after;
-use crate::feed::Answer;
-use crate::figures::{signed, Figures};
-use crate::kind;
-use crate::lister::list;
-use crate::plain::{plain_values, sample};
-use crate::programs::retyped;
-use crate::record::{number, record_of};
-use crate::salvage::tell;
-use crate::state::{State, CLOSED};
-use crate::tillage::{pair, rate};
-use crate::warming::{SET_1, SET_2};
-use crate::why::why;
+use crate::makers::books::after;
+use crate::makers::plain::{plain_values, sample};
+use crate::model::feed::Answer;
+use crate::model::figures::{signed, Figures};
+use crate::model::kind;
+use crate::model::lister::list;
+use crate::model::programs::retyped;
+use crate::model::record::{number, record_of};
+use crate::model::salvage::tell;
+use crate::model::state::{State, CLOSED};
+use crate::model::tillage::{pair, rate};
+use crate::model::warming::{SET_1, SET_2};
+use crate::model::why::why;
 
 /// Table A4-4 of source document 002, copied: zone, texture, then lumCmax and k of the six changes.
 const PRINT: &str = include_str!("table_a4_4.txt");

@@ -1,14 +1,14 @@
 //! The typed book: the samples, what is said at the end of a text, and texts by chance.
 
-use crate::books::after;
-use crate::fields::spoken_of;
-use crate::plain::sample;
-use crate::programs::retyped;
-use crate::state::{State, CLOSED, OPEN};
-use crate::texts::text;
-use crate::typed::{enter, Entered};
-use crate::words::kind_name;
-use crate::writes::records_of;
+use crate::makers::books::after;
+use crate::makers::plain::sample;
+use crate::makers::texts::text;
+use crate::makers::writes::records_of;
+use crate::model::fields::spoken_of;
+use crate::model::programs::retyped;
+use crate::model::state::{State, CLOSED, OPEN};
+use crate::model::typed::{enter, Entered};
+use crate::model::words::kind_name;
 use std::collections::BTreeSet;
 
 /// A farm record and a heading of milking cows, in lines 1 and 2.

@@ -1,7 +1,7 @@
 //! Fields that are one of a few named things: by word, by number, and misspelt.
 
 use super::typed::{messages, record_typed, remarks};
-use crate::record::record_of;
+use crate::model::record::record_of;
 
 /// Field, kind, a line with a blank for it, and its words, as they were decided.
 const CHOICES: [(&str, &str, &str, &str); 6] = [

@@ -1,11 +1,11 @@
 //! A close at the end of a text, before it, behind a failed line, wrong in itself, and none.
 
 use super::typed::{messages, remarks, said, verdict, MILKING};
-use crate::books::after;
-use crate::plain::sample;
-use crate::record::record_of;
-use crate::state::{State, CLOSED, OPEN};
-use crate::typed::enter;
+use crate::makers::books::after;
+use crate::makers::plain::sample;
+use crate::model::record::record_of;
+use crate::model::state::{State, CLOSED, OPEN};
+use crate::model::typed::enter;
 
 fn withheld(close: u64, failed: u64) -> String {
     format!("line {close}: close withheld: line {failed} failed, and a book with a failed line is not closed\n")

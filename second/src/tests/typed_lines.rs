@@ -1,11 +1,11 @@
 //! One line of a typed text: its bytes, its words and its numbers, and what is said of it.
 
 use super::typed::{messages, record_typed, remarks, said, verdict};
-use crate::fields::spoken_of;
-use crate::plain::{plain_rows, plain_values, sample};
-use crate::record::{fields_with, record_of};
-use crate::typed::enter;
-use crate::words::{kind_name, shown, KINDS};
+use crate::makers::plain::{plain_rows, plain_values, sample};
+use crate::model::fields::spoken_of;
+use crate::model::record::{fields_with, record_of};
+use crate::model::typed::enter;
+use crate::model::words::{kind_name, shown, KINDS};
 
 #[test]
 fn the_sample_in_other_dresses() {

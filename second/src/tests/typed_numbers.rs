@@ -1,8 +1,8 @@
 //! What is a number in a typed text, what it is worth, and why another word is none.
 
 use super::typed::{record_typed, remarks};
-use crate::record::record_of;
-use crate::words::shown;
+use crate::model::record::record_of;
+use crate::model::words::shown;
 
 /// A number is in the unit that people say, times a hundred in the book.
 #[test]

@@ -2,27 +2,27 @@
 
 use super::typed::{said, verdict};
 use super::{accepted, all, refused_by, under, COW};
-use crate::books::{after, right_close};
-use crate::cases;
-use crate::damages;
-use crate::doubts::doubtful;
-use crate::feed::Answer;
-use crate::figures::Figures;
-use crate::kind;
-use crate::lister::list;
-use crate::plain::{plain_values, sample, FARM_2};
-use crate::programs::retyped;
-use crate::record::record_of;
-use crate::salvage::tell;
-use crate::state::{Refusal, State, OPEN};
-use crate::states::{least_co2, most_sums};
-use crate::texts::text;
-use crate::trial::{hex, Case};
-use crate::typed::enter;
-use crate::warming::{factors, Factors, NONE, SET_1, SET_2};
-use crate::warmings::{of_no_version, of_wrong_length, with_farm};
-use crate::why::why;
-use crate::writer::write;
+use crate::makers::books::{after, right_close};
+use crate::makers::cases;
+use crate::makers::damages;
+use crate::makers::doubts::{doubtful, enough};
+use crate::makers::plain::{plain_values, sample, FARM_2};
+use crate::makers::states::{least_co2, most_sums};
+use crate::makers::texts::text;
+use crate::makers::trial::{hex, Case};
+use crate::makers::warmings::{of_no_version, of_wrong_length, with_farm};
+use crate::model::feed::Answer;
+use crate::model::figures::Figures;
+use crate::model::kind;
+use crate::model::lister::list;
+use crate::model::programs::retyped;
+use crate::model::record::record_of;
+use crate::model::salvage::tell;
+use crate::model::state::{Refusal, State, OPEN};
+use crate::model::typed::enter;
+use crate::model::warming::{factors, Factors, NONE, SET_1, SET_2};
+use crate::model::why::why;
+use crate::model::writer::write;
 use std::collections::BTreeSet;
 
 fn farm_1(set: u64) -> Vec<u8> {
@@ -416,7 +416,7 @@ fn version_2_is_drawn_by_every_maker() {
 
 #[test]
 fn why_is_asked_of_every_version() {
-    let said: String = (0..560).map(|index| why(&doubtful(21, index)).0).collect();
+    let said: String = (0..enough()).map(|index| why(&doubtful(21, index)).0).collect();
     for (value, limit) in [(0, 1), (3, 2), (255, 2), (2, 1)] {
         assert!(said.contains(&format!(" value {value} limit {limit}\nrecord ")), "{value}");
     }

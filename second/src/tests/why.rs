@@ -1,9 +1,9 @@
 //! Document 02's W6: both lines of each answer, the second in people's units.
 
-use crate::doubts::doubtful;
-use crate::plain::sample;
-use crate::record::record_of;
-use crate::why::why;
+use crate::makers::doubts::{doubtful, enough};
+use crate::makers::plain::sample;
+use crate::model::record::record_of;
+use crate::model::why::why;
 
 /// A farm record, bytes 0 to 10, and a heading of group 12 and this class, bytes 11 to 19.
 fn before(class: u64) -> Vec<u8> {
@@ -243,7 +243,7 @@ fn accepted_books() {
 /// The books by chance come to every form of the second line.
 #[test]
 fn books_by_chance_come_to_everything() {
-    let said: String = (0..560).map(|index| why(&doubtful(9, index)).0).collect();
+    let said: String = (0..enough()).map(|index| why(&doubtful(9, index)).0).collect();
     for words in [
         " MJ; it must",
         " per cent; it must",

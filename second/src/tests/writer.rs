@@ -1,16 +1,16 @@
 //! Document 02's W1: what is refused, in which order, and that what is written reads back.
 
-use crate::books::{after, closed_run, values_outside};
-use crate::dice::Dice;
-use crate::kind;
-use crate::plain::{place_of, plain_rows, plain_values, sample, under};
-use crate::record::{fields_of, fields_with, record_of};
-use crate::state::{Refusal, State, CLOSED, MOST_RECORDS, OPEN, REFUSED};
-use crate::states::{beside_bounds, right_state};
-use crate::trial::{hex, Case};
-use crate::warming::SET_1;
-use crate::writer::{write, Wrote};
-use crate::writes::{in_a_row, in_order, records_of, row, some_write, stored};
+use crate::makers::books::{after, closed_run, values_outside};
+use crate::makers::dice::Dice;
+use crate::makers::plain::{place_of, plain_rows, plain_values, sample, under};
+use crate::makers::states::{beside_bounds, right_state};
+use crate::makers::trial::{hex, Case};
+use crate::makers::writes::{in_a_row, in_order, records_of, row, some_write, stored};
+use crate::model::kind;
+use crate::model::record::{fields_of, fields_with, record_of};
+use crate::model::state::{Refusal, State, CLOSED, MOST_RECORDS, OPEN, REFUSED};
+use crate::model::warming::SET_1;
+use crate::model::writer::{write, Wrote};
 
 /// The number and field of a refusal that goes with the records accepted.
 fn refused_by(state: &State, kind: u64, values: &[u64], room: usize) -> (u8, u8) {
@@ -162,7 +162,7 @@ fn refused_as_the_reader_would() {
             unreachable!()
         };
         let code = write(&state, kind, &values, 64).err().map_or(0, |refusal| refusal.code);
-        let fits = |(f, &value): (&crate::record::Field, &u64)| value < 1 << (8 * f.bytes);
+        let fits = |(f, &value): (&crate::model::record::Field, &u64)| value < 1 << (8 * f.bytes);
         let sayable = (1..=10).contains(&kind)
             && values.len() == fields_with(kind as u8, values.len()).len()
             && fields_with(kind as u8, values.len()).iter().zip(&values).all(fits);

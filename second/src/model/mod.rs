@@ -1,0 +1,24 @@
+//! The farm book once more, from documents 01 and 02 alone: what is right.
+
+pub mod compare;
+pub mod feed;
+pub mod fields;
+pub mod figures;
+pub mod grazing;
+pub mod hints;
+pub mod judge;
+pub mod kind;
+pub mod lister;
+pub mod programs;
+pub mod record;
+pub mod salvage;
+pub mod sheets;
+pub mod slip;
+pub mod state;
+pub mod tillage;
+pub mod typed;
+pub mod usual;
+pub mod warming;
+pub mod why;
+pub mod words;
+pub mod writer;
