@@ -63,7 +63,7 @@ unfolding numbersBytes lineOf lineFields totalFields bytesOf be
 line-bytes kind vs =
     by-test (eqb kind 8)
     (λ t. rw (total-columns kind t, t)
-    (ap (λ (l : List ℕ). be 2 totalLength ++ (1 ∷ l)) 
+    (ap (λ (l : List ℕ). be 2 totalLength ++ (1 ∷ l))
     (sym (fields-bytes (drop 2 totalFields) 0 2 vs (totalLength ∷ 1 ∷ vs) (past-two totalLength vs)))))
     (λ f. rw (detail-columns kind f, empty-bytes (columnsFrom 0 (drop 2 lineFields)) vs, f)
     (ap (λ (l : List ℕ). be 2 lineLength ++ (1 ∷ l)) (sym (fields-bytes (drop 2 lineFields) 0 2 vs (lineLength ∷ 1 ∷ vs) (past-two lineLength vs)))))

@@ -207,7 +207,7 @@ module _ (k : ℕ) (vs q : List ℕ) (first : getD vs 0 0 ≡ k) (within : Withi
   body-length = rw (length-append (bytes (columns k) vs) q, bytes-length (columns k) vs)
 
   line-length : length line ≡ sizeOfKind k + length q
-  line-length = 
+  line-length =
       rw line-starts
       (omega (arith, length-append (be 2 (sizeOfKind k - 2)) (1 ∷ body), be-length 2 (sizeOfKind k - 2), body-length, columns-widths k))
 
