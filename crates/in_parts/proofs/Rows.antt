@@ -128,7 +128,8 @@ module _ (form : Form) where
       ∙ sym (texts-on (c .bytes) (o .bytes) (call-lines s _ _))
 
   -- A series of calls from a state in range that is at its end gives the rows of the uncut run.
-  pub rows-in-parts : (s : State) (xs : List ℕ) (ps : List Part) → InRange s → Ended (way s xs ps) → rowsOn form s xs ps ≡ textOf form (run s xs .lines)
+  pub rows-in-parts : (s : State) (xs : List ℕ) (ps : List Part) → InRange s → Ended (way s xs ps)
+      → rowsOn form s xs ps ≡ textOf form (run s xs .lines)
   rows-in-parts s xs ps v e =
       rows-way s xs ps
       ∙ ap (λ (o : Outcome). rowsText form (o .bytes)) (rule-three s xs ps v e)

@@ -1,4 +1,4 @@
--- Theorem: however a book is cut into parts and whatever room its lines have, the header and the rows of all calls are the export of the book's lines.
+-- Theorem: however a book is cut into parts and whatever room its lines have, the header and the rows of all calls are the export of its lines.
 -- Assumes nothing.
 use Prim.Native.Nat.{ℕ, zero, suc, _+_, _-_, _%_, _<_, _≤_}
 use native.Mathlib.Omega.{arith}
@@ -11,7 +11,8 @@ use lib.ListN.{length, getD, length-append, List·getD-append}
 use lib.Seq.{drop-append-seam}
 use Rattle.codec.specs.Table.{lastKind}
 use Rattle.codec.specs.Codec.{valAt, be, bytesOf}
-use Rattle.line_bytes.specs.Lines.{subtotalKind, lineFields, totalFields, lineLength, totalLength, lineBytes, totalBytes, frontSize, isLineKind, isLine}
+use Rattle.line_bytes.specs.Lines.{subtotalKind, lineFields, totalFields, lineLength, totalLength, lineBytes, totalBytes}
+use Rattle.line_bytes.specs.Lines.{frontSize, isLineKind, isLine}
 use Rattle.line_rows.specs.declared.Form.the-variants.{Sheet}
 use Rattle.line_rows.specs.Rows.{lineRow, rowsText, header}
 use Rattle.line_rows.proofs.Texts.{size-least, size-total, size-detail}
@@ -97,7 +98,8 @@ total-start : (f : Figures) (c : Co2) → (valAt (totalWith f c) 0 2 ≡ totalLe
 unfolding totalBytes totalFields bytesOf be valAt
 total-start f c = (refl, refl)
 
-one-line : (l : List ℕ) (k n : ℕ) → getD l 3 0 ≡ k → isLineKind k ≡ true → Whole l → frontSize l ≡ n → valAt l 0 2 ≡ n - 2 → getD l 2 0 ≡ 1 → OneLine l
+one-line : (l : List ℕ) (k n : ℕ) → getD l 3 0 ≡ k → isLineKind k ≡ true → Whole l → frontSize l ≡ n
+    → valAt l 0 2 ≡ n - 2 → getD l 2 0 ≡ 1 → OneLine l
 unfolding isLine
 one-line l k n e i w s len version =
     let kind : isLineKind (getD l 3 0) ≡ true = ap isLineKind e ∙ i in

@@ -25,6 +25,7 @@ credit-in-sheet : rowText Sheet false (9 ∷ 0 ∷ 0 ∷ 0 ∷ (2 ^ 64 - 135593)
 unfolding rowText columnsText signed decimal digitsBy
 credit-in-sheet = refl
 
-total-in-sheet : rowText Sheet true (8 ∷ 0 ∷ 10 ∷ 0 ∷ (2 ^ 64 - 135593) ∷ 0 ∷ 0 ∷ 28 ∷ (2 ^ 64 - 135355) ∷ []) ≡ ascii "8,0,10,0,-135593,0,0,28,-135355\r\n"
+total-in-sheet : rowText Sheet true (8 ∷ 0 ∷ 10 ∷ 0 ∷ (2 ^ 64 - 135593) ∷ 0 ∷ 0 ∷ 28 ∷ (2 ^ 64 - 135355) ∷ [])
+    ≡ ascii "8,0,10,0,-135593,0,0,28,-135355\r\n"
 unfolding rowText columnsText signed decimal digitsBy
 total-in-sheet = refl

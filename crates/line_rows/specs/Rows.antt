@@ -1,5 +1,6 @@
 -- A line record as a row of text, in two forms.
--- The lister's, document 01, "Figures to meet": "a text line per line record: kind, group, the five figures, and for kind 8 CO2e .., one space between."
+-- The lister's, document 01, "Figures to meet": "a text line per line record: kind, group, the five figures, and for kind 8
+-- CO2e .., one space between."
 -- A sheet's, document 02, W13: "comma-separated text after RFC 4180, CRLF after every row, no quotes, header
 -- `kind,group,ch4,n2o,co2,excreted,land,grazing,co2e`, the last column empty but on kind 8."
 -- Document 02, W7: "CO2 figures, their sum and CO2e become signed, eight bytes in two's complement."

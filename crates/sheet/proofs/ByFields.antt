@@ -16,7 +16,8 @@ use Rattle.codec.specs.Table.{field}
 use Rattle.codec.specs.Codec.{valAt, be, valuesAt, bytesOf}
 use Rattle.codec.proofs.BigEndian.{valAt-same}
 use Rattle.codec.proofs.Values.{values-length}
-use Rattle.line_bytes.specs.Lines.{figure, figureCount, subtotalKind, lineFields, totalFields, lineLength, totalLength, lineBytes, totalBytes, numbersBytes}
+use Rattle.line_bytes.specs.Lines.{figure, figureCount, subtotalKind, lineFields, totalFields, lineLength, totalLength}
+use Rattle.line_bytes.specs.Lines.{lineBytes, totalBytes, numbersBytes}
 use Rattle.line_rows.specs.declared.Form.the-variants.{Sheet}
 use Rattle.line_rows.specs.Rows.{lineNumbers, columnText, columnsText, lineRow, ending}
 use Rattle.line_rows.specs.Rows.{rowText as rowOf}
@@ -37,7 +38,8 @@ module _ (kind : ℕ) where
 
 -- ---- as bytes
 
-fields-bytes : (fs : List Field) (j i : ℕ) (vs ws : List ℕ) → ((k : ℕ) → getD vs k 0 ≡ getD ws (i + k) 0) → bytes (columnsFrom j fs) vs ≡ bytesOf fs ws i
+fields-bytes : (fs : List Field) (j i : ℕ) (vs ws : List ℕ) → ((k : ℕ) → getD vs k 0 ≡ getD ws (i + k) 0)
+    → bytes (columnsFrom j fs) vs ≡ bytesOf fs ws i
 unfolding bytes bytesOf
 fields-bytes [] j i vs ws h = refl
 fields-bytes (f ∷ fs) j i vs ws h =
@@ -61,7 +63,8 @@ unfolding numbersBytes lineOf lineFields totalFields bytesOf be
 line-bytes kind vs =
     by-test (eqb kind 8)
     (λ t. rw (total-columns kind t, t)
-    (ap (λ (l : List ℕ). be 2 totalLength ++ (1 ∷ l)) (sym (fields-bytes (drop 2 totalFields) 0 2 vs (totalLength ∷ 1 ∷ vs) (past-two totalLength vs)))))
+    (ap (λ (l : List ℕ). be 2 totalLength ++ (1 ∷ l))
+    (sym (fields-bytes (drop 2 totalFields) 0 2 vs (totalLength ∷ 1 ∷ vs) (past-two totalLength vs)))))
     (λ f. rw (detail-columns kind f, empty-bytes (columnsFrom 0 (drop 2 lineFields)) vs, f)
     (ap (λ (l : List ℕ). be 2 lineLength ++ (1 ∷ l)) (sym (fields-bytes (drop 2 lineFields) 0 2 vs (lineLength ∷ 1 ∷ vs) (past-two lineLength vs)))))
 

@@ -31,7 +31,8 @@ unfolding line row lineItem lineRow lineNumbers isLine valAt valuesAt lineFields
 exported = refl
 
 imported : rowItem row ≡ item line []
-unfolding line row rowItem readRow columns lineFields highestOf bytesHold readCell unsignedCell signedCell unsigned positive digits startsWith numbersBytes bytesOf be
+unfolding line row rowItem readRow columns lineFields highestOf bytesHold readCell unsignedCell signedCell unsigned positive digits startsWith
+    numbersBytes bytesOf be
 imported = refl
 
 -- a row whose CO2 column, or whose last, is the text t
@@ -53,5 +54,6 @@ plus-one = refl
 
 -- 9223372036854775808 is outside, and with a minus sign inside
 too-high : rowItem (co2 (decimal 9223372036854775808)) ≡ wrong 21
-unfolding co2 rowItem readRow columns lineFields highestOf bytesHold readCell unsignedCell signedCell unsigned positive digits startsWith decimal digitsBy
+unfolding co2 rowItem readRow columns lineFields highestOf bytesHold readCell unsignedCell signedCell unsigned positive digits startsWith
+    decimal digitsBy
 too-high = refl

@@ -19,7 +19,8 @@ use Rattle.base.proofs.Tests.{by-test, no-bool, and-l, and-r}
 use Rattle.sheet.specs.declared.numbers.Read.{Read}
 use Rattle.sheet.specs.declared.rows.Column.{Column}
 use Rattle.sheet.specs.Numbers.{half, Cell}
-use Rattle.sheet.specs.Rows.{column, highestOf, columnCount, columnOf, columnsFrom, empty, columns, columnEnd, startsWith, readCell, ended, readColumn, Row, readRow}
+use Rattle.sheet.specs.Rows.{column, highestOf, columnCount, columnOf, columnsFrom, empty, columns, columnEnd}
+use Rattle.sheet.specs.Rows.{startsWith, readCell, ended, readColumn, Row, readRow}
 use Rattle.sheet.specs.Code.{IsRead, IsRow}
 use Rattle.sheet.proofs.Held.{and-assoc}
 
@@ -46,7 +47,8 @@ before-last kind zero h = refl
 before-last kind (suc zero) h = refl
 before-last kind (suc (suc k)) h =
     let e : 2 + k ≡ suc (suc k) = omega arith in
-    figures-at figureCount 2 k (pick (eqb kind 8) (columnOf (columnCount - 1) figure) empty ∷ []) (omega arith) ∙ rw e (of-width (suc (suc k)) figure _ (sym (figure-width (suc (suc k)) (λ z. omega arith) (λ z. omega arith))))
+    figures-at figureCount 2 k (pick (eqb kind 8) (columnOf (columnCount - 1) figure) empty ∷ []) (omega arith)
+    ∙ rw e (of-width (suc (suc k)) figure _ (sym (figure-width (suc (suc k)) (λ z. omega arith) (λ z. omega arith))))
 
 the-last : (kind j : ℕ) → j ≡ columnCount - 1 → getD (columns kind) j empty ≡ pick (eqb kind 8) (columnOf (columnCount - 1) figure) empty
 unfolding columns lineFields

@@ -63,7 +63,8 @@ unfolding columns lineFields
 sounds kind =
     let last = of-choice Sound (eqb kind 8) (λ t. figure-sound (columnCount - 1)) (λ f. empty-sound) in
     let cs : List Column = pick (eqb kind 8) (columnOf (columnCount - 1) figure) empty ∷ [] in
-    (unsigned-sound 0 (getD (drop 2 lineFields) 0 figure) refl, (unsigned-sound 1 (getD (drop 2 lineFields) 1 figure) refl, figures-sound figureCount 2 cs (last, tt)))
+    let fs : List Field = drop 2 lineFields in
+    (unsigned-sound 0 (getD fs 0 figure) refl, (unsigned-sound 1 (getD fs 1 figure) refl, figures-sound figureCount 2 cs (last, tt)))
 
 pub columns-widths : (kind : ℕ) → widths (columns kind) + 3 ≡ sizeOfKind kind
 unfolding columns lineFields
@@ -206,7 +207,9 @@ module _ (k : ℕ) (vs q : List ℕ) (first : getD vs 0 0 ≡ k) (within : Withi
   body-length = rw (length-append (bytes (columns k) vs) q, bytes-length (columns k) vs)
 
   line-length : length line ≡ sizeOfKind k + length q
-  line-length = rw line-starts (omega (arith, length-append (be 2 (sizeOfKind k - 2)) (1 ∷ body), be-length 2 (sizeOfKind k - 2), body-length, columns-widths k))
+  line-length =
+      rw line-starts
+      (omega (arith, length-append (be 2 (sizeOfKind k - 2)) (1 ∷ body), be-length 2 (sizeOfKind k - 2), body-length, columns-widths k))
 
   length-small : sizeOfKind k - 2 < bytesHold 2
   unfolding bytesHold

@@ -41,13 +41,17 @@ abbrev pub endText : List ℕ → Answer → List ℕ
 endText text (Written n) = linesText (lineCount text)
 endText text (Refused code row) = sentenceText code row ++ refusedText code row
 
--- a text that is longer than the program has room for
-abbrev pub tooLongText : List ℕ
-tooLongText = ascii "the sheet is longer than 131072 bytes: nothing is written\n"
+-- what is longer than the most bytes that the program has room for
+abbrev pub mostText : ℕ → List ℕ
+mostText most = ascii " longer than " ++ (decimal most ++ ascii " bytes: nothing is written\n")
 
--- the same of line records
-abbrev pub linesTooLongText : List ℕ
-linesTooLongText = ascii "the lines are longer than 131072 bytes: nothing is written\n"
+-- a sheet that is
+abbrev pub tooLongText : ℕ → List ℕ
+tooLongText most = ascii "the sheet is" ++ mostText most
+
+-- line records that are
+abbrev pub linesTooLongText : ℕ → List ℕ
+linesTooLongText most = ascii "the lines are" ++ mostText most
 
 -- `0` where the sheet was accepted, and everything was written, else `1`
 abbrev pub statusByte : Bool → Bool → ℕ

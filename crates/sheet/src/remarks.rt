@@ -10,7 +10,7 @@ ghost use lib.ListN.{length};
 ghost use Rattle.base.specs.Choice.{pick};
 ghost use Rattle.printing.specs.Said.{Said};
 ghost use Rattle.sheet.specs.Remarks.{feeds, lineCount, linesText, rowHead, sentenceText, rowWord, refusedText, endText};
-ghost use Rattle.sheet.specs.Remarks.{tooLongText, linesTooLongText, statusByte};
+ghost use Rattle.sheet.specs.Remarks.{mostText, tooLongText, linesTooLongText, statusByte};
 
 fn one_if_feed(b: u8) -> usize
     ensures { λ r. ⌜ r ≡ pick (eqb b 10) 1 0 ⌝ }
@@ -100,26 +100,30 @@ pub fn say_end(out: &mut [u8], text: &[u8], answer: Answer) -> usize
     }
 }
 
-// That the text is longer than the program has room for, from the start of out.
-pub fn say_too_long(out: &mut [u8]) -> usize
-    ensures { λ r. ⌜ Said (now (out .entry)) (now (out .exit)) 0 tooLongText r ⌝ }
+// What is said of a text that is longer than the program has room for, from a place on.
+fn say_most(out: &mut [u8], at: usize, most: usize) -> usize
+    requires { ⌜ at ≤ length (now out) ⌝ }
+    ensures { λ r. ⌜ Said (now (out .entry)) (now (out .exit)) at (mostText most) r ⌝ }
 {
-    say(
-        out,
-        0,
-        b"the sheet is longer than 131072 bytes: nothing is written\n",
-    )
+    let word = say(out, at, b" longer than ");
+    let number = say_number(out, word, most as u64);
+    say(out, number, b" bytes: nothing is written\n")
+}
+
+// That the sheet is longer than it may be, from the start of out.
+pub fn say_too_long(out: &mut [u8], most: usize) -> usize
+    ensures { λ r. ⌜ Said (now (out .entry)) (now (out .exit)) 0 (tooLongText most) r ⌝ }
+{
+    let head = say(out, 0, b"the sheet is");
+    say_most(out, head, most)
 }
 
 // The same of line records.
-pub fn say_lines_too_long(out: &mut [u8]) -> usize
-    ensures { λ r. ⌜ Said (now (out .entry)) (now (out .exit)) 0 linesTooLongText r ⌝ }
+pub fn say_lines_too_long(out: &mut [u8], most: usize) -> usize
+    ensures { λ r. ⌜ Said (now (out .entry)) (now (out .exit)) 0 (linesTooLongText most) r ⌝ }
 {
-    say(
-        out,
-        0,
-        b"the lines are longer than 131072 bytes: nothing is written\n",
-    )
+    let head = say(out, 0, b"the lines are");
+    say_most(out, head, most)
 }
 
 // The status byte: 0 only where the sheet was accepted and everything was written.

@@ -1,5 +1,7 @@
 // Reads line records on standard input and writes their sheet on standard output: for machines that keep lines. The last word goes to standard error.
 use libc::STDIN_FILENO;
+use line_bytes::LINE_SIZE;
+use line_bytes::TOTAL_SIZE;
 use program::report;
 use program::send;
 use sheet::Answer;
@@ -7,8 +9,11 @@ use sheet::remarks;
 ghost use mathlib.Core.Path.{_≡_};
 ghost use lib.ListN.{length};
 
-// The most bytes of line records.
-const MOST: usize = 131072;
+// The most bytes of a book's lines: of 4,096 records the farm's gives none, the close's two where the first heading gave none, each other one.
+const MOST: usize = 4094 * LINE_SIZE + TOTAL_SIZE;
+
+// The most bytes of their sheet: no line but the close's has a row of 140 bytes, the close's has at most 160, and there are 4,095 of them.
+const MOST_TEXT: usize = 140 * 4096;
 
 // Whether the lines were accepted, and whether all was read and written.
 struct Done {
@@ -17,17 +22,16 @@ struct Done {
 }
 
 // A byte more than the most, by which a longer run is known.
-fn lines_buffer() -> [u8; 131073]
-    ensures { λ r. ⌜ length r ≡ 131073 ⌝ }
+fn lines_buffer() -> [u8; MOST + 1]
+    ensures { λ r. ⌜ length r ≡ 221139 ⌝ }
 {
-    [0u8; 131073]
+    [0u8; MOST + 1]
 }
 
-// A line of 54 bytes has a row of at most 140, one of 62 at most 160: no sheet of so many is longer.
-fn sheet_buffer() -> [u8; 344064]
-    ensures { λ r. ⌜ length r ≡ 344064 ⌝ }
+fn sheet_buffer() -> [u8; MOST_TEXT]
+    ensures { λ r. ⌜ length r ≡ 573440 ⌝ }
 {
-    [0u8; 344064]
+    [0u8; MOST_TEXT]
 }
 
 // A sentence where it is refused, and the last word.
@@ -39,7 +43,7 @@ fn tell_end(text: &[u8], answer: Answer) {
 
 fn tell_too_long() {
     let mut said = [0u8; 256];
-    let n = remarks::say_lines_too_long(&mut said);
+    let n = remarks::say_lines_too_long(&mut said, MOST);
     report(&said[..n]);
 }
 

@@ -1,5 +1,6 @@
 // Reads a sheet on standard input and writes its line records on standard output. The last word goes to standard error.
 use libc::STDIN_FILENO;
+use line_bytes::TOTAL_SIZE;
 use program::report;
 use program::send;
 use sheet::Answer;
@@ -7,8 +8,11 @@ use sheet::remarks;
 ghost use mathlib.Core.Path.{_≡_};
 ghost use lib.ListN.{length};
 
-// The most bytes of a sheet.
-const MOST: usize = 131072;
+// The most bytes of a sheet: a book of 4,096 records has no more rows, the header among them, and none comes to 64 bytes a row.
+const MOST: usize = 64 * 4096;
+
+// The most bytes of its lines: of all rows the close's gives most for its bytes, which are 19 at least.
+const MOST_LINES: usize = MOST / 19 * TOTAL_SIZE;
 
 // Whether the sheet was accepted, and whether all was read and written.
 struct Done {
@@ -17,17 +21,16 @@ struct Done {
 }
 
 // A byte more than the most, by which a longer sheet is known.
-fn sheet_buffer() -> [u8; 131073]
-    ensures { λ r. ⌜ length r ≡ 131073 ⌝ }
+fn sheet_buffer() -> [u8; MOST + 1]
+    ensures { λ r. ⌜ length r ≡ 262145 ⌝ }
 {
-    [0u8; 131073]
+    [0u8; MOST + 1]
 }
 
-// A line of 62 bytes has a row of at least 19, one of 54 at least 18: no sheet's lines are longer.
-fn lines_buffer() -> [u8; 427712]
-    ensures { λ r. ⌜ length r ≡ 427712 ⌝ }
+fn lines_buffer() -> [u8; MOST_LINES]
+    ensures { λ r. ⌜ length r ≡ 855414 ⌝ }
 {
-    [0u8; 427712]
+    [0u8; MOST_LINES]
 }
 
 // A sentence where it is refused, and the last word.
@@ -39,7 +42,7 @@ fn tell_end(text: &[u8], answer: Answer) {
 
 fn tell_too_long() {
     let mut said = [0u8; 256];
-    let n = remarks::say_too_long(&mut said);
+    let n = remarks::say_too_long(&mut said, MOST);
     report(&said[..n]);
 }
 

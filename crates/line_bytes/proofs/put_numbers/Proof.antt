@@ -27,11 +27,12 @@ put-numbers-spec =
     (λ c κs. omega arith)
     (λ c. omega arith)
     (λ c.
-    let a = c .before .before .before .before .before .before .before .before .before .before .before .before .before .before .before .before .before .before .args in
-    let size = c .before .before .before .before .before .before .before .before .before .before .before .before .before .before .before .size-of-kind in
+    let start = c .before .before .before .before .before .before .before .before .before .before .before .before in
+    let size = start .before .before .before .size-of-kind in
+    let a = start .before .before .before .before .before .before .args in
     rw (
       numbers-stored (a .kind) (size .result) (a .v .now) (a .out .now) (a .at) (size .ensures .0) (omega arith),
       c .before .before .put-figures .ensures,
       c .before .before .before .before .before .before .before .put2 .ensures,
-      c .before .before .before .before .before .before .before .before .before .before .before .before .put-start .ensures,
+      start .put-start .ensures,
     )))

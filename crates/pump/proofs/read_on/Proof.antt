@@ -28,7 +28,12 @@ read-on-spec =
     (λ c. search needs)
     (λ c κs. search needs)
     (λ c κs. search needs)
-    (λ c. let n = c .before .before .before .before .before .before .before in omega (arith, n .next .ensures .1, n .before .before .before .before .before .if1 .taken))
-    (λ c. let i = c .before .before .before .before .before .before .before .before .before .before .before .before .before .before .loop .inv in search needs)
+    (λ c.
+    let n = c .before .before .before .before .before .before .before in
+    omega (arith, n .next .ensures .1, n .before .before .before .before .before .if1 .taken))
+    (λ c.
+    let n = c .before .before .before .before .before .before .before in
+    let i = n .before .before .before .before .before .before .before .loop .inv in
+    search needs)
     (λ c. search needs)
     (λ c. search needs))

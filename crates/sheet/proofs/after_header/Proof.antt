@@ -19,7 +19,8 @@ missing : tie.Need-returns-2
 missing c =
     let p = c .before .before .before .before .before .put-header .ensures in
     let text = c .before .before .before .before .before .before .before .before .args .text .now in
-    header-missing text _ (c .before .starts .result) (c .before .before .first-of .ensures ∙ text-at-start p) (c .before .starts .ensures) (c .if1 .left)
+    header-missing text _ (c .before .starts .result) (c .before .before .first-of .ensures ∙ text-at-start p)
+    (c .before .starts .ensures) (c .if1 .left)
 
 pub after-header-spec : {M : Type 1} → statement M
 after-header-spec =

@@ -14,7 +14,8 @@ use Rattle.sheet.proofs.export.Statement.{statement}
 use Rattle.sheet.proofs.export.Tie as tie
 
 planned : (c : tie.After-plan-lines)
-    → c .plan-lines .result ≡ answer (exportOf (c .before .before .before .before .before .args .lines .now)) (length (c .before .before .before .before .before .args .text .now))
+    → c .plan-lines .result ≡ answer (exportOf (c .before .before .before .before .before .args .lines .now))
+    (length (c .before .before .before .before .before .args .text .now))
 planned c =
     let a = c .before .before .before .before .before .args in
     let size = c .before .before .header-size in
@@ -29,7 +30,8 @@ refused c =
     (planned p, kept (exportOf (a .lines .now)) (a .text .now) _ _ (p .plan-lines .result) (planned p) (c .enum-told .given .1))
 
 promise : (c : tie.After-put-header-arg)
-    → Promised (exportOf (c .before .before .before .before .before .before .before .before .before .args .lines .now)) (length (c .before .before .before .before .before .before .before .before .before .args .text .now))
+    → Promised (exportOf (c .before .before .before .before .before .before .before .before .before .args .lines .now))
+    (length (c .before .before .before .before .before .before .before .before .before .args .text .now))
 promise c =
     let p = c .before .before .before .before in
     promised _ _ _ (p .plan-lines .result) (planned p) (c .before .before .plan .given .1)

@@ -23,7 +23,8 @@ refused-rows c =
     rw e (p .ensures, kept (each rowItem 2 (drop (f .result) (a .text .now))) (a .lines .now) _ _ (p .result) (p .ensures) (c .enum-told .given .1))
 
 promise : (c : tie.After-write-rows-arg)
-    → Promised (each rowItem 2 (drop (c .before .before .before .before .before .before .after-header .result) (c .before .before .before .before .before .before .before .before .before .args .text .now)))
+    → Promised (each rowItem 2 (drop (c .before .before .before .before .before .before .after-header .result)
+    (c .before .before .before .before .before .before .before .before .before .args .text .now)))
     (length (c .before .before .before .before .before .before .before .before .before .args .lines .now))
 promise c =
     let p = c .before .before .before .before .plan-rows in

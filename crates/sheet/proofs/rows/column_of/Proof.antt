@@ -16,7 +16,8 @@ number c =
     let w = c .before .number-width in
     let s = c .before .before .is-signed in
     let a = c .before .before .before .before .args in (
-      column-is (a .kind) (a .j) (w .result) (h .result) (s .result) (c .before .before .before .before .pre) (w .ensures .0) (s .ensures) (h .ensures)
+      column-is (a .kind) (a .j) (w .result) (h .result) (s .result) (c .before .before .before .before .pre)
+          (w .ensures .0) (s .ensures) (h .ensures)
           (c .before .before .before .if1 .left),
       record { narrow = w .ensures .1; lower = fair-highest (s .result) (w .result) (h .result) (h .ensures) },
     )
