@@ -3,6 +3,7 @@ use mathlib.Core.Path.{refl, sym, _∙_}
 use native.Mathlib.Omega.{arith}
 use borrow.Author.Needs.{needs}
 use borrow.Author.Tests.{lt-ltb, le-ltb, eq-eqb, ne-eqb}
+use lib.Dec.{lit<}
 use Rattle.account.specs.Figures.{figuresOf}
 use Rattle.account.specs.Sorts.{sortOf}
 use Rattle.account.specs.Judge.{inPlace, first, accepted}
@@ -124,14 +125,14 @@ weigh-spec =
     (λ c κs. tt)
     returns-2
     (λ c. search needs)
-    (λ c. search needs)
+    (λ c. lit< tt)
     add-sum
     (λ c κs. tt)
     returns-3
-    (λ c. search needs)
-    (λ c. search needs)
+    (λ c. lit< tt)
+    (λ c. lit< tt)
     add-if4
-    (λ c. search needs)
+    (λ c. lit< tt)
     add-if4-2
     (λ c κs. tt)
     returns-4
@@ -143,7 +144,7 @@ weigh-spec =
     (λ c κs. tt)
     (λ c. search needs)
     (λ c κs. tt)
-    (λ c. search needs)
+    (λ c. record { fits = lit< tt })
     grouped-detail-requires
     returns-5
     returns-6)
