@@ -17,8 +17,8 @@ use Rattle.base.proofs.Tests.{true-or-false, lt-or-ge}
 use Rattle.book.specs.declared.State.{State}
 use Rattle.book.specs.declared.Fed.{Fed}
 use Rattle.book.specs.State.{noRecordYet}
-use Rattle.book.specs.Call.{Call, call, fedOf, laid}
-use Rattle.benchdesk.specs.Bench.{codeOf, andThen, last, benchBy, benched, numberOf, laidBy}
+use Rattle.book.specs.Call.{Call, call, fedOf, linesLaid}
+use Rattle.benchdesk.specs.Bench.{benchCode, andThen, last, benchBy, benched, numberOf, laidBy}
 
 -- the first bytes, at most p of them
 pub take-least : (p : ℕ) (xs : List ℕ) → take (min p (length xs)) xs ≡ take p xs
@@ -30,11 +30,11 @@ take-least p xs =
 
 -- a call over them
 pub fed-part : (s : State) (rest : List ℕ) (part n room : ℕ) (out : List ℕ) {f : Fed} {out′ : List ℕ} → n ≡ min part (length rest)
-    → f ≡ fedOf (call s (take n rest) room) → out′ ≡ laid (call s (take n rest) room) out
-    → (f ≡ fedOf (call s (take part rest) room)) × (out′ ≡ laid (call s (take part rest) room) out)
+    → f ≡ fedOf (call s (take n rest) room) → out′ ≡ linesLaid (call s (take n rest) room) out
+    → (f ≡ fedOf (call s (take part rest) room)) × (out′ ≡ linesLaid (call s (take part rest) room) out)
 fed-part s rest part n room out e p q =
     let d : take n rest ≡ take part rest = ap (λ (k : ℕ). take k rest) e ∙ take-least part rest in
-    (p ∙ ap (λ (xs : List ℕ). fedOf (call s xs room)) d, q ∙ ap (λ (xs : List ℕ). laid (call s xs room) out) d)
+    (p ∙ ap (λ (xs : List ℕ). fedOf (call s xs room)) d, q ∙ ap (λ (xs : List ℕ). linesLaid (call s xs room) out) d)
 
 -- all is taken, by the bytes taken so far or by those left
 all-taken : (i t n : ℕ) → i ≤ n → eqb (i + t) n ≡ eqb t (n - i)
@@ -46,7 +46,7 @@ all-taken i t n h =
 -- the calls, by the first of them
 by-first : (n : ℕ) (s : State) (xs : List ℕ) (part room : ℕ) (c : Call) → c ≡ call s (take part xs) room → 0 < n
     → benchBy n s xs part room
-    ≡ pick (last c xs) (record { code = codeOf (c .answer); bytes = c .bytes })
+    ≡ pick (last c xs) (record { code = benchCode (c .answer); bytes = c .bytes })
     (andThen (c .bytes) (benchBy (n - 1) (c .state) (drop (c .taken) xs) part (room - length (c .bytes))))
 unfolding benchBy
 by-first zero s xs part room c e h = absurd (omega arith)
@@ -59,13 +59,13 @@ pub record Going (book lines₀ : List ℕ) (part : ℕ) (lines : List ℕ) (s :
   pub long : length lines ≡ length lines₀
   pub so : List ℕ
   pub wrote : length so ≡ w
-  pub laid : lines ≡ so ++ drop w lines₀
+  pub linesLaid : lines ≡ so ++ drop w lines₀
   pub on : benched book part (length lines₀) ≡ andThen so (benchBy n s (drop i book) part (length lines₀ - w))
 
 pub going-none : (book lines : List ℕ) (part : ℕ) (s : State) → s ≡ noRecordYet → Going book lines part lines s 0 0 (length book)
 going-none book lines part s e =
     let r : length lines - 0 ≡ length lines = omega arith in
-    record { inside = omega arith; fits = omega arith; long = refl; so = []; wrote = refl; laid = refl; on = rw (r, e) refl }
+    record { inside = omega arith; fits = omega arith; long = refl; so = []; wrote = refl; linesLaid = refl; on = rw (r, e) refl }
 
 -- what the function gives: its number and its buffer
 abbrev pub Gives : List ℕ → List ℕ → ℕ → List ℕ → ℕ → Type 0
@@ -96,7 +96,7 @@ module _ {book lines₀ : List ℕ} {part : ℕ} {lines : List ℕ} {s : State} 
   module _ (more : 0 < n) {f : Fed} {sub : List ℕ}
       (ans : f ≡ fedOf (call s (take part (take (length book - i) (drop i book))) (length (take (length lines - w) (drop w lines)))))
       (buf : sub
-      ≡ laid (call s (take part (take (length book - i) (drop i book))) (length (take (length lines - w) (drop w lines))))
+      ≡ linesLaid (call s (take part (take (length book - i) (drop i book))) (length (take (length lines - w) (drop w lines))))
       (take (length lines - w) (drop w lines)))
       (counts : (f .taken ≤ length (take (length book - i) (drop i book))) × (f .written ≤ length (take (length lines - w) (drop w lines)))) where
     abbrev c : Call
@@ -112,7 +112,7 @@ module _ {book lines₀ : List ℕ} {part : ℕ} {lines : List ℕ} {s : State} 
 
     lent : sub ≡ c .bytes ++ drop (length (c .bytes)) (drop w lines₀)
     lent =
-        buf ∙ ap (λ (d : Call). laid d (take (length lines - w) (drop w lines))) same-call
+        buf ∙ ap (λ (d : Call). linesLaid d (take (length lines - w) (drop w lines))) same-call
         ∙ ap (λ (l : List ℕ). c .bytes ++ drop (length (c .bytes)) l) (to-end lines w ∙ drop-so)
 
     back : putMid w (length lines - w) lines sub ≡ take w lines ++ sub
@@ -149,28 +149,28 @@ module _ {book lines₀ : List ℕ} {part : ℕ} {lines : List ℕ} {s : State} 
         let behind = length-drop (w + f .written) lines₀ in
         rw laid-on (omega (arith, length-append (g .so ++ c .bytes) (drop (w + f .written) lines₀), wrote-on, behind, g .long, written-inside))
 
-    test-is : (code : ℕ) → code ≡ codeOf (f .answer) → not (eqb code 17) || eqb (i + f .taken) (length book) ≡ last c (drop i book)
+    test-is : (code : ℕ) → code ≡ benchCode (f .answer) → not (eqb code 17) || eqb (i + f .taken) (length book) ≡ last c (drop i book)
     test-is code e =
-        ap (λ (k : ℕ). not (eqb k 17) || eqb (i + f .taken) (length book)) (e ∙ ap (λ (d : Fed). codeOf (d .answer)) answer)
-        ∙ ap (λ (b : Bool). not (eqb (codeOf (c .answer)) 17) || b)
+        ap (λ (k : ℕ). not (eqb k 17) || eqb (i + f .taken) (length book)) (e ∙ ap (λ (d : Fed). benchCode (d .answer)) answer)
+        ∙ ap (λ (b : Bool). not (eqb (benchCode (c .answer)) 17) || b)
         (all-taken i (f .taken) (length book) (g .inside) ∙ ap (λ (k : ℕ). eqb k (length book - i)) taken-is
         ∙ ap (λ (k : ℕ). eqb (c .taken) k) (sym (length-drop i book)))
 
     step : benched book part (length lines₀)
-        ≡ andThen (g .so) (pick (last c (drop i book)) (record { code = codeOf (c .answer); bytes = c .bytes })
+        ≡ andThen (g .so) (pick (last c (drop i book)) (record { code = benchCode (c .answer); bytes = c .bytes })
         (andThen (c .bytes) (benchBy (n - 1) (c .state) (drop (c .taken) (drop i book)) part (length lines₀ - w - length (c .bytes)))))
     step = g .on ∙ ap (andThen (g .so)) (by-first n s (drop i book) part (length lines₀ - w) c refl more)
 
     -- it was the last
-    pub going-stops : (code : ℕ) → code ≡ codeOf (f .answer) → not (eqb code 17) || eqb (i + f .taken) (length book) ≡ true
+    pub going-stops : (code : ℕ) → code ≡ benchCode (f .answer) → not (eqb code 17) || eqb (i + f .taken) (length book) ≡ true
         → {r : ℕ} → r ≡ code * 4294967296 + (w + f .written) % 4294967296 → Gives book lines₀ part (putMid w (length lines - w) lines sub) r
     going-stops code e t {r} m =
         let b : last c (drop i book) ≡ true = sym (test-is code e) ∙ t in
-        let k : codeOf (c .answer) ≡ code = sym (e ∙ ap (λ (d : Fed). codeOf (d .answer)) answer) in
+        let k : benchCode (c .answer) ≡ code = sym (e ∙ ap (λ (d : Fed). benchCode (d .answer)) answer) in
         gives-by book lines₀ part _ r code (w + f .written) (g .so ++ c .bytes) ((rw b at step) ∙ rw k refl) wrote-on laid-on m
 
     -- it was not
-    pub going-on : (code : ℕ) → code ≡ codeOf (f .answer) → not (eqb code 17) || eqb (i + f .taken) (length book) ≡ false
+    pub going-on : (code : ℕ) → code ≡ benchCode (f .answer) → not (eqb code 17) || eqb (i + f .taken) (length book) ≡ false
         → Going book lines₀ part (putMid w (length lines - w) lines sub) (f .state) (i + f .taken) (w + f .written) (n - 1)
     going-on code e t =
         let b : last c (drop i book) ≡ false = sym (test-is code e) ∙ t in
@@ -184,6 +184,6 @@ module _ {book lines₀ : List ℕ} {part : ℕ} {lines : List ℕ} {s : State} 
           long = long-on;
           so = g .so ++ c .bytes;
           wrote = wrote-on;
-          laid = laid-on;
+          linesLaid = laid-on;
           on = (rw (b, q, d, st) at step) ∙ rw append-assoc refl;
         }

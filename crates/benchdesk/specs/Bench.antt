@@ -18,8 +18,8 @@ pub record Bench : Type 0 where
   pub bytes : List ℕ
 
 -- the number of an answer: the first of its numbers
-abbrev pub codeOf : Answer → ℕ
-codeOf a = getD (numbers a) 0 0
+abbrev pub benchCode : Answer → ℕ
+benchCode a = getD (numbers a) 0 0
 
 -- some lines, and then those of the calls after them
 abbrev pub andThen : List ℕ → Bench → Bench
@@ -27,14 +27,14 @@ andThen bytes b = record { code = b .code; bytes = bytes ++ b .bytes }
 
 -- a call over xs is the last: its answer is not More (17), or it takes all that is left
 abbrev pub last : Call → List ℕ → Bool
-last c xs = not (eqb (codeOf (c .answer)) 17) || eqb (c .taken) (length xs)
+last c xs = not (eqb (benchCode (c .answer)) 17) || eqb (c .taken) (length xs)
 
 -- at most n calls over xs from a state
 unfoldable pub benchBy : ℕ → State → List ℕ → ℕ → ℕ → Bench
 benchBy zero s xs part room = record { code = 17; bytes = [] }
 benchBy (suc n) s xs part room =
     pick (last (call s (take part xs) room) xs)
-    (record { code = codeOf (call s (take part xs) room .answer); bytes = call s (take part xs) room .bytes })
+    (record { code = benchCode (call s (take part xs) room .answer); bytes = call s (take part xs) room .bytes })
     (andThen (call s (take part xs) room .bytes)
     (benchBy n (call s (take part xs) room .state) (drop (call s (take part xs) room .taken) xs) part
     (room - length (call s (take part xs) room .bytes))))

@@ -6,11 +6,11 @@ use book::State;
 ghost use mathlib.Core.Path.{_≡_};
 ghost use Prim.Native.Nat.{_+_, _*_, _%_, _≤_};
 ghost use lib.ListN.{length, take};
-ghost use Rattle.book.specs.Call.{call, fedOf, laid};
-ghost use Rattle.benchdesk.specs.Bench.{codeOf, benched, numberOf, laidBy};
+ghost use Rattle.book.specs.Call.{call, fedOf, linesLaid};
+ghost use Rattle.benchdesk.specs.Bench.{benchCode, benched, numberOf, laidBy};
 
 fn code_of(answer: Answer) -> u64
-    ensures { λ r. ⌜ r ≡ codeOf answer ⌝ }
+    ensures { λ r. ⌜ r ≡ benchCode answer ⌝ }
     ensures { λ r. ⌜ r ≤ 255 ⌝ }
 {
     match answer {
@@ -24,7 +24,7 @@ fn code_of(answer: Answer) -> u64
 // The first bytes of rest, part of them at most.
 fn feed_part(state: State, rest: &[u8], part: usize, out: &mut [u8]) -> Fed
     ensures { λ r. ⌜ r ≡ fedOf (call state (take part (now (rest .entry))) (length (now (out .entry)))) ⌝ }
-    ensures { λ r. ⌜ now (out .exit) ≡ laid (call state (take part (now (rest .entry))) (length (now (out .entry)))) (now (out .entry)) ⌝ }
+    ensures { λ r. ⌜ now (out .exit) ≡ linesLaid (call state (take part (now (rest .entry))) (length (now (out .entry)))) (now (out .entry)) ⌝ }
     ensures { λ r. ⌜ (r .taken ≤ length (now (rest .entry))) × (r .written ≤ length (now (out .entry))) ⌝ }
 {
     let n = least(part, rest.len());

@@ -13,7 +13,7 @@ use Rattle.book.specs.declared.State.{State}
 use Rattle.book.specs.declared.Fed.{Fed}
 use Rattle.book.specs.State.{InRange, inRange}
 use Rattle.book.specs.Run.{Outcome, outcome, run}
-use Rattle.book.specs.Call.{longest, fits, answerOf, outside, call, fedOf, laid}
+use Rattle.book.specs.Call.{longest, fits, answerOf, outside, call, fedOf, linesLaid}
 use Rattle.book.specs.Inner.{Reading, fed}
 use Rattle.book.proofs.Ranges.{range-test}
 use Rattle.book.proofs.Runs.{run-none, run-ended}
@@ -81,13 +81,13 @@ module _ {input out₀ : List ℕ} {s₀ : State} {out : List ℕ} {s : State} {
 
   -- the three clauses of feed's contract
   pub meets : {f : Fed} → f ≡ fed s i w (length input) → Done s₀ input (length out₀) s i (take w out)
-      → (f ≡ fedOf (call s₀ input (length out₀))) × ((out ≡ laid (call s₀ input (length out₀)) out₀) ×
+      → (f ≡ fedOf (call s₀ input (length out₀))) × ((out ≡ linesLaid (call s₀ input (length out₀)) out₀) ×
       ((f .taken ≤ length input) × (f .written ≤ length out₀)))
   meets g e =
       let l = length-take-le w out (r .fits) in
       rw (g, e, l) (refl, (rw (← r .rest) (sym (take-append-drop w out)), (r .within, omega (arith, r .fits, r .long))))
 
 pub meets-outside : (s : State) (xs out₀ : List ℕ) {f : Fed} → inRange s ≡ false → f ≡ fedOf (outside s)
-    → (f ≡ fedOf (call s xs (length out₀))) × ((out₀ ≡ laid (call s xs (length out₀)) out₀) × ((f .taken ≤ length xs) × (f .written ≤ length out₀)))
+    → (f ≡ fedOf (call s xs (length out₀))) × ((out₀ ≡ linesLaid (call s xs (length out₀)) out₀) × ((f .taken ≤ length xs) × (f .written ≤ length out₀)))
 unfolding call
 meets-outside s xs out₀ e g = rw (g, e) (refl, (refl, (omega arith, omega arith)))

@@ -15,7 +15,7 @@ use Rattle.codec.specs.Codec.{valAt}
 use Rattle.codec.proofs.BigEndian.{valAt-same}
 use Rattle.book.specs.Front.{Front, unfinished, badLength, whole, need, bad, front}
 use Rattle.book.specs.State.{isUnfinished}
-use Rattle.book.specs.Inner.{byLength, codeOf}
+use Rattle.book.specs.Inner.{byLength, frontNumber}
 
 -- ---- the length stands in the first two bytes
 
@@ -140,25 +140,25 @@ held-whole h xs b =
 
 -- ---- the number of a front
 
-pub code-some : (f : Front) → (codeOf f ≡ 0 → ⊥) → isUnfinished f ≡ false
+pub code-some : (f : Front) → (frontNumber f ≡ 0 → ⊥) → isUnfinished f ≡ false
 code-some unfinished h = absurd (h refl)
 code-some badLength h = refl
 code-some whole h = refl
 
-pub code-none : (f : Front) → eqb (codeOf f) 0 ≡ isUnfinished f
+pub code-none : (f : Front) → eqb (frontNumber f) 0 ≡ isUnfinished f
 code-none unfinished = refl
 code-none badLength = refl
 code-none whole = refl
 
-pub code-unfinished : (f : Front) → codeOf f ≡ 0 → f ≡ unfinished
+pub code-unfinished : (f : Front) → frontNumber f ≡ 0 → f ≡ unfinished
 code-unfinished unfinished e = refl
 code-unfinished badLength e = absurd (omega arith)
 code-unfinished whole e = absurd (omega arith)
 
-pub code-whole : (f : Front) → (codeOf f ≡ 0 → ⊥) → (codeOf f ≡ 1 → ⊥) → f ≡ whole
+pub code-whole : (f : Front) → (frontNumber f ≡ 0 → ⊥) → (frontNumber f ≡ 1 → ⊥) → f ≡ whole
 code-whole unfinished p q = absurd (p refl)
 code-whole badLength p q = absurd (q refl)
 code-whole whole p q = refl
 
-pub code-two : (f : Front) → codeOf f ≡ 2 → f ≡ whole
+pub code-two : (f : Front) → frontNumber f ≡ 2 → f ≡ whole
 code-two f e = code-whole f (λ z. absurd (omega arith)) (λ z. absurd (omega arith))

@@ -19,18 +19,18 @@ use Rattle.account.proofs.Keeps.{in-range-judge, in-range-length}
 use Rattle.book.specs.declared.walk.Found.the-variants.{Record, Ended}
 use Rattle.book.specs.declared.walk.Next.{Next}
 use Rattle.book.specs.Front.{Front, unfinished, badLength, whole, need, front}
-use Rattle.book.specs.Inner.{codeOf}
+use Rattle.book.specs.Inner.{frontNumber}
 use Rattle.book.proofs.RecordRuns.{record-in}
 use Rattle.book.specs.Walk.{recordAt, linesOf, noneBut, atFront, nextOf, linesAt, linesNext}
 
 -- ---- the front by its number
 
-pub front-bad : (f : Front) → codeOf f ≡ 1 → f ≡ badLength
+pub front-bad : (f : Front) → frontNumber f ≡ 1 → f ≡ badLength
 front-bad unfinished e = absurd (omega arith)
 front-bad badLength e = refl
 front-bad whole e = absurd (omega arith)
 
-pub front-begun : (f : Front) → (f ≡ whole → ⊥) → (codeOf f ≡ 1 → ⊥) → f ≡ unfinished
+pub front-begun : (f : Front) → (f ≡ whole → ⊥) → (frontNumber f ≡ 1 → ⊥) → f ≡ unfinished
 front-begun unfinished w b = refl
 front-begun badLength w b = absurd (b refl)
 front-begun whole w b = absurd (w refl)

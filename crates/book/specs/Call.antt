@@ -69,5 +69,5 @@ abbrev pub fedOf : Call → Fed
 fedOf c = record { state = c .state; taken = c .taken; written = length (c .bytes); answer = c .answer }
 
 -- the buffer after a call: lines go from its start; its bytes past those written stay
-abbrev pub laid : Call → List ℕ → List ℕ
-laid c out = c .bytes ++ drop (length (c .bytes)) out
+abbrev pub linesLaid : Call → List ℕ → List ℕ
+linesLaid c out = c .bytes ++ drop (length (c .bytes)) out

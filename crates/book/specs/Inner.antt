@@ -22,10 +22,10 @@ use Rattle.book.specs.Run.{Run, outcome, run}
 use Rattle.book.specs.Call.{answerOf}
 
 -- the number of a front
-abbrev pub codeOf : Front → ℕ
-codeOf unfinished = 0
-codeOf badLength = 1
-codeOf whole = 2
+abbrev pub frontNumber : Front → ℕ
+frontNumber unfinished = 0
+frontNumber badLength = 1
+frontNumber whole = 2
 
 -- what n bytes of the length l are at their front, where there are two at least
 abbrev pub byLength : ℕ → ℕ → Front

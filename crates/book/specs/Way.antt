@@ -15,14 +15,14 @@ pub record Part : Type 0 where
   pub room : ℕ
 
 -- the lines of a call, and then what the calls after it give
-abbrev pub after : Call → Outcome → Outcome
-after c o = record { state = o .state; bytes = c .bytes ++ o .bytes; left = o .left }
+abbrev pub calledThen : Call → Outcome → Outcome
+calledThen c o = record { state = o .state; bytes = c .bytes ++ o .bytes; left = o .left }
 
 -- a series of calls, one for each part, each going on from the state of the one before with the bytes that it left
 unfoldable pub way : State → List ℕ → List Part → Outcome
 way s xs [] = record { state = s; bytes = []; left = xs }
 way s xs (p ∷ ps) =
-    after (call s (take (p .offered) xs) (p .room))
+    calledThen (call s (take (p .offered) xs) (p .room))
     (way (call s (take (p .offered) xs) (p .room) .state) (drop (call s (take (p .offered) xs) (p .room) .taken) xs) ps)
 
 -- a way is at its end when every byte is taken, or the book is closed or refused

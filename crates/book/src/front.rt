@@ -12,7 +12,7 @@ ghost use Rattle.codec.specs.Codec.{valAt};
 ghost use Rattle.book.specs.Front.{front};
 ghost use Rattle.book.specs.State.{isUnfinished};
 ghost use Rattle.book.specs.WholeRecords.{Ready};
-ghost use Rattle.book.specs.Inner.{byLength, codeOf};
+ghost use Rattle.book.specs.Inner.{byLength, frontNumber};
 
 // Length outside 4..26.
 pub fn bad_length(length: u64) -> bool
@@ -23,7 +23,7 @@ pub fn bad_length(length: u64) -> bool
 
 // What n bytes of this length are at their front.
 fn front_by(length: u64, n: usize) -> u8
-    ensures { λ r. ⌜ r ≡ codeOf (byLength length n) ⌝ }
+    ensures { λ r. ⌜ r ≡ frontNumber (byLength length n) ⌝ }
 {
     if bad_length(length) {
         return 1;
@@ -34,7 +34,7 @@ fn front_by(length: u64, n: usize) -> u8
 // What the first n bytes of s are at their front: 0 an unfinished record, 1 a bad length, 2 a whole record.
 pub(crate) fn front_of(s: &[u8], n: usize) -> u8
     requires { ⌜ n ≤ length (now s) ⌝ }
-    ensures { λ r. ⌜ r ≡ codeOf (front (take n (now (s .entry)))) ⌝ }
+    ensures { λ r. ⌜ r ≡ frontNumber (front (take n (now (s .entry)))) ⌝ }
 {
     if n < 2 {
         return 0;

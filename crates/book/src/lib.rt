@@ -17,7 +17,7 @@ ghost use mathlib.Core.List.{_++_};
 ghost use Prim.Native.Nat.{_+_, _≤_};
 ghost use lib.ListN.{length};
 ghost use Rattle.book.specs.State.{InRange, heldOf, holding, inRange, noRecordYet};
-ghost use Rattle.book.specs.Call.{answerOf, call, fedOf, laid, outside};
+ghost use Rattle.book.specs.Call.{answerOf, call, fedOf, linesLaid, outside};
 ghost use Rattle.book.specs.Inner.{fed};
 
 // What the records before have made, and the first bytes of the record that is not whole yet: count of them, zeros behind.
@@ -162,7 +162,7 @@ impl State {
     // One call: it takes the longest beginning of the input whose lines fit out.
     pub fn feed(mut self, input: &[u8], out: &mut [u8]) -> Fed
         ensures result { λ r. ⌜ r ≡ fedOf (call self (now (input .entry)) (length (now (out .entry)))) ⌝ }
-        ensures lines { λ r. ⌜ now (out .exit) ≡ laid (call self (now (input .entry)) (length (now (out .entry)))) (now (out .entry)) ⌝ }
+        ensures lines { λ r. ⌜ now (out .exit) ≡ linesLaid (call self (now (input .entry)) (length (now (out .entry)))) (now (out .entry)) ⌝ }
         ensures counts { λ r. ⌜ (r .taken ≤ length (now (input .entry))) × (r .written ≤ length (now (out .entry))) ⌝ }
     {
         if !self.in_range() {

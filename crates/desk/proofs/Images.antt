@@ -11,7 +11,7 @@ use Rattle.base.specs.Choice.{pick}
 use Rattle.base.proofs.Tests.{by-test}
 use Rattle.image.specs.declared.Called.{Called}
 use Rattle.image.specs.Image.{imageSize, stateIn, isImage}
-use Rattle.image.specs.Calls.{callOn, calledOf, codeOf}
+use Rattle.image.specs.Calls.{callOn, calledOf, answerCode}
 use Rattle.image.proofs.Images.{image-parts}
 use Rattle.image.proofs.Calls.{call-image, call-none}
 use Rattle.desk.specs.Desk.{callNumber, startNumber}
@@ -26,7 +26,7 @@ written-few image xs room =
 pub called-few : {r : Called} (image xs : List ℕ) (room : ℕ) → r ≡ calledOf (callOn image xs room) → r .written < 2 ^ 32
 called-few image xs room e = rw e (written-few image xs room)
 
-pub is-call-number : {r : Called} {code : ℕ} (image xs : List ℕ) (room : ℕ) → r ≡ calledOf (callOn image xs room) → code ≡ codeOf (r .answer)
+pub is-call-number : {r : Called} {code : ℕ} (image xs : List ℕ) (room : ℕ) → r ≡ calledOf (callOn image xs room) → code ≡ answerCode (r .answer)
     → code * 2 ^ 32 + r .written ≡ callNumber (callOn image xs room)
 is-call-number image xs room e k = rw (k, e)
 

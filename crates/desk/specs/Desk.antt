@@ -13,11 +13,11 @@ use Rattle.image.specs.Image.{imageSize}
 use Rattle.image.specs.Calls as image
 
 -- the code of an answer, with so many bytes of the book left
-abbrev pub codeOf : Answer → ℕ → ℕ
-codeOf Closed left = pick (eqb left 0) 0 18
-codeOf Full left = 16
-codeOf More left = 17
-codeOf (Refused r) left = r .code
+abbrev pub deskCode : Answer → ℕ → ℕ
+deskCode Closed left = pick (eqb left 0) 0 18
+deskCode Full left = 16
+deskCode More left = 17
+deskCode (Refused r) left = r .code
 
 -- one call over the whole book, from no record
 abbrev pub deskCall : List ℕ → ℕ → Call
@@ -25,7 +25,7 @@ deskCall book room = call noRecordYet book room
 
 -- the number that the host program gets
 abbrev pub numberOf : Call → ℕ → ℕ
-numberOf c n = codeOf (c .answer) (n - c .taken) * 2 ^ 32 + length (c .bytes)
+numberOf c n = deskCode (c .answer) (n - c .taken) * 2 ^ 32 + length (c .bytes)
 
 abbrev pub deskNumber : List ℕ → ℕ → ℕ
 deskNumber book room = numberOf (deskCall book room) (length book)
@@ -34,7 +34,7 @@ deskNumber book room = numberOf (deskCall book room) (length book)
 
 -- no 18 here: bytes after the close show in the count taken
 abbrev pub callNumber : Call → ℕ
-callNumber c = image.codeOf (c .answer) * 2 ^ 32 + length (c .bytes)
+callNumber c = image.answerCode (c .answer) * 2 ^ 32 + length (c .bytes)
 
 -- 0, or 13 times 2^32 where the image's length is another
 abbrev pub startNumber : List ℕ → ℕ

@@ -5,13 +5,13 @@ use image::start;
 ghost use mathlib.Core.Path.{_≡_};
 ghost use Prim.Native.Nat.{_≤_};
 ghost use lib.ListN.{length};
-ghost use Rattle.book.specs.Call.{laid};
+ghost use Rattle.book.specs.Call.{linesLaid};
 ghost use Rattle.image.specs.Calls.{callOn, imageAfter, started};
-ghost use Rattle.desk.specs.Desk.{callNumber, codeOf, deskCall, deskNumber, startNumber};
+ghost use Rattle.desk.specs.Desk.{callNumber, deskCode, deskCall, deskNumber, startNumber};
 
 // The code of an answer, with so many bytes of the book left.
 fn code_of(answer: Answer, left: usize) -> u64
-    ensures { λ r. ⌜ (r ≡ codeOf answer left) × (r ≤ 255) ⌝ }
+    ensures { λ r. ⌜ (r ≡ deskCode answer left) × (r ≤ 255) ⌝ }
 {
     match answer {
         Answer::Closed => { if left == 0 { 0 } else { 18 } }
@@ -25,7 +25,7 @@ fn code_of(answer: Answer, left: usize) -> u64
 #[no_mangle]
 pub extern "C" fn herd_desk(book: &[u8], lines: &mut [u8]) -> u64
     ensures number { λ r. ⌜ r ≡ deskNumber (now (book .entry)) (length (now (lines .entry))) ⌝ }
-    ensures lines { λ r. ⌜ now (lines .exit) ≡ laid (deskCall (now (book .entry)) (length (now (lines .entry)))) (now (lines .entry)) ⌝ }
+    ensures lines { λ r. ⌜ now (lines .exit) ≡ linesLaid (deskCall (now (book .entry)) (length (now (lines .entry)))) (now (lines .entry)) ⌝ }
 {
     // No record yet is an image of zeros. With herd_call there is one caller of the reader, so that the compiler makes both of them one function.
     let mut image = [0u8; image::SIZE];
@@ -50,7 +50,7 @@ pub extern "C" fn herd_call(image: &mut [u8], part: &[u8], lines: &mut [u8], tak
     ensures number { λ r. ⌜ r ≡ callNumber (callOn (now (image .entry)) (now (part .entry)) (length (now (lines .entry)))) ⌝ }
     ensures taken { λ r. ⌜ now (taken .exit) ≡ callOn (now (image .entry)) (now (part .entry)) (length (now (lines .entry))) .taken ⌝ }
     ensures image { λ r. ⌜ now (image .exit) ≡ imageAfter (now (image .entry)) (now (part .entry)) (length (now (lines .entry))) ⌝ }
-    ensures lines { λ r. ⌜ now (lines .exit) ≡ laid (callOn (now (image .entry)) (now (part .entry)) (length (now (lines .entry))))
+    ensures lines { λ r. ⌜ now (lines .exit) ≡ linesLaid (callOn (now (image .entry)) (now (part .entry)) (length (now (lines .entry))))
         (now (lines .entry)) ⌝ }
 {
     let called = call(image, part, lines);

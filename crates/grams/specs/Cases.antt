@@ -7,7 +7,7 @@ use lib.Dec.{eqb}
 use lib.IntN.{pos, negℤ}
 use Rattle.base.specs.Choice.{pick}
 use Rattle.base.specs.Signed.{wordOf}
-use Rattle.grams.specs.Cattle.{entericOf, nitrogenOf}
+use Rattle.grams.specs.Cattle.{entericOf, cattleNitrogenOf}
 use Rattle.grams.specs.Pig.{manureOf}
 use Rattle.grams.specs.Units.{co2Word}
 use Rattle.grams.specs.Farm.{soilOf}
@@ -63,10 +63,10 @@ cases =
     ∷ row (entericOf 27826 1 1 1 ∷ []) (1 ∷ [])
     ∷ row (entericOf 83475 1 1 1 ∷ []) (2 ∷ [])
     ∷ row (entericOf 30000 650 1 365 ∷ []) (127898 ∷ [])
-    ∷ row (cattleFigures (nitrogenOf p6 10)) (0 ∷ 1318672 ∷ (16370 + 12392) ∷ [])
+    ∷ row (cattleFigures (cattleNitrogenOf p6 10)) (0 ∷ 1318672 ∷ (16370 + 12392) ∷ [])
     ∷ row (pigFigures (manureOf p7 100)) (128640 ∷ 403200 ∷ (1267 + 1584) ∷ 302400 ∷ [])
     ∷ row (co2Word (soilOf 100) ∷ []) (18333333 ∷ [])
-    ∷ row (entericOf 30000 650 0 365 ∷ cattleFigures (nitrogenOf p6 0)) (0 ∷ 0 ∷ 0 ∷ 0 ∷ [])
+    ∷ row (entericOf 30000 650 0 365 ∷ cattleFigures (cattleNitrogenOf p6 0)) (0 ∷ 0 ∷ 0 ∷ 0 ∷ [])
     ∷ row (pigFigures (manureOf p7 0)) (0 ∷ 0 ∷ 0 ∷ 0 ∷ [])
     ∷ []
 

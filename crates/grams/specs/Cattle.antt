@@ -77,8 +77,8 @@ unfoldable pub manureOf : CattleRation → ℕ → CattleManure
 manureOf r head = storedOf (excretedOf (fedOf r - keptOf r) head (r .days)) r
 
 -- no figures where X is below zero
-abbrev pub nitrogenOf : CattleRation → ℕ → CattleNitrogen
-nitrogenOf r head = pick (belowZero r) BelowZero (Given (manureOf r head))
+abbrev pub cattleNitrogenOf : CattleRation → ℕ → CattleNitrogen
+cattleNitrogenOf r head = pick (belowZero r) BelowZero (Given (manureOf r head))
 
 -- the figures, where there are any, are within their bounds
 abbrev pub CattleSmall : CattleNitrogen → Type 0
@@ -87,5 +87,5 @@ CattleSmall (Given m) = (m .excreted ≤ 10 ^ 11) × (m .n2o .0 ≤ 10 ^ 10)
 
 -- what `nitrogen` answers
 pub record Nitrogen (r : CattleRation) (head : ℕ) (a : CattleNitrogen) : Type 0 where
-  pub exact : a ≡ nitrogenOf r head
+  pub exact : a ≡ cattleNitrogenOf r head
   pub small : CattleSmall a

@@ -31,8 +31,8 @@ abbrev pub ch4Of : ℕ → ℕ → ℕ → ℕ → ℕ
 ch4Of v mcf head days = roundDiv (v * mcf * head * days * 201) 625000000
 
 -- Excreted N = round(feed × protein × N factor × H × d × 7 / 62500000)
-abbrev pub nitrogenOf : ℕ → ℕ → ℕ → ℕ → ℕ → ℕ
-nitrogenOf feed protein nfactor head days = roundDiv (feed * protein * nfactor * head * days * 7) 62500000
+abbrev pub pigNitrogenOf : ℕ → ℕ → ℕ → ℕ → ℕ → ℕ
+pigNitrogenOf feed protein nfactor head days = roundDiv (feed * protein * nfactor * head * days * 7) 62500000
 
 -- Direct N2O = round(N × direct EF × 11 / 700000)
 abbrev pub directOf : ℕ → ℕ → N2o
@@ -61,7 +61,7 @@ recordSolids p = solidsOf (p .feed) (p .vs) (p .vsfactor)
 
 -- the record's N
 abbrev pub recordNitrogen : PigRation → ℕ → ℕ
-recordNitrogen p head = nitrogenOf (p .feed) (p .protein) (p .nfactor) head (p .days)
+recordNitrogen p head = pigNitrogenOf (p .feed) (p .protein) (p .nfactor) head (p .days)
 
 -- N2O is the sum of direct and indirect
 abbrev pub recordN2o : ℕ → PigRation → N2o

@@ -4,7 +4,7 @@ use crate::units::N2o;
 use crate::units::N2oN;
 ghost use Prim.Native.Nat.{_+_, _*_, _^_, _≤_};
 ghost use Rattle.grams.specs.Figure.{Figure, Gas};
-ghost use Rattle.grams.specs.Pig.{PigIn, Manure, solidsOf, ch4Of, nitrogenOf, directOf, indirectOf, landOf};
+ghost use Rattle.grams.specs.Pig.{PigIn, Manure, solidsOf, ch4Of, pigNitrogenOf, directOf, indirectOf, landOf};
 
 // A pig record, in the units of the book.
 pub struct PigRation {
@@ -48,7 +48,7 @@ fn ch4(v: u64, mcf: u64, head: u64, days: u64) -> u64
 
 fn nitrogen(feed: u64, protein: u64, nfactor: u64, head: u64, days: u64) -> u64
     requires { ⌜ (feed ≤ 1000) × (protein ≤ 4000) × (nfactor ≤ 2000) × (head ≤ 20000) × (days ≤ 366) ⌝ }
-    ensures { λ r. ⌜ Figure (nitrogenOf feed protein nfactor head days) (7 * 10 ^ 9) r ⌝ }
+    ensures { λ r. ⌜ Figure (pigNitrogenOf feed protein nfactor head days) (7 * 10 ^ 9) r ⌝ }
 {
     round_div(feed * protein * nfactor * head * days * 7, 62500000)
 }

@@ -16,13 +16,13 @@ use Rattle.book.specs.declared.Fed.{Fed}
 use Rattle.book.specs.declared.Answer.{Answer}
 use Rattle.book.specs.State.{noRecordYet, InRange, inRange}
 use Rattle.book.specs.Run.{outcome, run}
-use Rattle.book.specs.Call.{Call, longest, fits, answerOf, call, outside, fedOf, laid}
+use Rattle.book.specs.Call.{Call, longest, fits, answerOf, call, outside, fedOf, linesLaid}
 use Rattle.book.proofs.Ranges.{range-parts}
 use Rattle.book.proofs.RunLeaves.{run-leaves}
 use Rattle.book.proofs.Calls.{call-at}
 use Rattle.image.specs.declared.Called.{Called}
 use Rattle.image.specs.Image.{imageSize, imageOf, stateIn, Possible, isImage}
-use Rattle.image.specs.Calls.{started, callOn, imageAfter, calledOf, codeOf, noImage}
+use Rattle.image.specs.Calls.{started, callOn, imageAfter, calledOf, answerCode, noImage}
 use Rattle.image.proofs.Images.{image-back, is-image, other-length, by-range}
 use Rattle.image.proofs.Words.{call-possible}
 
@@ -47,7 +47,7 @@ after-none image xs room e = rw e
 -- where it is no image, it stays as it was, so do the lines, nothing is taken or written, and the answer is 13
 pub image-untouched : (image xs out : List ℕ) → isImage image ≡ false
     → (imageAfter image xs (length out) ≡ image)
-    × (laid (callOn image xs (length out)) out ≡ out)
+    × (linesLaid (callOn image xs (length out)) out ≡ out)
     × (calledOf (callOn image xs (length out)) ≡ noImage)
 image-untouched image xs out e =
     (after-none image xs (length out) e, rw (call-none image xs (length out) e), rw (call-none image xs (length out) e))
@@ -65,19 +65,19 @@ image-kept s xs room p = rw (call-is-feed s xs room p .1) (is-image (call s xs r
 
 -- ---- 13 is told of no state in range
 
-not-thirteen : (a : Account) (taken n : ℕ) → AccountInRange a → codeOf (answerOf a taken n) ≡ 13 → ⊥
+not-thirteen : (a : Account) (taken n : ℕ) → AccountInRange a → answerCode (answerOf a taken n) ≡ 13 → ⊥
 unfolding answerOf
 not-thirteen a taken n v =
-    of-choice (λ (r : Answer). codeOf r ≡ 13 → ⊥) (ltb (a .stage) 2)
-    (λ e. of-choice (λ (r : Answer). codeOf r ≡ 13 → ⊥) (eqb taken n) (λ f h. omega (arith, h)) (λ f h. omega (arith, h)))
-    (λ e. of-choice (λ (r : Answer). codeOf r ≡ 13 → ⊥) (eqb (a .stage) 2) (λ f h. omega (arith, h))
+    of-choice (λ (r : Answer). answerCode r ≡ 13 → ⊥) (ltb (a .stage) 2)
+    (λ e. of-choice (λ (r : Answer). answerCode r ≡ 13 → ⊥) (eqb taken n) (λ f h. omega (arith, h)) (λ f h. omega (arith, h)))
+    (λ e. of-choice (λ (r : Answer). answerCode r ≡ 13 → ⊥) (eqb (a .stage) 2) (λ f h. omega (arith, h))
     (λ f h.
     let late : 2 ≤ a .stage = ltb-false _ _ e in
     let no : a .stage ≡ 2 → ⊥ = eqb-false _ _ f in
     let r = v .ended .refused (omega (arith, no, v .started .counted .stage-most)) in
     omega (arith, h, r .code-most)))
 
-in-range-answer : (s : State) (xs : List ℕ) (room : ℕ) → InRange s → codeOf (call s xs room .answer) ≡ 13 → ⊥
+in-range-answer : (s : State) (xs : List ℕ) (room : ℕ) → InRange s → answerCode (call s xs room .answer) ≡ 13 → ⊥
 in-range-answer s xs room v =
     let n = longest (fits s xs room) (length xs) in
     let r = run s (take n xs) in
@@ -88,11 +88,11 @@ out-of-range : (s : State) (xs : List ℕ) (room : ℕ) → inRange s ≡ false 
 unfolding call
 out-of-range s xs room e = rw e
 
-thirteen-outside : (s : State) (xs : List ℕ) (room : ℕ) → codeOf (call s xs room .answer) ≡ 13 → inRange s ≡ false
+thirteen-outside : (s : State) (xs : List ℕ) (room : ℕ) → answerCode (call s xs room .answer) ≡ 13 → inRange s ≡ false
 thirteen-outside s xs room t = by-test (inRange s) (λ e. absurd (in-range-answer s xs room (range-parts s e) t)) (λ e. e)
 
-other-inside : (s : State) (xs : List ℕ) (room : ℕ) → (codeOf (call s xs room .answer) ≡ 13 → ⊥) → inRange s ≡ true
-other-inside s xs room t = by-test (inRange s) (λ e. e) (λ e. absurd (t (ap (λ (c : Call). codeOf (c .answer)) (out-of-range s xs room e))))
+other-inside : (s : State) (xs : List ℕ) (room : ℕ) → (answerCode (call s xs room .answer) ≡ 13 → ⊥) → inRange s ≡ true
+other-inside s xs room t = by-test (inRange s) (λ e. e) (λ e. absurd (t (ap (λ (c : Call). answerCode (c .answer)) (out-of-range s xs room e))))
 
 -- ---- what the code does
 
@@ -109,7 +109,7 @@ abbrev Meets : List ℕ → List ℕ → List ℕ → List ℕ → List ℕ → 
 Meets image image′ xs out out′ r =
     (r ≡ calledOf (callOn image xs (length out)))
     × ((image′ ≡ imageAfter image xs (length out))
-    × ((out′ ≡ laid (callOn image xs (length out)) out) × ((r .taken ≤ length xs) × (r .written ≤ length out))))
+    × ((out′ ≡ linesLaid (callOn image xs (length out)) out) × ((r .taken ≤ length xs) × (r .written ≤ length out))))
 
 module _ (image xs out : List ℕ) {r : Called} where
   meets-no-image : isImage image ≡ false → r ≡ noImage → Meets image image xs out out r
@@ -121,22 +121,22 @@ module _ (image xs out : List ℕ) {r : Called} where
   meets-length h e = meets-no-image (other-length image h) e
 
 module _ (image xs out out′ : List ℕ) {s : State} {f : Fed} (l : length image ≡ imageSize) (es : s ≡ stateIn image)
-    (ef : f ≡ fedOf (call s xs (length out))) (eo : out′ ≡ laid (call s xs (length out)) out) where
+    (ef : f ≡ fedOf (call s xs (length out))) (eo : out′ ≡ linesLaid (call s xs (length out)) out) where
   fed : f ≡ fedOf (call (stateIn image) xs (length out))
   fed = rw es at ef
 
   -- no state's
-  pub meets-outside : {k : ℕ} {r : Called} → k ≡ codeOf (f .answer) → k ≡ 13 → r ≡ noImage → Meets image image xs out out′ r
+  pub meets-outside : {k : ℕ} {r : Called} → k ≡ answerCode (f .answer) → k ≡ 13 → r ≡ noImage → Meets image image xs out out′ r
   meets-outside ek t e =
-      let o = thirteen-outside (stateIn image) xs (length out) (ap (λ (g : Fed). codeOf (g .answer)) (sym fed) ∙ sym ek ∙ t) in
+      let o = thirteen-outside (stateIn image) xs (length out) (ap (λ (g : Fed). answerCode (g .answer)) (sym fed) ∙ sym ek ∙ t) in
       let same : out′ ≡ out = rw (es, out-of-range (stateIn image) xs (length out) o) at eo in
       rw same (meets-no-image image xs out (by-range image l ∙ o) e)
 
   -- a state's: the image of the state handed back is written
-  pub meets-inside : {k : ℕ} {image′ : List ℕ} → k ≡ codeOf (f .answer) → (k ≡ 13 → ⊥) → image′ ≡ imageOf (f .state)
+  pub meets-inside : {k : ℕ} {image′ : List ℕ} → k ≡ answerCode (f .answer) → (k ≡ 13 → ⊥) → image′ ≡ imageOf (f .state)
       → (f .taken ≤ length xs) × (f .written ≤ length out)
       → Meets image image′ xs out out′ (record { taken = f .taken; written = f .written; answer = f .answer })
   meets-inside ek t ei c =
-      let o = other-inside (stateIn image) xs (length out) (λ e. t (ek ∙ ap (λ (g : Fed). codeOf (g .answer)) fed ∙ e)) in
+      let o = other-inside (stateIn image) xs (length out) (λ e. t (ek ∙ ap (λ (g : Fed). answerCode (g .answer)) fed ∙ e)) in
       let i = by-range image l ∙ o in
       rw (call-image image xs (length out) i, after-image image xs (length out) i, ei, eo, es, fed) (refl, (refl, (refl, rw fed at c)))

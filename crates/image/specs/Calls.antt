@@ -33,11 +33,11 @@ abbrev pub calledOf : Call → Called
 calledOf c = record { taken = c .taken; written = length (c .bytes); answer = c .answer }
 
 -- the number of an answer: 0 closed, 16 full, 17 more, else the refusal's
-abbrev pub codeOf : Answer → ℕ
-codeOf Closed = 0
-codeOf Full = 16
-codeOf More = 17
-codeOf (Refused r) = r .code
+abbrev pub answerCode : Answer → ℕ
+answerCode Closed = 0
+answerCode Full = 16
+answerCode More = 17
+answerCode (Refused r) = r .code
 
 -- refusal 13, nothing taken or written
 abbrev pub noImage : Called

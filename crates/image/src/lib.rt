@@ -12,9 +12,9 @@ ghost use mathlib.Core.Path.{_≡_};
 ghost use Prim.Native.Nat.{_≤_};
 ghost use lib.ListN.{length};
 ghost use lib.Dec.{eqb};
-ghost use Rattle.book.specs.Call.{laid};
+ghost use Rattle.book.specs.Call.{linesLaid};
 ghost use Rattle.image.specs.Image.{imageSize};
-ghost use Rattle.image.specs.Calls.{callOn, calledOf, codeOf, imageAfter, noImage, started};
+ghost use Rattle.image.specs.Calls.{callOn, calledOf, answerCode, imageAfter, noImage, started};
 
 // The one length of an image: 27 held bytes, one of their count, and the account's numbers.
 pub const SIZE: usize = 28 + account::numbers::BYTES;
@@ -44,7 +44,7 @@ fn no_image() -> Called
 
 // The number of an answer.
 pub fn code_of(answer: Answer) -> u64
-    ensures { λ r. ⌜ (r ≡ codeOf answer) × (r ≤ 255) ⌝ }
+    ensures { λ r. ⌜ (r ≡ answerCode answer) × (r ≤ 255) ⌝ }
 {
     match answer {
         Answer::Closed => 0,
@@ -71,7 +71,7 @@ pub fn start(image: &mut [u8]) -> bool
 pub fn call(image: &mut [u8], part: &[u8], lines: &mut [u8]) -> Called
     ensures result { λ r. ⌜ r ≡ calledOf (callOn (now (image .entry)) (now (part .entry)) (length (now (lines .entry)))) ⌝ }
     ensures image { λ r. ⌜ now (image .exit) ≡ imageAfter (now (image .entry)) (now (part .entry)) (length (now (lines .entry))) ⌝ }
-    ensures lines { λ r. ⌜ now (lines .exit) ≡ laid (callOn (now (image .entry)) (now (part .entry)) (length (now (lines .entry))))
+    ensures lines { λ r. ⌜ now (lines .exit) ≡ linesLaid (callOn (now (image .entry)) (now (part .entry)) (length (now (lines .entry))))
         (now (lines .entry)) ⌝ }
     ensures counts { λ r. ⌜ (r .taken ≤ length (now (part .entry))) × (r .written ≤ length (now (lines .entry))) ⌝ }
 {

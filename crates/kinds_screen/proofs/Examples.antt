@@ -13,7 +13,7 @@ use Rattle.typed_words.specs.Words.{leadingOf, nthWord, sameText, lowered, nthP
 use Rattle.typed_words.specs.Amounts.{numberFrom, amountOf}
 use Rattle.names.specs.Names.{kindTable, fieldTable, expectedTable, choiceTable, chosenFrom, decimalsTable}
 use Rattle.writer.specs.declared.typed_line.Said.the-variants.{Record}
-use Rattle.writer.specs.Line.{namedFrom, kindOf, rowOfLine, valueAt, valuesFrom, valuesIn, lineOf}
+use Rattle.writer.specs.Line.{namedFrom, kindOf, rowOfLine, valueAt, valuesFrom, valuesIn, lineSaid}
 use Rattle.kinds_screen.specs.Screen.{exampleTable, exampleOf, fieldsFrom, rowsFrom, screenText}
 
 -- how many values the example of a row has
@@ -21,14 +21,14 @@ abbrev valuesShown : ℕ → ℕ
 valuesShown row = pick (eqb row 8) 0 (length (fields row))
 
 pub record Right (row : ℕ) : Type 0 where
-  pub says : lineOf (exampleOf row) .said ≡ Record
-  pub kind : lineOf (exampleOf row) .entry .kind ≡ rowKind row
+  pub says : lineSaid (exampleOf row) .said ≡ Record
+  pub kind : lineSaid (exampleOf row) .entry .kind ≡ rowKind row
   pub by-row : rowOfLine (rowKind row) (exampleOf row) ≡ row
-  pub count : lineOf (exampleOf row) .entry .count ≡ valuesShown row
-  pub within : firstBad (take (valuesShown row) (fields row)) (valuesIn (lineOf (exampleOf row) .entry)) 0 ≡ 0
+  pub count : lineSaid (exampleOf row) .entry .count ≡ valuesShown row
+  pub within : firstBad (take (valuesShown row) (fields row)) (valuesIn (lineSaid (exampleOf row) .entry)) 0 ≡ 0
 
 pub examples-right : Right 1 × Right 2 × Right 3 × Right 4 × Right 5 × Right 6 × Right 7 × Right 8 × Right 9 × Right 10 × Right 11
-unfolding exampleTable lineOf kindOf rowOfLine kindTable namedFrom valuesFrom valueAt leadingOf nthWord sameText lowered amountOf numberFrom
+unfolding exampleTable lineSaid kindOf rowOfLine kindTable namedFrom valuesFrom valueAt leadingOf nthWord sameText lowered amountOf numberFrom
     decimalsTable table firstBad chosenFrom choiceTable nthPart indexOf indexAfter
 examples-right = (
   record { says = refl; kind = refl; by-row = refl; count = refl; within = refl },

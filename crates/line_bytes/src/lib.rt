@@ -122,7 +122,7 @@ pub fn size_of_kind(kind: u64) -> usize
     ensures { λ n. ⌜ n ≡ sizeOfKind kind ⌝ }
     ensures { λ n. ⌜ (lineSize ≤ n) × (n ≤ totalSize) ⌝ }
 {
-    if kind == 8 { TOTAL_SIZE } else { LINE_SIZE }
+    if kind == CLOSE { TOTAL_SIZE } else { LINE_SIZE }
 }
 
 // The bytes of a line's number by its place: kind, group, then the figures.
@@ -139,7 +139,7 @@ pub fn number_width(place: usize) -> usize
 pub fn is_line_kind(kind: u64) -> bool
     ensures { λ r. ⌜ r ≡ isLineKind kind ⌝ }
 {
-    (3 <= kind) & (kind <= codec::LAST_KIND) | (kind == 16)
+    (3 <= kind) & (kind <= codec::LAST_KIND) | (kind == SUBTOTAL as u64)
 }
 
 // Whether s begins with a whole line.

@@ -1,5 +1,6 @@
 // A line record as a row of text, in the form of the lister or of a sheet: the numbers are those of line_bytes.
 use base::rest_of;
+use codec::kinds::CLOSE;
 use line_bytes::LINE_NUMBERS;
 use line_bytes::LINE_SIZE;
 use line_bytes::TOTAL_SIZE;
@@ -116,7 +117,7 @@ pub fn put_line(out: &mut [u8], at: usize, form: Form, s: &[u8]) -> usize
     ensures { λ r. ⌜ Put (now (out .entry)) (now (out .exit)) at (lineRow form (now (s .entry))) r ⌝ }
     ensures { λ r. ⌜ r ≤ at + 4 * frontSize (now (s .entry)) ⌝ }
 {
-    if s[3] == 8 {
+    if s[3] == CLOSE as u8 {
         let numbers = total_numbers(s);
         put_row(out, at, form, true, &numbers)
     } else {

@@ -14,7 +14,7 @@ use Rattle.line_rows.specs.Rows.{rowMost, rowsText, header}
 use Rattle.account.specs.declared.Account.{Account}
 use Rattle.book.specs.declared.State.{State}
 use Rattle.book.specs.declared.Fed.{Fed}
-use Rattle.book.specs.Call.{call, fedOf, laid}
+use Rattle.book.specs.Call.{call, fedOf, linesLaid}
 use Rattle.printing.specs.Decimal.{numbersLine, Put}
 use Rattle.lister.specs.declared.Listed.{Listed}
 use Rattle.lister.specs.Listing.{closedWord, unfinishedWord, refusedWord, endText, lineRoom, headText, Lists}
@@ -65,7 +65,7 @@ module _ (form : Form) (room : ℕ) where
 
 pub lists : (form : Form) (s : State) (part before : List ℕ) {out out′ after : List ℕ} {f : Fed} {w room : ℕ} → length before ≡ room
     → f ≡ fedOf (call s part (length before))
-    → after ≡ laid (call s part (length before)) before → Put out out′ 0 (rowsText form (take (f .written) after)) w
+    → after ≡ linesLaid (call s part (length before)) before → Put out out′ 0 (rowsText form (take (f .written) after)) w
     → Lists form (call s part room) out out′ (record { state = f .state; taken = f .taken; written = w })
 lists form s part before {after = after} {f = f} l e d p =
     let c = call s part (length before) in

@@ -26,7 +26,7 @@ use Rattle.book.proofs.Ranges.{range-parts, range-test}
 use Rattle.make_record.specs.declared.Answer.{Answer}
 use Rattle.make_record.specs.declared.Answer.the-variants.{Wrote, Refused}
 use Rattle.make_record.specs.declared.Written.{Written}
-use Rattle.make_record.specs.Write.{Write, refusalBy, next, refusals, answerOf, refusing, writing, byAnswer, writeRow, writtenOf, laid, Ready}
+use Rattle.make_record.specs.Write.{Write, refusalBy, next, refusals, answerOf, refusing, writing, byAnswer, writeRow, writtenOf, recordLaid, Ready}
 use Rattle.make_record.specs.Write.{OfKind}
 
 -- ---- values that the reader would not refuse
@@ -194,22 +194,22 @@ none-of : (l : List ℕ) → length l ≡ 0 → l ≡ []
 none-of [] e = refl
 none-of (x ∷ l) e = absurd (omega arith)
 
-laid-none : (w : Write) (out : List ℕ) → length (w .bytes) ≡ 0 → out ≡ laid w out
+laid-none : (w : Write) (out : List ℕ) → length (w .bytes) ≡ 0 → out ≡ recordLaid w out
 laid-none w out e = rw (none-of (w .bytes) e)
 
-laid-record : (s : State) (row : ℕ) (v out : List ℕ) → 2 + lengthOf row ≤ length out → sets out 0 (recordBytes row v) ≡ laid (writing s row v) out
+laid-record : (s : State) (row : ℕ) (v out : List ℕ) → 2 + lengthOf row ≤ length out → sets out 0 (recordBytes row v) ≡ recordLaid (writing s row v) out
 laid-record s row v out h = rw zero-add at (sets-eq (recordBytes row v) out 0 (rw record-length (omega arith)))
 
 -- the three clauses of write's contract
 module _ (s : State) (k row : ℕ) (v out : List ℕ) {f : Written} (e : f ≡ writtenOf (writeRow s k row v (length out))) where
   -- nothing is written
   pub meets-none : f .written ≡ 0
-      → (f ≡ writtenOf (writeRow s k row v (length out))) × ((out ≡ laid (writeRow s k row v (length out)) out) × (f .written ≤ length out))
+      → (f ≡ writtenOf (writeRow s k row v (length out))) × ((out ≡ recordLaid (writeRow s k row v (length out)) out) × (f .written ≤ length out))
   meets-none z = (e, (laid-none (writeRow s k row v (length out)) out (sym (ap (λ (w : Written). w .written) e) ∙ z), omega arith))
 
   -- the record is written
   pub meets-wrote : {out′ : List ℕ} → Written-so s k row v (length out) → out′ ≡ sets out 0 (recordBytes row v)
-      → (f ≡ writtenOf (writeRow s k row v (length out))) × ((out′ ≡ laid (writeRow s k row v (length out)) out) × (f .written ≤ length out))
+      → (f ≡ writtenOf (writeRow s k row v (length out))) × ((out′ ≡ recordLaid (writeRow s k row v (length out)) out) × (f .written ≤ length out))
   meets-wrote w p =
       let n : length (writing s row v .bytes) ≤ length out = rw record-length (w .fits) in
       (e, (p ∙ rw (w .is) (laid-record s row v out (w .fits)), rw (e, w .is) n))

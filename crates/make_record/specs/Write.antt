@@ -90,8 +90,8 @@ abbrev pub writtenOf : Write → Written
 writtenOf w = record { state = w .state; written = length (w .bytes); answer = w .answer }
 
 -- the buffer after it: the record goes at its start; its bytes past those written stay
-abbrev pub laid : Write → List ℕ → List ℕ
-laid w out = w .bytes ++ drop (length (w .bytes)) out
+abbrev pub recordLaid : Write → List ℕ → List ℕ
+recordLaid w out = w .bytes ++ drop (length (w .bytes)) out
 
 -- ---- what the promises say it with
 

@@ -12,7 +12,7 @@ ghost use mathlib.Core.Path.{_≡_};
 ghost use Prim.Native.Nat.{_≤_};
 ghost use lib.ListN.{length};
 ghost use Rattle.book.specs.State.{holding};
-ghost use Rattle.make_record.specs.Write.{refusalBy, refusing, rowFor, write, writtenOf, laid};
+ghost use Rattle.make_record.specs.Write.{refusalBy, refusing, rowFor, write, writtenOf, recordLaid};
 
 // The writer's answer. A refusal goes with its number, the records accepted before it, and the field.
 pub enum Answer {
@@ -119,7 +119,7 @@ fn answered(state: State, kind: u64, values: &[u64], room: usize) -> Written
 // Writes a record of the kind with these values at the start of out, after the records of the state.
 pub fn write(state: State, kind: u64, values: &[u64], out: &mut [u8]) -> Written
     ensures result { λ r. ⌜ r ≡ writtenOf (write state kind (now (values .entry)) (length (now (out .entry)))) ⌝ }
-    ensures buffer { λ r. ⌜ now (out .exit) ≡ laid (write state kind (now (values .entry)) (length (now (out .entry)))) (now (out .entry)) ⌝ }
+    ensures buffer { λ r. ⌜ now (out .exit) ≡ recordLaid (write state kind (now (values .entry)) (length (now (out .entry)))) (now (out .entry)) ⌝ }
     ensures count { λ r. ⌜ r .written ≤ length (now (out .entry)) ⌝ }
 {
     let w = answered(state, kind, values, out.len());

@@ -14,12 +14,12 @@ use Rattle.bytes.specs.Bytes.{indexOf, indexAfter}
 use Rattle.typed_words.specs.Words.{nthPart}
 use Rattle.codec.specs.Table.{lastKind}
 use Rattle.printing.specs.Ascii.{ascii}
-use Rattle.names.specs.Names.{lineOf, noRow, kindName, namesFrom, decimalsTable, decimalsOf, decimalsAt}
+use Rattle.names.specs.Names.{tableLine, noRow, kindName, namesFrom, decimalsTable, decimalsOf, decimalsAt}
 
-pub line-past : (last k : ℕ) (text : List ℕ) → last < k → nthPart 10 last text ≡ lineOf last k text
+pub line-past : (last k : ℕ) (text : List ℕ) → last < k → nthPart 10 last text ≡ tableLine last k text
 line-past last k text h = let e : min k last ≡ last = omega arith in rw e
 
-pub line-within : (last k : ℕ) (text : List ℕ) → k ≤ last → nthPart 10 k text ≡ lineOf last k text
+pub line-within : (last k : ℕ) (text : List ℕ) → k ≤ last → nthPart 10 k text ≡ tableLine last k text
 line-within last k text h = let e : min k last ≡ k = omega arith in rw e
 
 -- ---- the names of all kinds, one after the other

@@ -18,7 +18,7 @@ use Rattle.typed_words.specs.Words.{nthPart, nthWord, leadingOf}
 use Rattle.typed_words.specs.Amounts.{aWhole, numberFrom, amountOf}
 use Rattle.codec.specs.declared.Field.{Field}
 use Rattle.codec.specs.Table.{field, table, fields}
-use Rattle.names.specs.Names.{lineOf, noRow, fieldTable, fieldNames, choiceTable, expectedTable, expected, decimalsTable, decimalsOf, decimalsAt}
+use Rattle.names.specs.Names.{tableLine, noRow, fieldTable, fieldNames, choiceTable, expectedTable, expected, decimalsTable, decimalsOf, decimalsAt}
 use Rattle.names.proofs.Lines.{allBelow, at-below}
 
 -- word n of what is expected of a field, as a number with the field's decimals
@@ -88,7 +88,7 @@ same-fields k =
 
 pub record Counted (k : ℕ) : Type 0 where
   pub names : pieces 44 (fieldNames k) ≡ length (fields k)
-  pub texts : pieces 59 (lineOf noRow k expectedTable) ≡ length (fields k)
+  pub texts : pieces 59 (tableLine noRow k expectedTable) ≡ length (fields k)
   pub digits : length (decimalsOf k) ≡ length (fields k)
 
 pub counts-true : (k : ℕ) → Counted k
@@ -96,11 +96,11 @@ counts-true k =
     let t = at-below (suc noRow) countTold all-counted (min k noRow) (omega arith) in
     let n = length (fields (min k noRow)) in
     let names = eqb (pieces 44 (fieldNames k)) n in
-    let texts = eqb (pieces 59 (lineOf noRow k expectedTable)) n in
+    let texts = eqb (pieces 59 (tableLine noRow k expectedTable)) n in
     let digits = eqb (length (decimalsOf k)) n in
     let count : n ≡ length (fields k) = ap length (same-fields k) in
     record {
       names = eqb-true (pieces 44 (fieldNames k)) n (passed names (and-l names (texts && digits) t)) ∙ count;
-      texts = eqb-true (pieces 59 (lineOf noRow k expectedTable)) n (passed texts (and-l texts digits (and-r names (texts && digits) t))) ∙ count;
+      texts = eqb-true (pieces 59 (tableLine noRow k expectedTable)) n (passed texts (and-l texts digits (and-r names (texts && digits) t))) ∙ count;
       digits = eqb-true (length (decimalsOf k)) n (passed digits (and-r texts digits (and-r names (texts && digits) t))) ∙ count;
     }

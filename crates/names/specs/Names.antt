@@ -11,8 +11,8 @@ use Rattle.printing.specs.Ascii.{ascii}
 use Rattle.printing.specs.Decimal.{pointed}
 
 -- the line k of a text, counted from 0; from the last on all are the same
-abbrev pub lineOf : ℕ → ℕ → List ℕ → List ℕ
-lineOf last k text = nthPart 10 (min k last) text
+abbrev pub tableLine : ℕ → ℕ → List ℕ → List ℕ
+tableLine last k text = nthPart 10 (min k last) text
 
 -- ---- the kinds: a line for each row of the table, from 0, the farm record of version 2 behind the kinds; no other has fields
 
@@ -24,7 +24,7 @@ unfoldable pub kindTable : List ℕ
 kindTable = ascii "record\nfarm\nheading\nenteric\ncattle\npig\nenergy\nsoil\nclose\ntillage\ngrazing\nfarm\nrecord"
 
 abbrev pub kindName : ℕ → List ℕ
-kindName k = lineOf noRow k kindTable
+kindName k = tableLine noRow k kindTable
 
 -- the names of n kinds from k on, with a comma before each
 unfoldable pub namesFrom : ℕ → ℕ → List ℕ
@@ -52,7 +52,7 @@ fieldTable =
     ++ ascii " farm number, year, CH4 factor, N2O factor"
 
 abbrev pub fieldNames : ℕ → List ℕ
-fieldNames k = lineOf noRow k fieldTable
+fieldNames k = tableLine noRow k fieldTable
 
 -- the name of field i, counted from 0
 abbrev pub fieldName : ℕ → ℕ → List ℕ
@@ -62,7 +62,7 @@ fieldName k i = nthPart 44 i (fieldNames k)
 
 -- the text of field i, counted from 0, of a row, in a table whose lines have a semicolon between fields
 abbrev pub cellOf : ℕ → ℕ → List ℕ → List ℕ
-cellOf row i table = nthPart 59 i (lineOf noRow row table)
+cellOf row i table = nthPart 59 i (tableLine noRow row table)
 
 -- the words for 1, 2, .., with a comma between; nothing for any other field
 unfoldable pub choiceTable : List ℕ
@@ -131,7 +131,7 @@ unfoldable pub decimalsTable : List ℕ
 decimalsTable = ascii "\n000\n000\n022\n022220222\n024332353535\n010\n2\n0\n00002\n0002\n0000"
 
 abbrev pub decimalsOf : ℕ → List ℕ
-decimalsOf k = lineOf noRow k decimalsTable
+decimalsOf k = tableLine noRow k decimalsTable
 
 -- 0 where there is no such field
 abbrev pub decimalsAt : ℕ → ℕ → ℕ
@@ -191,7 +191,7 @@ sentenceTable =
     ++ ascii "no such number"
 
 abbrev pub sentence : ℕ → List ℕ
-sentence code = lineOf 24 code sentenceTable
+sentence code = tableLine 24 code sentenceTable
 
 -- ---- a word that is told back
 

@@ -16,7 +16,7 @@ ghost use Rattle.codec.specs.Table.{fields};
 ghost use Rattle.printing.specs.Ascii.{ascii};
 ghost use Rattle.printing.specs.Said.{Said};
 ghost use Rattle.typed_words.specs.Words.{sameText, lowered};
-ghost use Rattle.names.specs.Names.{lineOf, kindName, kindNames, fieldNames, fieldName, cellOf, isChoice, choicesOf, wordFor, choiceWord};
+ghost use Rattle.names.specs.Names.{tableLine, kindName, kindNames, fieldNames, fieldName, cellOf, isChoice, choicesOf, wordFor, choiceWord};
 ghost use Rattle.names.specs.Names.{choicesMost, chosenFrom, chosen};
 ghost use Rattle.names.specs.Names.{expectedTable, choicesText, expected, decimalsAt, unitText, valueText, className, sentence, printedByte, shown};
 
@@ -59,7 +59,7 @@ atlantic, quebec, ontario, manitoba, saskatchewan, alberta, british-columbia;cow
 
 // The line k of a text, counted from 0; from the last on all are the same.
 fn line_of(text: &[u8], last: u64, k: u64) -> &[u8]
-    ensures { λ r. ⌜ now r ≡ lineOf last k (now (text .entry)) ⌝ }
+    ensures { λ r. ⌜ now r ≡ tableLine last k (now (text .entry)) ⌝ }
 {
     if last < k {
         return part(text, b'\n', last as usize);

@@ -10,7 +10,7 @@ use Rattle.book.specs.declared.State.{State}
 use Rattle.book.specs.State.{InRange}
 use Rattle.book.specs.Run.{outcome, run}
 use Rattle.book.specs.Call.{longest, fits, answerOf, call}
-use Rattle.book.specs.Way.{after}
+use Rattle.book.specs.Way.{calledThen}
 use Rattle.book.proofs.Outcomes.{outcome-append}
 use Rattle.book.proofs.Calls.{call-at}
 use Rattle.book.proofs.RunLeaves.{Tail, run-leaves}
@@ -53,7 +53,7 @@ tail-on l xs n h t =
 
 -- a run is a call, and then a run of what is left
 pub call-goes : (s : State) (xs : List ℕ) (k room : ℕ) → InRange s
-    → outcome (run s xs) ≡ after (call s (take k xs) room) (outcome (run (call s (take k xs) room .state) (drop (call s (take k xs) room .taken) xs)))
+    → outcome (run s xs) ≡ calledThen (call s (take k xs) room) (outcome (run (call s (take k xs) room .state) (drop (call s (take k xs) room .taken) xs)))
 call-goes s xs k room v =
     let n = some s xs k room in
     let r = run s (take n xs) in

@@ -8,7 +8,7 @@ use Rattle.book.specs.declared.State.{State}
 use Rattle.book.specs.State.{InRange}
 use Rattle.book.specs.Run.{then, Outcome, outcome, run}
 use Rattle.book.specs.Call.{call}
-use Rattle.book.specs.Way.{Part, after, way, Ended}
+use Rattle.book.specs.Way.{Part, calledThen, way, Ended}
 use Rattle.book.proofs.Runs.{run-append, run-none, run-ended}
 use Rattle.book.proofs.Outcomes.{join}
 use Rattle.promises.proofs.Calls.{call-range, call-goes}
@@ -29,7 +29,7 @@ way-goes [] s xs v = record { range = v; on = refl }
 way-goes (p ∷ ps) s xs v =
     let c = call s (take (p .offered) xs) (p .room) in
     let i = way-goes ps (c .state) (drop (c .taken) xs) (call-range s xs (p .offered) (p .room) v) in
-    record { range = i .range; on = call-goes s xs (p .offered) (p .room) v ∙ ap (after c) (i .on) ∙ rw append-assoc }
+    record { range = i .range; on = call-goes s xs (p .offered) (p .room) v ∙ ap (calledThen c) (i .on) ∙ rw append-assoc }
 
 -- Rule 3: a series of calls from a state in range that is at its end has the state, the lines and the bytes left of the uncut run.
 pub rule-three : (s : State) (xs : List ℕ) (ps : List Part) → InRange s → Ended (way s xs ps) → way s xs ps ≡ outcome (run s xs)

@@ -4,7 +4,7 @@
 use Prim.Native.Nat.{ℕ}
 use mathlib.Core.List.{List, [], _∷_, _++_}
 use Rattle.grams.specs.Cases.{Row}
-use Rattle.promises.specs.Rows.{refused, farm, after}
+use Rattle.promises.specs.Rows.{refused, farm, rowAfter}
 use Rattle.promises.specs.EveryKind.Farm.{farmLimits}
 use Rattle.promises.specs.EveryKind.FarmFactors.{farmFactorsLimits}
 use Rattle.promises.specs.EveryKind.Heading.{headingLimits}
@@ -46,9 +46,9 @@ everyKindLimits =
 -- the number behind the last kind is none (3); where the version is wrong too, that is told
 abbrev pub noKind : List Row
 noKind =
-    after farm (0 ∷ 6 ∷ 1 ∷ 11 ∷ 0 ∷ 0 ∷ 0 ∷ 10 ∷ []) (refused 1 3 0)
-    ∷ after [] (0 ∷ 4 ∷ 2 ∷ 11 ∷ 0 ∷ 0 ∷ []) (refused 0 2 0)
-    ∷ after [] (0 ∷ 4 ∷ 1 ∷ 11 ∷ 0 ∷ 0 ∷ []) (refused 0 3 0)
+    rowAfter farm (0 ∷ 6 ∷ 1 ∷ 11 ∷ 0 ∷ 0 ∷ 0 ∷ 10 ∷ []) (refused 1 3 0)
+    ∷ rowAfter [] (0 ∷ 4 ∷ 2 ∷ 11 ∷ 0 ∷ 0 ∷ []) (refused 0 2 0)
+    ∷ rowAfter [] (0 ∷ 4 ∷ 1 ∷ 11 ∷ 0 ∷ 0 ∷ []) (refused 0 3 0)
     ∷ []
 
 -- exact halves of each kind's figures

@@ -5,7 +5,7 @@
 use mathlib.Core.List.{List, [], _∷_, _++_}
 use Rattle.codec.specs.Codec.{recordBytes}
 use Rattle.grams.specs.Cases.{Row}
-use Rattle.promises.specs.Rows.{nothing, going, closed, refused, farm, cow, sow, after, from}
+use Rattle.promises.specs.Rows.{nothing, going, closed, refused, farm, cow, sow, rowAfter, from}
 use Rattle.promises.specs.EveryKind.{everyKindLimits, noKind}
 use Rattle.promises.specs.EveryKind.Enteric.{enteric}
 use Rattle.promises.specs.EveryKind.Cattle.{nitrogen}
@@ -14,33 +14,33 @@ use Rattle.promises.specs.EveryKind.Cattle.{nitrogen}
 abbrev pub lengthsAndKinds : List Row
 lengthsAndKinds =
     -- 1: length outside 4..26, as soon as two bytes are in
-    after [] (0 ∷ []) nothing
-    ∷ after [] (0 ∷ 0 ∷ []) (refused 0 1 0)
-    ∷ after [] (0 ∷ 3 ∷ []) (refused 0 1 0)
-    ∷ after [] (0 ∷ 4 ∷ []) nothing
-    ∷ after [] (0 ∷ 26 ∷ []) nothing
-    ∷ after [] (0 ∷ 27 ∷ []) (refused 0 1 0)
-    ∷ after [] (0 ∷ 255 ∷ []) (refused 0 1 0)
-    ∷ after [] (1 ∷ 4 ∷ []) (refused 0 1 0)
-    ∷ after farm (0 ∷ 3 ∷ []) (refused 1 1 0)
-    ∷ after farm (0 ∷ 4 ∷ []) (going 1)
-    ∷ after farm (0 ∷ 26 ∷ []) (going 1)
-    ∷ after farm (0 ∷ 27 ∷ []) (refused 1 1 0)
+    rowAfter [] (0 ∷ []) nothing
+    ∷ rowAfter [] (0 ∷ 0 ∷ []) (refused 0 1 0)
+    ∷ rowAfter [] (0 ∷ 3 ∷ []) (refused 0 1 0)
+    ∷ rowAfter [] (0 ∷ 4 ∷ []) nothing
+    ∷ rowAfter [] (0 ∷ 26 ∷ []) nothing
+    ∷ rowAfter [] (0 ∷ 27 ∷ []) (refused 0 1 0)
+    ∷ rowAfter [] (0 ∷ 255 ∷ []) (refused 0 1 0)
+    ∷ rowAfter [] (1 ∷ 4 ∷ []) (refused 0 1 0)
+    ∷ rowAfter farm (0 ∷ 3 ∷ []) (refused 1 1 0)
+    ∷ rowAfter farm (0 ∷ 4 ∷ []) (going 1)
+    ∷ rowAfter farm (0 ∷ 26 ∷ []) (going 1)
+    ∷ rowAfter farm (0 ∷ 27 ∷ []) (refused 1 1 0)
     -- on the last byte of a record, not before
-    ∷ after farm (0 ∷ 4 ∷ 2 ∷ 9 ∷ 0 ∷ []) (going 1)
+    ∷ rowAfter farm (0 ∷ 4 ∷ 2 ∷ 9 ∷ 0 ∷ []) (going 1)
     -- 2: neither version 1, nor version 2 of kind 1
-    ∷ after [] (0 ∷ 9 ∷ 0 ∷ 1 ∷ 0 ∷ 0 ∷ 0 ∷ 7 ∷ 7 ∷ 218 ∷ 1 ∷ []) (refused 0 2 0)
-    ∷ after [] (0 ∷ 12 ∷ 0 ∷ 1 ∷ 0 ∷ 0 ∷ 0 ∷ 7 ∷ 7 ∷ 218 ∷ 0 ∷ 21 ∷ 1 ∷ 54 ∷ []) (refused 0 2 0)
-    ∷ after [] (0 ∷ 12 ∷ 3 ∷ 1 ∷ 0 ∷ 0 ∷ 0 ∷ 7 ∷ 7 ∷ 218 ∷ 0 ∷ 21 ∷ 1 ∷ 54 ∷ []) (refused 0 2 0)
-    ∷ after farm (0 ∷ 4 ∷ 2 ∷ 0 ∷ 0 ∷ 0 ∷ []) (refused 1 2 0)
-    ∷ after farm (0 ∷ 12 ∷ 2 ∷ 11 ∷ 0 ∷ 0 ∷ 0 ∷ 7 ∷ 7 ∷ 218 ∷ 0 ∷ 21 ∷ 1 ∷ 54 ∷ []) (refused 1 2 0)
-    ∷ after farm (0 ∷ 6 ∷ 0 ∷ 7 ∷ 0 ∷ 0 ∷ 0 ∷ 10 ∷ []) (refused 1 2 0)
-    ∷ after farm (0 ∷ 6 ∷ 1 ∷ 7 ∷ 0 ∷ 0 ∷ 0 ∷ 10 ∷ []) (going 2)
-    ∷ after farm (0 ∷ 6 ∷ 2 ∷ 7 ∷ 0 ∷ 0 ∷ 0 ∷ 10 ∷ []) (refused 1 2 0)
-    ∷ after farm (0 ∷ 6 ∷ 255 ∷ 7 ∷ 0 ∷ 0 ∷ 0 ∷ 10 ∷ []) (refused 1 2 0)
+    ∷ rowAfter [] (0 ∷ 9 ∷ 0 ∷ 1 ∷ 0 ∷ 0 ∷ 0 ∷ 7 ∷ 7 ∷ 218 ∷ 1 ∷ []) (refused 0 2 0)
+    ∷ rowAfter [] (0 ∷ 12 ∷ 0 ∷ 1 ∷ 0 ∷ 0 ∷ 0 ∷ 7 ∷ 7 ∷ 218 ∷ 0 ∷ 21 ∷ 1 ∷ 54 ∷ []) (refused 0 2 0)
+    ∷ rowAfter [] (0 ∷ 12 ∷ 3 ∷ 1 ∷ 0 ∷ 0 ∷ 0 ∷ 7 ∷ 7 ∷ 218 ∷ 0 ∷ 21 ∷ 1 ∷ 54 ∷ []) (refused 0 2 0)
+    ∷ rowAfter farm (0 ∷ 4 ∷ 2 ∷ 0 ∷ 0 ∷ 0 ∷ []) (refused 1 2 0)
+    ∷ rowAfter farm (0 ∷ 12 ∷ 2 ∷ 11 ∷ 0 ∷ 0 ∷ 0 ∷ 7 ∷ 7 ∷ 218 ∷ 0 ∷ 21 ∷ 1 ∷ 54 ∷ []) (refused 1 2 0)
+    ∷ rowAfter farm (0 ∷ 6 ∷ 0 ∷ 7 ∷ 0 ∷ 0 ∷ 0 ∷ 10 ∷ []) (refused 1 2 0)
+    ∷ rowAfter farm (0 ∷ 6 ∷ 1 ∷ 7 ∷ 0 ∷ 0 ∷ 0 ∷ 10 ∷ []) (going 2)
+    ∷ rowAfter farm (0 ∷ 6 ∷ 2 ∷ 7 ∷ 0 ∷ 0 ∷ 0 ∷ 10 ∷ []) (refused 1 2 0)
+    ∷ rowAfter farm (0 ∷ 6 ∷ 255 ∷ 7 ∷ 0 ∷ 0 ∷ 0 ∷ 10 ∷ []) (refused 1 2 0)
     -- 3: no kind, whatever kinds there are
-    ∷ after farm (0 ∷ 6 ∷ 1 ∷ 0 ∷ 0 ∷ 0 ∷ 0 ∷ 10 ∷ []) (refused 1 3 0)
-    ∷ after farm (0 ∷ 6 ∷ 1 ∷ 255 ∷ 0 ∷ 0 ∷ 0 ∷ 10 ∷ []) (refused 1 3 0)
+    ∷ rowAfter farm (0 ∷ 6 ∷ 1 ∷ 0 ∷ 0 ∷ 0 ∷ 0 ∷ 10 ∷ []) (refused 1 3 0)
+    ∷ rowAfter farm (0 ∷ 6 ∷ 1 ∷ 255 ∷ 0 ∷ 0 ∷ 0 ∷ 10 ∷ []) (refused 1 3 0)
     ∷ []
 
 -- count, place and days of several kinds (5, 6, 9)
@@ -52,30 +52,30 @@ placesAndDays =
     ∷ from 4095 (recordBytes 8 (4095 ∷ [])) (closed 4096)
     ∷ from 4096 (recordBytes 8 (4096 ∷ [])) (refused 4096 5 0)
     -- 6: kinds 6 and 7 do not end a heading; the last heading counts
-    ∷ after cow (recordBytes 6 (1 ∷ 20 ∷ 30 ∷ []) ++ recordBytes 7 (10 ∷ []) ++ enteric 10) (going 5)
-    ∷ after cow (recordBytes 2 (2 ∷ 4 ∷ 1 ∷ []) ++ enteric 10) (refused 3 6 0)
-    ∷ after sow (recordBytes 2 (2 ∷ 3 ∷ 1 ∷ []) ++ enteric 10) (going 4)
+    ∷ rowAfter cow (recordBytes 6 (1 ∷ 20 ∷ 30 ∷ []) ++ recordBytes 7 (10 ∷ []) ++ enteric 10) (going 5)
+    ∷ rowAfter cow (recordBytes 2 (2 ∷ 4 ∷ 1 ∷ []) ++ enteric 10) (refused 3 6 0)
+    ∷ rowAfter sow (recordBytes 2 (2 ∷ 3 ∷ 1 ∷ []) ++ enteric 10) (going 4)
     -- 9: each kind for itself, from zero at a new heading
-    ∷ after cow (enteric 366 ++ nitrogen 366) (going 4)
-    ∷ after cow (enteric 366 ++ recordBytes 2 (2 ∷ 2 ∷ 1 ∷ []) ++ enteric 366) (going 5)
+    ∷ rowAfter cow (enteric 366 ++ nitrogen 366) (going 4)
+    ∷ rowAfter cow (enteric 366 ++ recordBytes 2 (2 ∷ 2 ∷ 1 ∷ []) ++ enteric 366) (going 5)
     ∷ []
 
 -- the order they are tried
 abbrev pub firstTold : List Row
 firstTold =
     -- each before the next, where a record breaks two
-    after [] (0 ∷ 27 ∷ 2 ∷ []) (refused 0 1 0)
-    ∷ after [] (0 ∷ 5 ∷ 1 ∷ 3 ∷ 0 ∷ 0 ∷ 0 ∷ []) (refused 0 4 0)
-    ∷ after farm (enteric 0) (refused 1 6 0)
-    ∷ after farm (recordBytes 1 (7 ∷ 1899 ∷ 3 ∷ [])) (refused 1 6 0)
-    ∷ after cow (recordBytes 2 (1 ∷ 5 ∷ 20001 ∷ [])) (refused 2 7 2)
-    ∷ after cow (enteric 366 ++ enteric 367) (refused 3 7 1)
-    ∷ after cow (nitrogen 366 ++ recordBytes 4 (1 ∷ 0 ∷ 0 ∷ 9 ∷ 9 ∷ 0 ∷ 0 ∷ 0 ∷ 0 ∷ [])) (refused 3 9 0)
-    ∷ after cow (recordBytes 4 (1 ∷ 0 ∷ 0 ∷ 9 ∷ 9 ∷ 0 ∷ 0 ∷ 0 ∷ 0 ∷ [])) (refused 2 10 0)
+    rowAfter [] (0 ∷ 27 ∷ 2 ∷ []) (refused 0 1 0)
+    ∷ rowAfter [] (0 ∷ 5 ∷ 1 ∷ 3 ∷ 0 ∷ 0 ∷ 0 ∷ []) (refused 0 4 0)
+    ∷ rowAfter farm (enteric 0) (refused 1 6 0)
+    ∷ rowAfter farm (recordBytes 1 (7 ∷ 1899 ∷ 3 ∷ [])) (refused 1 6 0)
+    ∷ rowAfter cow (recordBytes 2 (1 ∷ 5 ∷ 20001 ∷ [])) (refused 2 7 2)
+    ∷ rowAfter cow (enteric 366 ++ enteric 367) (refused 3 7 1)
+    ∷ rowAfter cow (nitrogen 366 ++ recordBytes 4 (1 ∷ 0 ∷ 0 ∷ 9 ∷ 9 ∷ 0 ∷ 0 ∷ 0 ∷ 0 ∷ [])) (refused 3 9 0)
+    ∷ rowAfter cow (recordBytes 4 (1 ∷ 0 ∷ 0 ∷ 9 ∷ 9 ∷ 0 ∷ 0 ∷ 0 ∷ 0 ∷ [])) (refused 2 10 0)
     -- of several fields the first
-    ∷ after farm (recordBytes 2 (0 ∷ 0 ∷ 20001 ∷ [])) (refused 1 7 1)
-    ∷ after cow (recordBytes 3 (1 ∷ 100001 ∷ 2001 ∷ [])) (refused 2 7 2)
-    ∷ after sow (recordBytes 5 (10 ∷ 20 ∷ 5001 ∷ 40 ∷ 50 ∷ 60 ∷ 70 ∷ 80 ∷ 90 ∷ 100 ∷ 110 ∷ 10001 ∷ [])) (refused 2 7 3)
+    ∷ rowAfter farm (recordBytes 2 (0 ∷ 0 ∷ 20001 ∷ [])) (refused 1 7 1)
+    ∷ rowAfter cow (recordBytes 3 (1 ∷ 100001 ∷ 2001 ∷ [])) (refused 2 7 2)
+    ∷ rowAfter sow (recordBytes 5 (10 ∷ 20 ∷ 5001 ∷ 40 ∷ 50 ∷ 60 ∷ 70 ∷ 80 ∷ 90 ∷ 100 ∷ 110 ∷ 10001 ∷ [])) (refused 2 7 3)
     ∷ []
 
 -- all of them

@@ -41,8 +41,8 @@ abbrev pub sow : List ℕ
 sow = farm ++ (0 ∷ 7 ∷ 1 ∷ 2 ∷ 0 ∷ 1 ∷ 4 ∷ 0 ∷ 1 ∷ [])
 
 -- these bytes after those
-abbrev pub after : List ℕ → List ℕ → List ℕ → Row
-after before bytes told = row (verdict (before ++ bytes)) told
+abbrev pub rowAfter : List ℕ → List ℕ → List ℕ → Row
+rowAfter before bytes told = row (verdict (before ++ bytes)) told
 
 -- a record of this length and kind, its other bytes zero
 abbrev pub blank : ℕ → ℕ → List ℕ

@@ -28,7 +28,7 @@ use Rattle.account.proofs.Refusals.{judged-passes}
 use Rattle.make_record.proofs.RoundTrip.{written-again}
 use Rattle.writer.specs.declared.typed_line.Entry.{Entry}
 use Rattle.writer.specs.declared.typed_line.Said.the-variants as said
-use Rattle.writer.specs.Line.{rowOfLine, valuesFrom, entry, lineOf, completedOf, valuesIn, writeEntry}
+use Rattle.writer.specs.Line.{rowOfLine, valuesFrom, entry, lineSaid, completedOf, valuesIn, writeEntry}
 use Rattle.writer.proofs.TypedLines.{kept as entry-kept}
 use Rattle.writer.specs.declared.Typist.{Typist}
 use Rattle.writer.specs.declared.Lost.{Lost}
@@ -140,8 +140,8 @@ module _ (k : ℕ) (v : List ℕ) (least : 1 ≤ k) (most : k ≤ lastRow) (coun
       (λ j. let z : j + 0 ≡ j = omega arith in rw z (words-behind j))
 
   -- what the line says
-  pub says : lineOf (typedLine k v) ≡ record { said = said.Record; entry = entry (rowKind k) v }
-  unfolding lineOf
+  pub says : lineSaid (typedLine k v) ≡ record { said = said.Record; entry = entry (rowKind k) v }
+  unfolding lineSaid
   says =
       let n : length (kindName k) ≡ 0 → ⊥ = λ q. omega (arith, name-some k least most) in
       let few : length (typedLine k v) < 1024 = omega (arith, short) in
@@ -277,7 +277,7 @@ module _ (s : State) (y : Ready s) (r : List ℕ) (w : WholeRecord r) (b : Bytes
   abbrev said′ : Entry
   said′ = entry (kindByte r) (valuesOf r)
 
-  line-says : lineOf (typedLine (kindOf r) (valuesOf r)) ≡ record { said = said.Record; entry = said′ }
+  line-says : lineSaid (typedLine (kindOf r) (valuesOf r)) ≡ record { said = said.Record; entry = said′ }
   line-says =
       let own : rowKind (kindOf r) ≡ kindByte r = sym (kind-again (versionOf r) (kindByte r) kinds) in
       says (kindOf r) (valuesOf r) (of .least) (of .most) (of .count) all

@@ -22,7 +22,7 @@ use Rattle.account.specs.Range.{AccountInRange}
 use Rattle.account.proofs.Keeps.{in-range-none, in-range-judge}
 use Rattle.book.specs.State.{holding, noRecordYet}
 use Rattle.book.proofs.Ranges.{range-idle}
-use Rattle.writer.specs.Line.{entry, lineOf}
+use Rattle.writer.specs.Line.{entry, lineSaid}
 use Rattle.writer.specs.declared.Typist.{Typist}
 use Rattle.writer.specs.declared.Fate.the-variants.{Nothing}
 use Rattle.writer.specs.Typist.{beginning, hears, waits, writtenAs, Turn, turn, closingTurn, endTurn}
@@ -68,11 +68,11 @@ module _ (t : Typist) (l : Numbered) (ls : List Numbered) {x : Turn} (e : lineTu
 -- after the last line feed there is an empty line, which says nothing; then comes the end
 module _ (t : Typist) (n : ℕ) where
   end-bytes : from t n [] .bytes ≡ endTurn true t recordMost .bytes
-  unfolding linesOf numbered output turn lineOf nthWord leadingOf unmarked indexOf
+  unfolding linesOf numbered output turn lineSaid nthWord leadingOf unmarked indexOf
   end-bytes = rw (and-false (eqb n 1)) refl
 
   end-typist : from t n [] .typist ≡ endTurn true t recordMost .typist
-  unfolding linesOf numbered output turn lineOf nthWord leadingOf unmarked indexOf
+  unfolding linesOf numbered output turn lineSaid nthWord leadingOf unmarked indexOf
   end-typist = rw (and-false (eqb n 1)) refl
 
 -- no close waits, or one does

@@ -12,13 +12,13 @@ use Rattle.base.specs.Choice.{pick}
 use Rattle.codec.specs.Table.{lengthMost}
 use Rattle.account.specs.Line.{joined}
 use Rattle.book.specs.Front.{Front, unfinished, badLength, whole, need, front}
-use Rattle.book.specs.Inner.{codeOf}
+use Rattle.book.specs.Inner.{frontNumber}
 use Rattle.book.proofs.Fronts.{meaning, unfinished-short, bad-append, whole-append, length-append-two}
 use Rattle.book.specs.WholeRecords.{recordsOf}
 use Rattle.book.proofs.WholeRecords.{records-whole, rest-short}
 use Rattle.salvage.specs.declared.Reading.{Reading}
 use Rattle.salvage.specs.declared.turns.Turn.{Turn}
-use Rattle.salvage.specs.Salvage.{Entry, Found, nothing, with, droppedBy, ends, after, start, found, foundIn, salvageOf}
+use Rattle.salvage.specs.Salvage.{Entry, Found, nothing, with, droppedBy, ends, readingAfter, start, found, foundIn, salvageOf}
 use Rattle.salvage.specs.Promised.{readBy}
 use Rattle.salvage.specs.HowFar.{bytesRead}
 use Rattle.salvage.specs.Inner.{Open, Turned}
@@ -77,7 +77,7 @@ going-ends xs at {s} g e = omega (arith, bytes-none s (drop at xs) e, g .bytes)
 -- ---- where a longest record would have room after them, bytes after all of these change nothing
 
 not-both : badLength ≡ whole → ⊥
-not-both e = absurd (omega (arith, ap codeOf e))
+not-both e = absurd (omega (arith, ap frontNumber e))
 
 -- the first record of xs, with bytes after them
 first-with : (xs ys : List ℕ) → front xs ≡ whole → recordsOf (xs ++ ys) ≡ take (need xs) xs ∷ recordsOf (drop (need xs) xs ++ ys)
@@ -103,10 +103,10 @@ found-same (suc n) s xs ys p q = go (front xs) refl (λ e s′ h. found-same n s
     by-end e true d ih = rw (first-with xs ys e, records-whole xs e) (found-ends s r (recordsOf (rest ++ ys)) d ∙ sym (found-ends s r (recordsOf rest) d))
     by-end e false d ih =
         let m = meaning xs whole e in
-        let g : foundIn s xs ≡ with (droppedBy s r) (s .number) r (foundIn (after s r) rest) =
+        let g : foundIn s xs ≡ with (droppedBy s r) (s .number) r (foundIn (readingAfter s r) rest) =
         rw (records-whole xs e) (found-goes s r (recordsOf rest) d) in
-        let more = bytes-goes s (after s r) xs (need xs) (droppedBy s r) (s .number) (m .3) (records-whole xs e) g in
-        let same = ih (after s r) (omega (arith, more, q, length-drop (need xs) xs)) in
+        let more = bytes-goes s (readingAfter s r) xs (need xs) (droppedBy s r) (s .number) (m .3) (records-whole xs e) g in
+        let same = ih (readingAfter s r) (omega (arith, more, q, length-drop (need xs) xs)) in
         rw (first-with xs ys e)
         (found-goes s r (recordsOf (rest ++ ys)) d ∙ ap (λ (f : Found). with (droppedBy s r) (s .number) r f) same ∙ sym g)
 

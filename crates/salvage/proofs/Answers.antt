@@ -18,7 +18,7 @@ use Rattle.salvage.specs.declared.passes.Sizes.{Sizes}
 use Rattle.salvage.specs.declared.Salvaged.{Salvaged}
 use Rattle.salvage.specs.declared.Salvaged.the-variants.{Saved}
 use Rattle.salvage.specs.Salvage.{Entry, Found, start, found, bookOf, entryBytes, listOf, farmAmong, refusing, saving, Salvage, answering}
-use Rattle.salvage.specs.Salvage.{salvageOf, laid, answerFor, bookAfter, listAfter, foundIn}
+use Rattle.salvage.specs.Salvage.{salvageOf, savedIn, answerFor, bookAfter, listAfter, foundIn}
 use Rattle.salvage.specs.Inner.{Open, Measured}
 use Rattle.salvage.proofs.Fates.{gets-none, first-farm, dropped-account, open-after}
 use Rattle.salvage.proofs.OneTurn.{by-records}
@@ -93,16 +93,16 @@ module _ (xs : List ℕ) (bookRoom listRoom : ℕ) (m : Sizes) (d : Measured (fo
       (omega (arith, d .book, b), omega (arith, list-is (foundIn start xs) m d, l))
 
 -- a run of stores from the start on is bytes laid there
-pub laid-so : (bs out : List ℕ) → length bs ≤ length out → sets out 0 bs ≡ laid bs out
+pub laid-so : (bs out : List ℕ) → length bs ≤ length out → sets out 0 bs ≡ savedIn bs out
 laid-so bs out h = sets-eq bs out 0 (omega arith) ∙ rw zero-add
 
 -- ---- what a caller gets
 
 -- by the salvage
 pub gets : (xs book list : List ℕ) (s : Salvage) → salvageOf xs (length book) (length list) ≡ s
-    → (s .answer ≡ answerFor xs book list) × ((laid (s .book) book ≡ bookAfter xs book list) × (laid (s .list) list ≡ listAfter xs book list))
+    → (s .answer ≡ answerFor xs book list) × ((savedIn (s .book) book ≡ bookAfter xs book list) × (savedIn (s .list) list ≡ listAfter xs book list))
 gets xs book list s e =
-    (sym (ap (λ (x : Salvage). x .answer) e), (sym (ap (λ (x : Salvage). laid (x .book) book) e), sym (ap (λ (x : Salvage). laid (x .list) list) e)))
+    (sym (ap (λ (x : Salvage). x .answer) e), (sym (ap (λ (x : Salvage). savedIn (x .book) book) e), sym (ap (λ (x : Salvage). savedIn (x .list) list) e)))
 
 -- the lengths are those that were found
 pub lengths-are : (f : Found) (m : Sizes) → Measured f m

@@ -23,7 +23,7 @@ use Rattle.account.proofs.Sorts.{by-sort}
 use Rattle.account.proofs.Refusals.{not-refused}
 use Rattle.account.proofs.Keeps.{in-range-judge}
 use Rattle.salvage.specs.declared.Reading.{Reading}
-use Rattle.salvage.specs.Salvage.{wouldGet, oneOf, drops, droppedBy, ends, after}
+use Rattle.salvage.specs.Salvage.{wouldGet, oneOf, drops, droppedBy, ends, readingAfter}
 use Rattle.salvage.specs.Inner.{Open}
 use Rattle.salvage.proofs.KindRows.{row-eight, farm-row}
 
@@ -202,21 +202,21 @@ module _ (s : Reading) (r : List ℕ) where
     -- ---- the reading behind it
 
     -- the account: the record is in it, or it is as it was
-    pub kept-account : droppedBy s r ≡ 0 → after s r .account ≡ judge (s .account) r .account
+    pub kept-account : droppedBy s r ≡ 0 → readingAfter s r .account ≡ judge (s .account) r .account
     kept-account d = rw d
 
-    pub dropped-account : (droppedBy s r ≡ 0 → ⊥) → after s r .account ≡ s .account
+    pub dropped-account : (droppedBy s r ≡ 0 → ⊥) → readingAfter s r .account ≡ s .account
     dropped-account n = rw (ne-eqb _ _ n)
 
-    pub kept-records : droppedBy s r ≡ 0 → after s r .account .records ≡ s .account .records + 1
+    pub kept-records : droppedBy s r ≡ 0 → readingAfter s r .account .records ≡ s .account .records + 1
     kept-records d = rw (kept-account d) (grows (s .account) r (gets-none d) .records)
 
     module _ (o : Open s) where
-      pub open-after : Open (after s r)
+      pub open-after : Open (readingAfter s r)
       open-after = go (eqb (droppedBy s r) 0) refl
         where
           go : (b : Bool) → eqb (droppedBy s r) 0 ≡ b
-              → Open (record { account = pick b (judge (s .account) r .account) (s .account); lost = after s r .lost; number = after s r .number })
+              → Open (record { account = pick b (judge (s .account) r .account) (s .account); lost = readingAfter s r .lost; number = readingAfter s r .number })
           go true d =
               let z = eqb-true _ _ d in
               record {
@@ -225,7 +225,7 @@ module _ (s : Reading) (r : List ℕ) where
               }
           go false d = record { range = o .range; early = o .early }
 
-    pub records-after : after s r .account .records ≡ s .account .records + pick (eqb (droppedBy s r) 0) 1 0
+    pub records-after : readingAfter s r .account .records ≡ s .account .records + pick (eqb (droppedBy s r) 0) 1 0
     records-after = go (eqb (droppedBy s r) 0) refl
       where
         go : (b : Bool) → eqb (droppedBy s r) 0 ≡ b → pick b (judge (s .account) r .account) (s .account) .records ≡ s .account .records + pick b 1 0

@@ -22,7 +22,7 @@ use Rattle.book.proofs.WholeRecords.{records-whole}
 use Rattle.salvage.specs.declared.Reading.{Reading}
 use Rattle.salvage.specs.declared.Lengths.{Lengths}
 use Rattle.salvage.specs.declared.Salvaged.the-variants.{Saved}
-use Rattle.salvage.specs.Salvage.{wouldGet, oneOf, drops, droppedBy, after, start, Found, found, bookOf, salvageOf, foundIn}
+use Rattle.salvage.specs.Salvage.{wouldGet, oneOf, drops, droppedBy, readingAfter, start, Found, found, bookOf, salvageOf, foundIn}
 use Rattle.salvage.specs.Promised.{readBy, unlisted, Under, underHeadings, details}
 use Rattle.salvage.proofs.KindRows.{row-eight}
 use Rattle.salvage.proofs.OneTurn.{by-records}
@@ -61,7 +61,7 @@ none-kept : (s : Reading) (rs : List (List ℕ)) → Kept s rs (record { kept = 
 unfolding unlisted underHeadings details
 none-kept s rs = record { from = tt; same = λ h h′ p. refl }
 
-module _ (s : Reading) (r : List ℕ) (rs : List (List ℕ)) (f : Found) (ih : Kept (after s r) rs f) where
+module _ (s : Reading) (r : List ℕ) (rs : List (List ℕ)) (f : Found) (ih : Kept (readingAfter s r) rs f) where
   one-kept : droppedBy s r ≡ 0 → Kept s (r ∷ rs) (record { kept = r ∷ f .kept; dropped = f .dropped })
   unfolding underHeadings details
   one-kept d =

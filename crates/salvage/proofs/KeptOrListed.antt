@@ -16,7 +16,7 @@ use Rattle.account.specs.Account.{noRecord}
 use Rattle.account.specs.Judge.{kindByte, first}
 use Rattle.book.specs.WholeRecords.{recordsOf}
 use Rattle.salvage.specs.declared.Reading.{Reading}
-use Rattle.salvage.specs.Salvage.{wouldGet, oneOf, droppedBy, ends, after, start, Entry, Found, found, foundIn}
+use Rattle.salvage.specs.Salvage.{wouldGet, oneOf, droppedBy, ends, readingAfter, start, Entry, Found, found, foundIn}
 use Rattle.salvage.specs.Promised.{readBy, unlisted, Reason, Reasons}
 use Rattle.salvage.proofs.Fates.{kept-account, dropped-account}
 use Rattle.salvage.proofs.OneTurn.{by-records}
@@ -93,10 +93,10 @@ reason s r n =
 
 -- over a record that is kept
 pass : (s : Reading) (r : List ℕ) (rs : List (List ℕ)) (es : List Entry) → ends s r ≡ false → droppedBy s r ≡ 0 → From (s .number + 1) es
-    → Reasons (after s r .account) (after s r .lost) (s .number + 1) rs es → Reasons (s .account) (s .lost) (s .number) (r ∷ rs) es
+    → Reasons (readingAfter s r .account) (readingAfter s r .lost) (s .number + 1) rs es → Reasons (s .account) (s .lost) (s .number) (r ∷ rs) es
 pass s r rs [] e d h q = tt
 pass s r rs (x ∷ es) e d h q =
-    let l : after s r .lost ≡ pick (eqb (kindByte r) 2) false (s .lost) = rw d in
+    let l : readingAfter s r .lost ≡ pick (eqb (kindByte r) 2) false (s .lost) = rw d in
     (λ z. absurd (omega (arith, z)), λ z. rw (← kept-account s r e d, ← l) q)
 
 reasons : (s : Reading) (rs : List (List ℕ))
@@ -105,7 +105,7 @@ reasons =
     by-records (λ s rs f. From (s .number) (f .dropped) × Reasons (s .account) (s .lost) (s .number) rs (f .dropped)) (λ s rs. (tt, tt))
     (λ s r rs f e d ih. (from-less (s .number) (f .dropped) (ih .0), pass s r rs (f .dropped) e d (ih .0) (ih .1)))
     (λ s r rs f e n ih.
-    let l : after s r .lost ≡ pick (eqb (kindByte r) 2) true (s .lost) = rw (ne-eqb _ _ n) in
+    let l : readingAfter s r .lost ≡ pick (eqb (kindByte r) 2) true (s .lost) = rw (ne-eqb _ _ n) in
     (omega arith, (λ z. (reason s r n, rw (← dropped-account s r e n, ← l) (ih .1)), λ z. absurd (z refl))))
 
 -- ---- the promise

@@ -21,7 +21,7 @@ use Rattle.book.proofs.Walks.{records-none}
 use Rattle.salvage.specs.declared.Reading.{Reading}
 use Rattle.salvage.specs.declared.turns.Turn.{Turn}
 use Rattle.book.specs.WholeRecords.{Ready}
-use Rattle.salvage.specs.Salvage.{Found, nothing, with, drops, droppedBy, ends, after, found, foundIn}
+use Rattle.salvage.specs.Salvage.{Found, nothing, with, drops, droppedBy, ends, readingAfter, found, foundIn}
 use Rattle.salvage.specs.Inner.{Open, Turned}
 use Rattle.salvage.proofs.Fates.{code-is, open-after, records-after}
 
@@ -42,7 +42,7 @@ module _ (s : Reading) (r : List ℕ) (code kind : ℕ) (k : kind ≡ kindByte r
 
     pub next-is : (a : Account) (lost : Bool) → a ≡ pick (eqb code 0) (judge (s .account) r .account) (s .account)
         → lost ≡ pick (eqb kind 2) (not (eqb code 0)) (s .lost)
-        → _≡_ {A = Reading} (record { account = a; lost = lost; number = s .number + 1 }) (after s r)
+        → _≡_ {A = Reading} (record { account = a; lost = lost; number = s .number + 1 }) (readingAfter s r)
     next-is a lost e l = rw (e, l, d, k)
 
 -- ---- the fold, by what its first record does
@@ -52,25 +52,25 @@ unfolding found
 found-ends s r rs e = rw e
 
 pub found-goes : (s : Reading) (r : List ℕ) (rs : List (List ℕ)) → ends s r ≡ false
-    → found s (r ∷ rs) ≡ with (droppedBy s r) (s .number) r (found (after s r) rs)
+    → found s (r ∷ rs) ≡ with (droppedBy s r) (s .number) r (found (readingAfter s r) rs)
 unfolding found
 found-goes s r rs e = rw e
 
 -- what holds where the reading ends, goes on behind a kept record and goes on behind a dropped one holds of all that is found
 pub by-records : (P : Reading → List (List ℕ) → Found → Type 0) → ((s : Reading) (rs : List (List ℕ)) → P s rs nothing)
-    → ((s : Reading) (r : List ℕ) (rs : List (List ℕ)) (f : Found) → ends s r ≡ false → droppedBy s r ≡ 0 → P (after s r) rs f
+    → ((s : Reading) (r : List ℕ) (rs : List (List ℕ)) (f : Found) → ends s r ≡ false → droppedBy s r ≡ 0 → P (readingAfter s r) rs f
     → P s (r ∷ rs) (record { kept = r ∷ f .kept; dropped = f .dropped }))
-    → ((s : Reading) (r : List ℕ) (rs : List (List ℕ)) (f : Found) → ends s r ≡ false → (droppedBy s r ≡ 0 → ⊥) → P (after s r) rs f
+    → ((s : Reading) (r : List ℕ) (rs : List (List ℕ)) (f : Found) → ends s r ≡ false → (droppedBy s r ≡ 0 → ⊥) → P (readingAfter s r) rs f
     → P s (r ∷ rs) (record { kept = f .kept; dropped = record { number = s .number; code = droppedBy s r } ∷ f .dropped }))
     → (s : Reading) (rs : List (List ℕ)) → P s rs (found s rs)
 unfolding found
 by-records P ended kept dropped s [] = ended s []
-by-records P ended kept dropped s (r ∷ rs) = go (ends s r) refl (by-records P ended kept dropped (after s r) rs)
+by-records P ended kept dropped s (r ∷ rs) = go (ends s r) refl (by-records P ended kept dropped (readingAfter s r) rs)
   where
     f : Found
-    f = found (after s r) rs
+    f = found (readingAfter s r) rs
 
-    behind : ends s r ≡ false → (b : Bool) → eqb (droppedBy s r) 0 ≡ b → P (after s r) rs f
+    behind : ends s r ≡ false → (b : Bool) → eqb (droppedBy s r) 0 ≡ b → P (readingAfter s r) rs f
         → P s (r ∷ rs) (record {
           kept = pick b (r ∷ f .kept) (f .kept);
           dropped = pick b (f .dropped) (record { number = s .number; code = droppedBy s r } ∷ f .dropped);
@@ -78,7 +78,7 @@ by-records P ended kept dropped s (r ∷ rs) = go (ends s r) refl (by-records P 
     behind e true d ih = kept s r rs f e (eqb-true _ _ d) ih
     behind e false d ih = dropped s r rs f e (eqb-false _ _ d) ih
 
-    go : (b : Bool) → ends s r ≡ b → P (after s r) rs f → P s (r ∷ rs) (pick b nothing (with (droppedBy s r) (s .number) r f))
+    go : (b : Bool) → ends s r ≡ b → P (readingAfter s r) rs f → P s (r ∷ rs) (pick b nothing (with (droppedBy s r) (s .number) r f))
     go true e ih = ended s (r ∷ rs)
     go false e ih = behind e (eqb (droppedBy s r) 0) refl ih
 
@@ -121,7 +121,7 @@ module _ (s : Reading) (xs : List ℕ) (n : ℕ) (o : Open s) (y : Ready xs n) w
 
   -- or it goes on behind the record
   pub goes-on : 0 < n → ends s (take n xs) ≡ false → (t : Turn) → t .n ≡ n → t .code ≡ droppedBy s (take n xs)
-      → t .next ≡ after s (take n xs) → Turned s xs t
+      → t .next ≡ readingAfter s (take n xs) → Turned s xs t
   goes-on h e t is-n is-code is-next =
       let w = y .some h in
       let m = meaning xs whole (w .0) in

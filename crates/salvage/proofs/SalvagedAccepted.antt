@@ -26,7 +26,7 @@ use Rattle.book.specs.WholeRecords.{beginsWith, recordsBy, recordsOf}
 use Rattle.salvage.specs.declared.Reading.{Reading}
 use Rattle.salvage.specs.declared.Lengths.{Lengths}
 use Rattle.salvage.specs.declared.Salvaged.the-variants.{Saved}
-use Rattle.salvage.specs.Salvage.{Found, nothing, droppedBy, ends, after, start, found, bookOf, listOf, farmAmong, refusing, saving}
+use Rattle.salvage.specs.Salvage.{Found, nothing, droppedBy, ends, readingAfter, start, found, bookOf, listOf, farmAmong, refusing, saving}
 use Rattle.salvage.specs.Salvage.{answering, salvageOf}
 use Rattle.salvage.specs.Inner.{Open, bookFrom}
 use Rattle.salvage.proofs.Fates.{few, kept-account, dropped-account, kept-records, open-after}
@@ -88,18 +88,18 @@ abbrev Closing : Reading → List (List ℕ) → Found → Type 0
 Closing s rs f =
     AllWhole rs → Open s → s .account .records ≤ 4095 → 1 ≤ s .account .records + length (f .kept) → Done (book (s .account) (bookFrom s f))
 
-kept-closing : (s : Reading) (r : List ℕ) (rs : List (List ℕ)) (f : Found) → ends s r ≡ false → droppedBy s r ≡ 0 → Closing (after s r) rs f
+kept-closing : (s : Reading) (r : List ℕ) (rs : List (List ℕ)) (f : Found) → ends s r ≡ false → droppedBy s r ≡ 0 → Closing (readingAfter s r) rs f
     → Closing s (r ∷ rs) (record { kept = r ∷ f .kept; dropped = f .dropped })
 kept-closing s r rs f e d ih w o h l =
-    let ys = bookFrom (after s r) f in
+    let ys = bookFrom (readingAfter s r) f in
     let n = kept-records s r e d in
-    let c : s .account .records + length (r ∷ f .kept) ≡ after s r .account .records + length (f .kept) = omega (arith, n) in
+    let c : s .account .records + length (r ∷ f .kept) ≡ readingAfter s r .account .records + length (f .kept) = omega (arith, n) in
     let m = ih (w .1) (open-after s r e o) (omega (arith, n, few s r e)) (omega (arith, c, l)) in
     let same = ap (λ (a : Account). then (judge (s .account) r .lines) (book a ys)) (sym (kept-account s r e d)) in
     let b = book-record (s .account) r ys (w .0) (o .early) ∙ same in
     rw (c, append-assoc, b) (record { stage = m .stage; held = m .held; left = m .left })
 
-dropped-closing : (s : Reading) (r : List ℕ) (rs : List (List ℕ)) (f : Found) → ends s r ≡ false → (droppedBy s r ≡ 0 → ⊥) → Closing (after s r) rs f
+dropped-closing : (s : Reading) (r : List ℕ) (rs : List (List ℕ)) (f : Found) → ends s r ≡ false → (droppedBy s r ≡ 0 → ⊥) → Closing (readingAfter s r) rs f
     → Closing s (r ∷ rs) (record { kept = f .kept; dropped = record { number = s .number; code = droppedBy s r } ∷ f .dropped })
 dropped-closing s r rs f e n ih w o h l =
     let a = dropped-account s r e n in

@@ -30,7 +30,7 @@ use Rattle.book.proofs.RecordRuns.{record-whole}
 use Rattle.book.specs.WholeRecords.{recordsOf}
 use Rattle.book.proofs.WholeRecords.{records-whole}
 use Rattle.salvage.specs.declared.Reading.{Reading}
-use Rattle.salvage.specs.Salvage.{Found, nothing, with, wouldGet, droppedBy, ends, after, start, bookOf, listOf, farmAmong, saving}
+use Rattle.salvage.specs.Salvage.{Found, nothing, with, wouldGet, droppedBy, ends, readingAfter, start, bookOf, listOf, farmAmong, saving}
 use Rattle.salvage.specs.Salvage.{answering, salvageOf, foundIn}
 use Rattle.salvage.specs.Inner.{Open, bookFrom}
 use Rattle.salvage.proofs.KindRows.{row-eight, eight-row}
@@ -153,24 +153,24 @@ module _ (s : Reading) (xs : List ℕ) (o : Open s) (l : s .lost ≡ false) (b :
     goes : ends s (leading xs) ≡ false
     goes = rw (lt-leb 4095 (s .account .records) few, ne-eqb (kindByte (leading xs)) 8 k)
 
-    found-so : foundIn s xs ≡ with (droppedBy s (leading xs)) (s .number) (leading xs) (foundIn (after s (leading xs)) (rest xs))
+    found-so : foundIn s xs ≡ with (droppedBy s (leading xs)) (s .number) (leading xs) (foundIn (readingAfter s (leading xs)) (rest xs))
     found-so = rw (records-whole xs (b .is-whole)) (found-goes s (leading xs) (recordsOf (rest xs)) goes)
 
-    at-other : (Open (after s (leading xs))
-        → after s (leading xs) .lost ≡ false
-        → Right (reader.book (after s (leading xs) .account) (rest xs))
-        → Same (after s (leading xs)) (rest xs))
+    at-other : (Open (readingAfter s (leading xs))
+        → readingAfter s (leading xs) .lost ≡ false
+        → Right (reader.book (readingAfter s (leading xs) .account) (rest xs))
+        → Same (readingAfter s (leading xs)) (rest xs))
         → Same s xs
     at-other ih =
         let c = droppedBy s (leading xs) in
-        let f = foundIn (after s (leading xs)) (rest xs) in
-        let lost : after s (leading xs) .lost ≡ false = rw (is-kept, l) (no-loss (eqb (kindByte (leading xs)) 2)) in
-        let a : after s (leading xs) .account ≡ judge (s .account) (leading xs) .account = rw is-kept in
+        let f = foundIn (readingAfter s (leading xs)) (rest xs) in
+        let lost : readingAfter s (leading xs) .lost ≡ false = rw (is-kept, l) (no-loss (eqb (kindByte (leading xs)) 2)) in
+        let a : readingAfter s (leading xs) .account ≡ judge (s .account) (leading xs) .account = rw is-kept in
         let m = ih (open-after s (leading xs) goes o) lost (rw a (b .behind)) in
         let p : pick (eqb c 0) (leading xs) [] ≡ leading xs = rw is-kept in
         record {
           book =
-              rw (found-so, book-turn c (s .number) (leading xs) f s (after s (leading xs)) (records-after s (leading xs) goes), p, m .book)
+              rw (found-so, book-turn c (s .number) (leading xs) f s (readingAfter s (leading xs)) (records-after s (leading xs) goes), p, m .book)
               (take-append-drop (need xs) xs);
           list = rw found-so (kept-list c (s .number) (leading xs) f is-kept ∙ m .list);
         }
@@ -186,7 +186,7 @@ same (suc n) s xs h o l y d =
     let short : length (rest xs) < n = rw length-drop (omega arith) in
     ⊎-elim (λ (k : kindByte (leading xs) ≡ 8). at-close s xs o l b y k)
     (λ (k : kindByte (leading xs) ≡ 8 → ⊥).
-    at-other s xs o l b k (λ o′ l′ d′. same n (after s (leading xs)) (rest xs) short o′ l′ (bytes-drop (need xs) xs y) d′))
+    at-other s xs o l b k (λ o′ l′ d′. same n (readingAfter s (leading xs)) (rest xs) short o′ l′ (bytes-drop (need xs) xs y) d′))
     (equal-or (kindByte (leading xs)) 8)
 
 -- ---- the promise
@@ -196,7 +196,7 @@ some-kept : (xs : List ℕ) → Begins noRecord xs → 1 ≤ length (foundIn sta
 some-kept xs b =
     let k = first-farm noRecord (leading xs) (b .gets) refl in
     let g = found-so start xs open-start refl b (λ e. omega (arith, k, e)) in
-    let n = kept-count (droppedBy start (leading xs)) 0 (leading xs) (foundIn (after start (leading xs)) (rest xs)) in
+    let n = kept-count (droppedBy start (leading xs)) 0 (leading xs) (foundIn (readingAfter start (leading xs)) (rest xs)) in
     let p : _≡_ {A = ℕ} (pick (eqb (droppedBy start (leading xs)) 0) 1 0) 1 = rw (is-kept start xs open-start refl b) in
     rw g (omega (arith, n, p))
 

@@ -55,8 +55,8 @@ abbrev pub start : Reading
 start = record { account = noRecord; lost = false; number = 0 }
 
 -- after r: a kept record is in the account; of a record of kind byte 2 it is noted whether it was dropped; the next number is one higher
-abbrev pub after : Reading → List ℕ → Reading
-after s r =
+abbrev pub readingAfter : Reading → List ℕ → Reading
+readingAfter s r =
     record {
       account = pick (eqb (droppedBy s r) 0) (judge (s .account) r .account) (s .account);
       lost = pick (eqb (kindByte r) 2) (not (eqb (droppedBy s r) 0)) (s .lost);
@@ -87,7 +87,7 @@ with code number r behind =
 -- what is found in the records rs, going on from a reading
 unfoldable pub found : Reading → List (List ℕ) → Found
 found s [] = nothing
-found s (r ∷ rs) = pick (ends s r) nothing (with (droppedBy s r) (s .number) r (found (after s r) rs))
+found s (r ∷ rs) = pick (ends s r) nothing (with (droppedBy s r) (s .number) r (found (readingAfter s r) rs))
 
 -- what is found in the bytes xs: "Code 1, .. the end of the bytes .. end the reading, unlisted" too, since their whole records end there
 abbrev pub foundIn : Reading → List ℕ → Found
@@ -138,18 +138,18 @@ unfoldable pub salvageOf : List ℕ → ℕ → ℕ → Salvage
 salvageOf damaged bookRoom listRoom = answering (foundIn start damaged) bookRoom listRoom
 
 -- bytes go to the start of a buffer, and past them it stays
-abbrev pub laid : List ℕ → List ℕ → List ℕ
-laid bytes buffer = bytes ++ drop (length bytes) buffer
+abbrev pub savedIn : List ℕ → List ℕ → List ℕ
+savedIn bytes buffer = bytes ++ drop (length bytes) buffer
 
 -- what a caller gets who lends a buffer for the book and one for the list: the answer, and either buffer afterwards
 abbrev pub answerFor : List ℕ → List ℕ → List ℕ → Salvaged
 answerFor damaged book list = salvageOf damaged (length book) (length list) .answer
 
 abbrev pub bookAfter : List ℕ → List ℕ → List ℕ → List ℕ
-bookAfter damaged book list = laid (salvageOf damaged (length book) (length list) .book) book
+bookAfter damaged book list = savedIn (salvageOf damaged (length book) (length list) .book) book
 
 abbrev pub listAfter : List ℕ → List ℕ → List ℕ → List ℕ
-listAfter damaged book list = laid (salvageOf damaged (length book) (length list) .list) list
+listAfter damaged book list = savedIn (salvageOf damaged (length book) (length list) .list) list
 
 -- what is written lies inside buffers of so many bytes
 abbrev pub Inside : Salvaged → ℕ → ℕ → Type 0

@@ -3,6 +3,8 @@ use crate::Reading;
 use account::sort::is_of_group;
 use base::first_of;
 use book::walk::next_alone;
+use codec::kinds::CLOSE;
+use codec::kinds::HEADING;
 ghost use mathlib.Core.Path.{_≡_};
 ghost use mathlib.Core.Bool.{not};
 ghost use Prim.Native.Nat.{_<_};
@@ -43,7 +45,11 @@ fn dropped_by(code: u8, kind: u8, lost: bool) -> u8
 fn lost_by(kind: u8, code: u8, lost: bool) -> bool
     ensures { λ r. ⌜ r ≡ pick (eqb kind 2) (not (eqb code 0)) lost ⌝ }
 {
-    if kind == 2 { code != 0 } else { lost }
+    if kind == HEADING as u8 {
+        code != 0
+    } else {
+        lost
+    }
 }
 
 impl Reading {
@@ -73,7 +79,7 @@ impl Reading {
         let kind = r[3];
         let after = t.account;
         let code = dropped_by(after.refusal.code, kind, self.lost);
-        if (kind == 8) & (code == 0) {
+        if (kind == CLOSE as u8) & (code == 0) {
             return self.ended();
         }
         let lost = lost_by(kind, code, self.lost);

@@ -3,6 +3,10 @@ use crate::values::value_at;
 use account::Account;
 use account::Used;
 use codec::LAST_KIND;
+use codec::kinds::CATTLE;
+use codec::kinds::ENTERIC;
+use codec::kinds::FARM;
+use codec::kinds::PIG;
 use codec::kinds::bytes_of;
 use codec::kinds::highest;
 use codec::kinds::lowest;
@@ -60,7 +64,7 @@ fn version(r: &[u8]) -> Numbers
     ensures { λ n. ⌜ n ≡ versionTold (now (r .entry)) ⌝ }
 {
     let version = be8(r, 2);
-    if r[3] == 1 {
+    if r[3] == FARM as u8 {
         return outside(1, 2, version);
     }
     both(version, 1)
@@ -89,10 +93,10 @@ fn days_with(used: Used, kind: u8, more: u64) -> u64
     requires { ⌜ more ≤ 366 ⌝ }
     ensures { λ r. ⌜ r ≡ daysWith used kind more ⌝ }
 {
-    if kind == 3 {
+    if kind == ENTERIC as u8 {
         return used.enteric as u64 + more;
     }
-    if kind == 4 {
+    if kind == CATTLE as u8 {
         return used.nitrogen as u64 + more;
     }
     used.pig as u64 + more
@@ -103,13 +107,13 @@ fn together(grazed: u32, r: &[u8], kind: u8) -> Numbers
     requires { ⌜ Sized (now r) × (kind ≡ kindOf (now r)) × (badField kind (valuesOf (now r)) ≡ 0) × Parted kind ⌝ }
     ensures { λ n. ⌜ n ≡ partsTold grazed kind (valuesOf (now (r .entry))) ⌝ }
 {
-    if kind == 4 {
+    if kind == CATTLE as u8 {
         return both(
             value_at(r, kind, 6) + value_at(r, kind, 7) + value_at(r, kind, 8),
             10000,
         );
     }
-    if kind == 5 {
+    if kind == PIG as u8 {
         return both(value_at(r, kind, 8) + value_at(r, kind, 10), 1000);
     }
     both(grazed as u64 + value_at(r, kind, 3), 10000)

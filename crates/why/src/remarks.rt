@@ -3,6 +3,10 @@ use crate::Reason;
 use crate::Verdict;
 use account::sort::is_of_group;
 use codec::LAST_KIND;
+use codec::kinds::CATTLE;
+use codec::kinds::FARM;
+use codec::kinds::GRAZING;
+use codec::kinds::PIG;
 use names::decimals;
 use names::say_field;
 use names::say_kind;
@@ -127,13 +131,13 @@ fn say_where(out: &mut [u8], number: u64, kind: u64, group: u64) -> usize
 fn subject(code: u64, row: u64) -> usize
     ensures { λ r. ⌜ r ≡ subjectLine code row ⌝ }
 {
-    if (code == 10) & (row == 5) {
+    if (code == 10) & (row == PIG) {
         return 13;
     }
-    if (code == 10) & (row == 10) {
+    if (code == 10) & (row == GRAZING) {
         return 14;
     }
-    if (code == 4) & (row == 1) {
+    if (code == 4) & (row == FARM) {
         return 15;
     }
     if (code == 4) & (row == codec::LAST_ROW) {
@@ -183,7 +187,7 @@ fn less_one(n: usize) -> usize
 fn is_exact(code: u64, kind: u64) -> bool
     ensures { λ r. ⌜ r ≡ exactly code kind ⌝ }
 {
-    ((code == 2) & (kind != 1)) | (code == 4) | (code == 12) | ((code == 10) & (kind == 4))
+    ((code == 2) & (kind != FARM)) | (code == 4) | (code == 12) | ((code == 10) & (kind == CATTLE))
 }
 
 // How the value has to stand to the limit.
@@ -213,10 +217,10 @@ fn measured(code: u64, row: u64, field: usize) -> usize
     if code != 10 {
         return 12;
     }
-    if row == 4 {
+    if row == CATTLE {
         return 6;
     }
-    if row == 5 { 8 } else { 3 }
+    if row == PIG { 8 } else { 3 }
 }
 
 fn say_amount(out: &mut [u8], at: usize, row: u64, i: usize, v: u64) -> usize

@@ -16,8 +16,8 @@ use Rattle.writer.specs.declared.Typing.{Typing}
 use Rattle.writer.specs.declared.Entered.{Entered}
 use Rattle.writer.specs.declared.Lined.{Lined}
 use Rattle.writer.specs.declared.typed_line.Line.{Line}
-use Rattle.writer.specs.Line.{lineOf}
-use Rattle.writer.specs.Typist.{Turn, bySaid, turn, endTurn, enteredOf, laid}
+use Rattle.writer.specs.Line.{lineSaid}
+use Rattle.writer.specs.Typist.{Turn, bySaid, turn, endTurn, enteredOf, turnLaid}
 use Rattle.writer.specs.Remarks.{remarkText, endRemark}
 use Rattle.writer.proofs.Fates.{said-turn}
 use Rattle.writer.specs.Parts.{lineBy, endOf, goesOn, hasEnded, inBuffer, byCutting, callOf, laidIn}
@@ -70,8 +70,8 @@ module _ (g : Typing) (line part : List ℕ) (room : ℕ) {c : Cutting} (e : c �
 -- ---- a line, and the end
 
 module _ (t : Typist) (n : ℕ) (xs : List ℕ) (room : ℕ) (out : List ℕ) {out′ before after : List ℕ} {told : ℕ} {e : Entered} {line : Line}
-    (is : line ≡ lineOf xs) where
-  pub line-typed : e ≡ enteredOf (bySaid (line .said) t n (line .entry) room) → out′ ≡ laid (bySaid (line .said) t n (line .entry) room) out
+    (is : line ≡ lineSaid xs) where
+  pub line-typed : e ≡ enteredOf (bySaid (line .said) t n (line .entry) room) → out′ ≡ turnLaid (bySaid (line .said) t n (line .entry) room) out
       → Said before after 0 (remarkText (e .fate) t n (line .entry) xs) told
       → (e .typist ≡ lineBy t n xs room .typist)
       × ((e .written ≡ length (lineBy t n xs room .bytes))
@@ -84,14 +84,14 @@ module _ (t : Typist) (n : ℕ) (xs : List ℕ) (room : ℕ) (out : List ℕ) {o
         (
           ap (λ (y : Entered). y .written) entered,
           (
-            q ∙ ap (λ (y : Turn). laid y out) same,
+            q ∙ ap (λ (y : Turn). turnLaid y out) same,
             rw (is, ap (λ (y : Entered). y .fate) entered) at s,
           ),
         ),
       )
 
 pub end-typed : (good : Bool) (t : Typist) (out : List ℕ) {out′ before after : List ℕ} {told : ℕ} {e : Entered}
-    → e ≡ enteredOf (endTurn good t (length out)) → out′ ≡ laid (endTurn good t (length out)) out
+    → e ≡ enteredOf (endTurn good t (length out)) → out′ ≡ turnLaid (endTurn good t (length out)) out
     → Said before after 0 (endRemark (e .fate) t) told
     → (e .typist ≡ endOf good t (length out) .typist)
     × ((e .written ≡ length (endOf good t (length out) .bytes))

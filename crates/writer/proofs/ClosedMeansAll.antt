@@ -29,7 +29,7 @@ use Rattle.text_lines.specs.Parts.{Numbered, numbered, together}
 use Rattle.writer.specs.declared.typed_line.Entry.{Entry}
 use Rattle.writer.specs.declared.typed_line.Said.{Said}
 use Rattle.writer.specs.declared.typed_line.Said.the-variants as said
-use Rattle.writer.specs.Line.{lineOf, entry, completedOf, valuesIn, writeEntry}
+use Rattle.writer.specs.Line.{lineSaid, entry, completedOf, valuesIn, writeEntry}
 use Rattle.writer.specs.declared.Typist.{Typist}
 use Rattle.writer.specs.Typist.{firstFailed, beginning, hears, early, runEnded, withheld, headless, Turn, byAnswer, byWrite, closeBy}
 use Rattle.writer.specs.Typist.{judgedTurn, recordTurn, bySaid, turn, ownClose, endBy, closingTurn, endTurn}
@@ -351,9 +351,9 @@ did-calm said.Record t e x c d = d .calm
 did-calm (said.Wrong k place) t e x c d = λ z. absurd (z (d .1 .0))
 
 line-did : (m : Mark) (h : List ℕ) (t : Typist) → Kept m h t → t .state .account .stage < 2 → (l : Numbered) → 1 ≤ l .number
-    → Did (lineOf (textOf l) .said) t (lineOf (textOf l) .entry) (lineTurn t l)
+    → Did (lineSaid (textOf l) .said) t (lineSaid (textOf l) .entry) (lineTurn t l)
 unfolding turn
-line-did m h t k o l p = said-did m h t k o (lineOf (textOf l) .said) (lineOf (textOf l) .entry) (l .number) p
+line-did m h t k o l p = said-did m h t k o (lineSaid (textOf l) .said) (lineSaid (textOf l) .entry) (l .number) p
 
 all-lines : (lines : List (List ℕ)) (n : ℕ) → 1 ≤ n → (m : Mark) (h : List ℕ) (t : Typist) → Kept m h t → t .state .account .stage < 2
     → ((t .waiting .close ≡ 0 → ⊥) → t .failed ≡ 0)
@@ -363,8 +363,8 @@ all-lines [] n p m h t k o c = none-more t o c
 all-lines (b ∷ lines) n p m h t k o c =
     let l : Numbered = record { number = n; bytes = b } in
     let x = lineTurn t l in
-    let said = lineOf (textOf l) .said in
-    let e = lineOf (textOf l) .entry in
+    let said = lineSaid (textOf l) .said in
+    let e = lineSaid (textOf l) .entry in
     let d = line-did m h t k o l p in
     let y = all-lines lines (oneMore n) (one-more n p) _ _ (x .typist) (line-keeps m h t k l p) (did-open said t e x o d) (did-calm said t e x c d) in
     let both = did-both t l (numbered (oneMore n) lines) x _ _ y said e d in

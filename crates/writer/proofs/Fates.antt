@@ -19,20 +19,20 @@ use Rattle.writer.specs.declared.typed_line.Entry.{Entry}
 use Rattle.writer.specs.declared.typed_line.Line.{Line}
 use Rattle.writer.specs.declared.typed_line.Said.{Said}
 use Rattle.writer.specs.declared.typed_line.Said.the-variants as said
-use Rattle.writer.specs.Line.{lineOf, writeEntry}
+use Rattle.writer.specs.Line.{lineSaid, writeEntry}
 use Rattle.writer.specs.declared.Typist.{Typist}
 use Rattle.writer.specs.declared.Fate.the-variants.{Nothing, Unread, Withheld, Waits, Without, Refused, Wrote}
 use Rattle.writer.specs.declared.Entered.{Entered}
 use Rattle.writer.specs.Typist.{hears, early, runEnded, notRead, withholding, waits, unheaded, refusedAt, writtenAs, Turn, byAnswer}
 use Rattle.writer.specs.Typist.{byWrite, closeBy, withheld, headless, judgedTurn, recordTurn, bySaid, turn, ownClose, endBy, closingTurn, endTurn}
-use Rattle.writer.specs.Typist.{enteredOf, enteredBy, laid}
+use Rattle.writer.specs.Typist.{enteredOf, enteredBy, turnLaid}
 
 -- r and out′ are what the turn x gives in the buffer out
 abbrev pub Gives : Turn → List ℕ → Entered → List ℕ → Type 0
-Gives x out r out′ = (r ≡ enteredOf x) × (out′ ≡ laid x out)
+Gives x out r out′ = (r ≡ enteredOf x) × (out′ ≡ turnLaid x out)
 
 pub gives-same : (x y : Turn) (out : List ℕ) {r : Entered} {out′ : List ℕ} → x ≡ y → Gives x out r out′ → Gives y out r out′
-gives-same x y out e g = (g .0 ∙ ap enteredOf e, g .1 ∙ ap (λ (z : Turn). laid z out) e)
+gives-same x y out e g = (g .0 ∙ ap enteredOf e, g .1 ∙ ap (λ (z : Turn). turnLaid z out) e)
 
 -- ---- an entry
 
@@ -58,7 +58,7 @@ module _ (t : Typist) (n : ℕ) (e : Entry) (room : ℕ) where
   not-headless h = rw h refl
 
 -- a close writes nothing yet
-pub close-waits : (a : Answer) (t : Typist) (n : ℕ) (e : Entry) (out : List ℕ) → out ≡ laid (closeBy a t n e) out
+pub close-waits : (a : Answer) (t : Typist) (n : ℕ) (e : Entry) (out : List ℕ) → out ≡ turnLaid (closeBy a t n e) out
 close-waits answers.Wrote t n e out = refl
 close-waits (answers.Refused r) t n e out = refl
 
@@ -79,7 +79,7 @@ same-bytes s k row v room t n e = go (writer.answerOf (writer.refusals s k row v
 
 -- w is what the writer hands back for the entry, and out′ its buffer
 pub judged : (t : Typist) (n : ℕ) (e : Entry) (out : List ℕ) {out′ : List ℕ} {w : Written} {r : Entered}
-    → w ≡ writer.writtenOf (writeEntry (t .state) e (length out)) → out′ ≡ writer.laid (writeEntry (t .state) e (length out)) out
+    → w ≡ writer.writtenOf (writeEntry (t .state) e (length out)) → out′ ≡ writer.recordLaid (writeEntry (t .state) e (length out)) out
     → r ≡ enteredBy (w .answer) t n e (w .state) (w .written)
     → Gives (byWrite t n e (writeEntry (t .state) e (length out))) out r out′
 judged t n e out p q f =
@@ -103,8 +103,8 @@ end-bytes s k row v room t = go (writer.answerOf (writer.refusals s k row v room
 
 -- w is what the writer hands back for the close at the end, and out′ its buffer
 module _ (t : Typist) (out : List ℕ) {out′ : List ℕ} {w : Written} (p : w ≡ writer.writtenOf (writeEntry (t .state) ownClose (length out)))
-    (q : out′ ≡ writer.laid (writeEntry (t .state) ownClose (length out)) out) where
-  buffer-closed : out′ ≡ laid (closingTurn t (length out)) out
+    (q : out′ ≡ writer.recordLaid (writeEntry (t .state) ownClose (length out)) out) where
+  buffer-closed : out′ ≡ turnLaid (closingTurn t (length out)) out
   buffer-closed = q ∙ rw (end-bytes _ _ _ _ _ t) refl
 
   pub closes : w .answer ≡ answers.Wrote → {u : Typist} → u ≡ writtenAs t ownClose (w .state)
@@ -152,7 +152,7 @@ module _ (t : Typist) (n : ℕ) (e : Entry) (room : ℕ) where
 
 pub gives-judged : (t : Typist) (n : ℕ) (e : Entry) (out : List ℕ) → withheld t e ≡ false → (e .kind ≡ 8 → ⊥)
     → {out′ : List ℕ} {w : Written} {r : Entered}
-    → w ≡ writer.writtenOf (writeEntry (t .state) e (length out)) → out′ ≡ writer.laid (writeEntry (t .state) e (length out)) out
+    → w ≡ writer.writtenOf (writeEntry (t .state) e (length out)) → out′ ≡ writer.recordLaid (writeEntry (t .state) e (length out)) out
     → r ≡ enteredBy (w .answer) t n e (w .state) (w .written) → Gives (judgedTurn t n e (length out)) out r out′
 gives-judged t n e out h k p q f = gives-same _ _ out (is-judged t n e (length out) h (ne-eqb _ _ k)) (judged t n e out p q f)
 
@@ -167,7 +167,7 @@ module _ (t : Typist) (n : ℕ) (e : Entry) {w : Written} (p : w ≡ writer.writ
   close-refused a g = let answer = ap (λ (y : Written). y .answer) (sym p) ∙ a in rw (g, answer) refl
 
 -- the line's own words make the turn
-pub said-turn : (t : Typist) (n : ℕ) (xs : List ℕ) (room : ℕ) {line : Line} → line ≡ lineOf xs
+pub said-turn : (t : Typist) (n : ℕ) (xs : List ℕ) (room : ℕ) {line : Line} → line ≡ lineSaid xs
     → bySaid (line .said) t n (line .entry) room ≡ turn t n xs room
 unfolding turn
 said-turn t n xs room e = ap (λ (l : Line). bySaid (l .said) t n (l .entry) room) e

@@ -31,7 +31,7 @@ use Rattle.make_record.proofs.AsReader.{stays-in-range}
 use Rattle.writer.specs.declared.typed_line.Entry.{Entry}
 use Rattle.writer.specs.declared.typed_line.Said.{Said}
 use Rattle.writer.specs.declared.typed_line.Said.the-variants as said
-use Rattle.writer.specs.Line.{lineOf, entry, completedOf, valuesIn, writeEntry}
+use Rattle.writer.specs.Line.{lineSaid, entry, completedOf, valuesIn, writeEntry}
 use Rattle.text_lines.specs.Parts.{Numbered, numbered}
 use Rattle.writer.specs.declared.Typist.{Typist}
 use Rattle.writer.specs.declared.Fate.{Fate}
@@ -299,7 +299,7 @@ said-keeps m h t k n l (said.Wrong kind place) e =
 pub line-keeps : (m : Mark) (h : List ℕ) (t : Typist) → Kept m h t → (l : Numbered) → 1 ≤ l .number
     → Kept (markLine m l) (pick (eqb (kindWritten (lineTurn t l .fate)) 2) (lineTurn t l .bytes) h) (lineTurn t l .typist)
 unfolding turn
-line-keeps m h t k l p = said-keeps m h t k (l .number) p (lineOf (textOf l) .said) (lineOf (textOf l) .entry)
+line-keeps m h t k l p = said-keeps m h t k (l .number) p (lineSaid (textOf l) .said) (lineSaid (textOf l) .entry)
 
 -- ---- all lines
 
@@ -372,7 +372,7 @@ said-judged (said.Wrong kind place) t n e k q = absurd (let z : _≡_ {A = ℕ} 
 
 line-judged : (t : Typist) (l : Numbered) (k : ℕ) → lineTurn t l .fate ≡ Wrote k → Judged t k
 unfolding turn
-line-judged t l k q = said-judged (lineOf (textOf l) .said) t (l .number) (lineOf (textOf l) .entry) k q
+line-judged t l k q = said-judged (lineSaid (textOf l) .said) t (l .number) (lineSaid (textOf l) .entry) k q
 
 -- where the heading is kept, a written detail stands under it
 under-it : (m : Mark) (h : List ℕ) (t : Typist) → Kept m h t → (k : ℕ) → isOfGroup k ≡ true → Judged t k → Under m h

@@ -20,12 +20,12 @@ use Rattle.typed_words.specs.Amounts.{aWhole, amountOf}
 use Rattle.names.specs.Names.{kindName, chosen, decimalsAt}
 use Rattle.book.specs.declared.State.{State}
 use Rattle.make_record.specs.declared.Written.{Written}
-use Rattle.make_record.specs.Write.{write, writtenOf, laid}
+use Rattle.make_record.specs.Write.{write, writtenOf, recordLaid}
 use Rattle.writer.specs.declared.typed_line.Values.{Values}
 use Rattle.writer.specs.declared.typed_line.Entry.{Entry}
 use Rattle.writer.specs.declared.typed_line.Said.the-variants.{Nothing, Record, Wrong}
 use Rattle.writer.specs.Line.{namedFrom, kindOf, rowOfLine, Read, nothingMore, wrongAt, with, valueAt, valuesFrom, padded, listed, entry}
-use Rattle.writer.specs.Line.{hasField, byChoice, noRecord, byKind, lineOf, completedOf, valuesIn, writeEntry}
+use Rattle.writer.specs.Line.{hasField, byChoice, noRecord, byKind, lineSaid, completedOf, valuesIn, writeEntry}
 
 -- ---- a word among the names of the kinds
 
@@ -210,22 +210,22 @@ module _ {line : List ℕ} {kind : ℕ} {values : List ℕ} {n : ℕ} (r : Readi
 -- ---- the line
 
 module _ (text : List ℕ) where
-  pub too-long : 1024 ≤ length text → noRecord (Wrong 0 0) ≡ lineOf text
-  unfolding lineOf
+  pub too-long : 1024 ≤ length text → noRecord (Wrong 0 0) ≡ lineSaid text
+  unfolding lineSaid
   too-long h = rw (le-leb _ _ h)
 
   -- w is its first word
   module _ (short : length text < 1024) {w : List ℕ} (e : w ≡ nthWord 0 text) where
-    pub says-nothing : length w ≡ 0 → noRecord Nothing ≡ lineOf text
-    unfolding lineOf
+    pub says-nothing : length w ≡ 0 → noRecord Nothing ≡ lineSaid text
+    unfolding lineSaid
     says-nothing z = sym (rw (lt-leb _ _ short, ← e, eq-eqb _ _ z))
 
     module _ (some : length w ≡ 0 → ⊥) {kind : Whole} (k : kind ≡ kindOf w) where
-      by-kind : lineOf text ≡ byKind kind text
-      unfolding lineOf
+      by-kind : lineSaid text ≡ byKind kind text
+      unfolding lineSaid
       by-kind = rw (lt-leb _ _ short, ← e, ne-eqb _ _ some, ← k)
 
-      pub wrong-kind : kind .good ≡ false → noRecord (Wrong 0 1) ≡ lineOf text
+      pub wrong-kind : kind .good ≡ false → noRecord (Wrong 0 1) ≡ lineSaid text
       wrong-kind b = sym (by-kind ∙ rw b)
 
       module _ (good : kind .good ≡ true) {v : Values} {row : ℕ} (l : row ≡ rowOfLine (kind .value) text)
@@ -236,11 +236,11 @@ module _ (text : List ℕ) where
         wrong-is : v .wrong ≡ valuesFrom 512 0 (rowOfLine (kind .value) text) text .wrong
         wrong-is = ap (λ (x : Values). x .wrong) read-so
 
-        pub wrong-value : (v .wrong ≡ 0 → ⊥) → noRecord (Wrong (kind .value) (v .wrong)) ≡ lineOf text
+        pub wrong-value : (v .wrong ≡ 0 → ⊥) → noRecord (Wrong (kind .value) (v .wrong)) ≡ lineSaid text
         wrong-value n = sym (by-kind ∙ rw (good, ← wrong-is, ne-eqb _ _ n))
 
         pub says-record : v .wrong ≡ 0
-            → record { said = Record; entry = record { kind = kind .value; values = v .values; count = v .count } } ≡ lineOf text
+            → record { said = Record; entry = record { kind = kind .value; values = v .values; count = v .count } } ≡ lineSaid text
         says-record z = sym (by-kind ∙ rw (good, ← wrong-is, eq-eqb _ _ z, read-so))
 
 -- ---- an entry, completed and written
@@ -257,6 +257,6 @@ module _ (e : Entry) (records : ℕ) where
 -- d is the entry completed, vs its values: the three clauses of the contract
 pub entry-written : (s : State) (e d : Entry) (vs out : List ℕ) → d ≡ completedOf e (s .account .records) → vs ≡ valuesIn d
     → {f : Written} {out′ : List ℕ}
-    → (f ≡ writtenOf (write s (d .kind) vs (length out))) × ((out′ ≡ laid (write s (d .kind) vs (length out)) out) × (f .written ≤ length out))
-    → (f ≡ writtenOf (writeEntry s e (length out))) × ((out′ ≡ laid (writeEntry s e (length out)) out) × (f .written ≤ length out))
+    → (f ≡ writtenOf (write s (d .kind) vs (length out))) × ((out′ ≡ recordLaid (write s (d .kind) vs (length out)) out) × (f .written ≤ length out))
+    → (f ≡ writtenOf (writeEntry s e (length out))) × ((out′ ≡ recordLaid (writeEntry s e (length out)) out) × (f .written ≤ length out))
 entry-written s e d vs out p q h = rw (q, p) at h

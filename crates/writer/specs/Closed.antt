@@ -9,7 +9,7 @@ use Rattle.text_lines.specs.Parts.{Numbered}
 use Rattle.writer.specs.declared.typed_line.Entry.{Entry}
 use Rattle.writer.specs.declared.typed_line.Said.{Said}
 use Rattle.writer.specs.declared.typed_line.Said.the-variants as said
-use Rattle.writer.specs.Line.{lineOf, completedOf, valuesIn}
+use Rattle.writer.specs.Line.{lineSaid, completedOf, valuesIn}
 use Rattle.writer.specs.Headings.{textOf}
 
 -- the record that an entry says after n others: its kind and its values as they are typed; a close without its count counts those n
@@ -29,7 +29,7 @@ saysThen (said.Wrong k place) one same next = same
 unfoldable pub recordsSaid : ℕ → List Numbered → List ℕ
 recordsSaid n [] = []
 recordsSaid n (l ∷ ls) =
-    saysThen (lineOf (textOf l) .said) (recordSaid n (lineOf (textOf l) .entry)) (recordsSaid n ls) (recordsSaid (suc n) ls)
+    saysThen (lineSaid (textOf l) .said) (recordSaid n (lineSaid (textOf l) .entry)) (recordsSaid n ls) (recordsSaid (suc n) ls)
 
 -- a line has no word, or is read
 abbrev pub IsRead : Said → Type 0
@@ -39,4 +39,4 @@ IsRead (said.Wrong k place) = ⊥
 
 unfoldable pub EachRead : List Numbered → Type 0
 EachRead [] = Unit {0}
-EachRead (l ∷ ls) = IsRead (lineOf (textOf l) .said) × EachRead ls
+EachRead (l ∷ ls) = IsRead (lineSaid (textOf l) .said) × EachRead ls

@@ -11,7 +11,7 @@ use Rattle.text_lines.specs.Parts.{Numbered}
 use Rattle.writer.specs.declared.typed_line.Entry.{Entry}
 use Rattle.writer.specs.declared.typed_line.Said.{Said}
 use Rattle.writer.specs.declared.typed_line.Said.the-variants as said
-use Rattle.writer.specs.Line.{lineOf, valuesIn}
+use Rattle.writer.specs.Line.{lineSaid, valuesIn}
 use Rattle.writer.specs.Typist.{mayHead, Turn}
 use Rattle.writer.specs.Remarks.{kindWritten}
 
@@ -31,7 +31,7 @@ abbrev pub textOf : Numbered → List ℕ
 textOf l = unmarked (l .number) (l .bytes)
 
 abbrev pub markLine : Mark → Numbered → Mark
-markLine m l = markSaid (lineOf (textOf l) .said) (lineOf (textOf l) .entry) m
+markLine m l = markSaid (lineSaid (textOf l) .said) (lineSaid (textOf l) .entry) m
 
 -- the mark behind some lines
 unfoldable pub lastMark : Mark → List Numbered → Mark

@@ -104,8 +104,8 @@ abbrev pub byKind : Whole → List ℕ → Line
 byKind kind text = pick (kind .good) (byValues (kind .value) (valuesFrom 512 0 (rowOfLine (kind .value) text) text)) (noRecord (Wrong 0 1))
 
 -- what a line says that has no comment: a line of 1,024 bytes or more is not read; the others have no more than 512 words
-unfoldable pub lineOf : List ℕ → Line
-lineOf text =
+unfoldable pub lineSaid : List ℕ → Line
+lineSaid text =
     pick (leb 1024 (length text)) (noRecord (Wrong 0 0))
     (pick (eqb (length (nthWord 0 text)) 0) (noRecord Nothing)
     (byKind (kindOf (nthWord 0 text)) text))

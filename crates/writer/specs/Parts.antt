@@ -9,7 +9,7 @@ use Rattle.text_lines.specs.declared.Cut.{Cut}
 use Rattle.text_lines.specs.declared.Cutting.{Cutting}
 use Rattle.text_lines.specs.Lines.{nextOf, cuttingOf, cutIn, unmarked}
 use Rattle.text_lines.specs.Parts.{Numbered, Cutter}
-use Rattle.writer.specs.Line.{lineOf}
+use Rattle.writer.specs.Line.{lineSaid}
 use Rattle.writer.specs.declared.Typist.{Typist}
 use Rattle.writer.specs.declared.Typing.{Typing}
 use Rattle.writer.specs.Typist.{Turn, turn, endTurn}
@@ -22,7 +22,7 @@ pub record Line : Type 0 where
   pub remark : List ℕ
 
 abbrev pub byTurn : Turn → Typist → ℕ → List ℕ → Line
-byTurn x t n xs = record { typist = x .typist; bytes = x .bytes; remark = remarkText (x .fate) t n (lineOf xs .entry) xs }
+byTurn x t n xs = record { typist = x .typist; bytes = x .bytes; remark = remarkText (x .fate) t n (lineSaid xs .entry) xs }
 
 -- line n with the text xs, for a buffer of room bytes
 abbrev pub lineBy : Typist → ℕ → List ℕ → ℕ → Line

@@ -21,13 +21,13 @@ pub record Typed : Type 0 where
   pub typist : Typist
   pub turns : List Turn
 
-abbrev pub after : Turn → Typed → Typed
-after x r = record { typist = r .typist; turns = x ∷ r .turns }
+abbrev pub typedAfter : Turn → Typed → Typed
+typedAfter x r = record { typist = r .typist; turns = x ∷ r .turns }
 
 -- the lines one after the other, each with the typist that the one before left
 unfoldable pub typedBy : Typist → List Numbered → Typed
 typedBy t [] = record { typist = t; turns = [] }
-typedBy t (l ∷ ls) = after (lineTurn t l) (typedBy (lineTurn t l .typist) ls)
+typedBy t (l ∷ ls) = typedAfter (lineTurn t l) (typedBy (lineTurn t l .typist) ls)
 
 -- a text typed after the records of a state
 abbrev pub typedText : State → List ℕ → Typed

@@ -18,7 +18,7 @@ use Rattle.make_record.specs.Write.{Write}
 use Rattle.writer.specs.declared.typed_line.Entry.{Entry}
 use Rattle.writer.specs.declared.typed_line.Said.{Said}
 use Rattle.writer.specs.declared.typed_line.Said.the-variants as said
-use Rattle.writer.specs.Line.{lineOf, entry, valuesIn, writeEntry}
+use Rattle.writer.specs.Line.{lineSaid, entry, valuesIn, writeEntry}
 use Rattle.writer.specs.Unusual.{unusualAfter}
 use Rattle.writer.specs.declared.Typist.{Typist}
 use Rattle.writer.specs.declared.Lost.{Lost}
@@ -275,7 +275,7 @@ bySaid (said.Wrong k place) t n e room = record { typist = notRead (runEnded (ea
 
 -- what becomes of line n with the text xs, for a buffer of room bytes
 unfoldable pub turn : Typist → ℕ → List ℕ → ℕ → Turn
-turn t n xs room = bySaid (lineOf xs .said) t n (lineOf xs .entry) room
+turn t n xs room = bySaid (lineSaid xs .said) t n (lineSaid xs .entry) room
 
 -- ---- the end of the text
 
@@ -309,5 +309,5 @@ enteredBy answers.Wrote t n e s count = record { typist = writtenAs t e s; fate 
 enteredBy (answers.Refused r) t n e s count = record { typist = refusedAt t n (e .kind) (r .code); fate = Refused (e .kind) r; written = 0 }
 
 -- the buffer after it: the record goes at its start; its bytes past those written stay
-abbrev pub laid : Turn → List ℕ → List ℕ
-laid r out = r .bytes ++ drop (length (r .bytes)) out
+abbrev pub turnLaid : Turn → List ℕ → List ℕ
+turnLaid r out = r .bytes ++ drop (length (r .bytes)) out

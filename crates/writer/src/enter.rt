@@ -12,6 +12,9 @@ use crate::unusual::unusual_after;
 use account::sort::is_of_group;
 use base::one_more;
 use book::State;
+use codec::kinds::CLOSE;
+use codec::kinds::FARM;
+use codec::kinds::HEADING;
 use make_record::Answer;
 use make_record::Written;
 ghost use mathlib.Core.Path.{_≡_};
@@ -24,7 +27,7 @@ ghost use Rattle.writer.specs.Line.{writeEntry};
 ghost use Rattle.writer.specs.Typist.{oneTold, oneUnread, oneRefused, oneWithout, oneWritten};
 ghost use Rattle.writer.specs.Typist.{mayHead, firstFailed, lostBy, hears, early, runEnded, notRead, withholding, waits, unheaded};
 ghost use Rattle.writer.specs.Typist.{refusedAt, daysOfYear, writtenAs, withheld, headless, closeBy, judgedTurn, recordTurn, bySaid};
-ghost use Rattle.writer.specs.Typist.{closingTurn, endTurn, enteredOf, enteredBy, laid};
+ghost use Rattle.writer.specs.Typist.{closingTurn, endTurn, enteredOf, enteredBy, turnLaid};
 
 fn chosen(first: bool, a: u64, b: u64) -> u64
     ensures { λ r. ⌜ r ≡ pick first a b ⌝ }
@@ -41,7 +44,7 @@ fn first_failed(failed: u64, number: u64) -> u64
 fn may_head(kind: u64) -> bool
     ensures { λ r. ⌜ r ≡ mayHead kind ⌝ }
 {
-    (kind == 2) | ((kind < 1) | (codec::LAST_KIND < kind))
+    (kind == HEADING) | ((kind < 1) | (codec::LAST_KIND < kind))
 }
 
 fn days_of_year(year: u64) -> u64
@@ -99,7 +102,7 @@ fn hears(mut t: Typist, kind: u64) -> Typist
     let h = t.heard;
     let heard = Heard {
         words: true,
-        close: h.close | (kind == 8),
+        close: h.close | (kind == CLOSE),
     };
     t.heard = heard;
     t
@@ -163,7 +166,12 @@ fn not_read(mut t: Typist, number: u64, kind: u64) -> Typist
 {
     let before = t.lost;
     let counts = t.counts;
-    let lost = lost_by(may_head(kind), number, chosen(kind == 2, 0, 1), before);
+    let lost = lost_by(
+        may_head(kind),
+        number,
+        chosen(kind == HEADING, 0, 1),
+        before,
+    );
     let counted = one_unread(counts);
     t.lost = lost;
     t.failed = first_failed(t.failed, number);
@@ -209,9 +217,9 @@ fn refused_at(mut t: Typist, number: u64, kind: u64, code: u64) -> Typist
     let before = t.lost;
     let counts = t.counts;
     let lost = lost_by(
-        (kind == 2) | (code == 3),
+        (kind == HEADING) | (code == 3),
         number,
-        chosen(kind == 2, 0, 2),
+        chosen(kind == HEADING, 0, 2),
         before,
     );
     let counted = one_refused(counts);
@@ -230,9 +238,9 @@ fn written_as(mut t: Typist, e: Entry, state: State) -> Typist
     let a = s.account;
     let before = t.lost;
     let counts = t.counts;
-    let lost = lost_by(e.kind == 2, 0, 0, before);
+    let lost = lost_by(e.kind == HEADING, 0, 0, before);
     let counted = one_written(counts, unusual_after(a, e, counts.unusual));
-    t.year = chosen(e.kind == 1, days_of_year(year), t.year);
+    t.year = chosen(e.kind == FARM, days_of_year(year), t.year);
     t.lost = lost;
     t.counts = counted;
     t.state = state;
@@ -288,18 +296,18 @@ fn enter_close(t: Typist, number: u64, e: Entry) -> Entered
 fn judge_record(t: Typist, number: u64, e: Entry, out: &mut [u8]) -> Entered
     requires { ⌜ length (e .values) ≡ 13 ⌝ }
     ensures result { λ r. ⌜ r ≡ enteredOf (judgedTurn t number e (length (now (out .entry)))) ⌝ }
-    ensures buffer { λ r. ⌜ now (out .exit) ≡ laid (judgedTurn t number e (length (now (out .entry)))) (now (out .entry)) ⌝ }
+    ensures buffer { λ r. ⌜ now (out .exit) ≡ turnLaid (judgedTurn t number e (length (now (out .entry)))) (now (out .entry)) ⌝ }
 {
     let state = t.state;
     let a = state.account;
-    if (e.kind == 8) & ((a.stage == 1) & (t.failed != 0)) {
+    if (e.kind == CLOSE) & ((a.stage == 1) & (t.failed != 0)) {
         return Entered {
             typist: withholding(t),
             fate: Fate::Withheld,
             written: 0,
         };
     }
-    if e.kind == 8 {
+    if e.kind == CLOSE {
         return enter_close(t, number, e);
     }
     let w = crate::typed_line::write_entry(state, e, out);
@@ -309,7 +317,7 @@ fn judge_record(t: Typist, number: u64, e: Entry, out: &mut [u8]) -> Entered
 fn enter_record(t: Typist, number: u64, e: Entry, out: &mut [u8]) -> Entered
     requires { ⌜ length (e .values) ≡ 13 ⌝ }
     ensures result { λ r. ⌜ r ≡ enteredOf (recordTurn t number e (length (now (out .entry)))) ⌝ }
-    ensures buffer { λ r. ⌜ now (out .exit) ≡ laid (recordTurn t number e (length (now (out .entry)))) (now (out .entry)) ⌝ }
+    ensures buffer { λ r. ⌜ now (out .exit) ≡ turnLaid (recordTurn t number e (length (now (out .entry)))) (now (out .entry)) ⌝ }
 {
     if is_of_group(e.kind) & (t.lost.line != 0) {
         return Entered {
@@ -325,7 +333,7 @@ fn enter_record(t: Typist, number: u64, e: Entry, out: &mut [u8]) -> Entered
 pub(crate) fn enter(t: Typist, number: u64, line: Line, out: &mut [u8]) -> Entered
     requires { ⌜ length (line .entry .values) ≡ 13 ⌝ }
     ensures result { λ r. ⌜ r ≡ enteredOf (bySaid (line .said) t number (line .entry) (length (now (out .entry)))) ⌝ }
-    ensures buffer { λ r. ⌜ now (out .exit) ≡ laid (bySaid (line .said) t number (line .entry) (length (now (out .entry)))) (now (out .entry)) ⌝ }
+    ensures buffer { λ r. ⌜ now (out .exit) ≡ turnLaid (bySaid (line .said) t number (line .entry) (length (now (out .entry)))) (now (out .entry)) ⌝ }
 {
     let said = line.said;
     match said {
@@ -349,7 +357,7 @@ pub(crate) fn enter(t: Typist, number: u64, line: Line, out: &mut [u8]) -> Enter
 // The close that waits is written.
 fn close_book(t: Typist, out: &mut [u8]) -> Entered
     ensures result { λ r. ⌜ r ≡ enteredOf (closingTurn t (length (now (out .entry)))) ⌝ }
-    ensures buffer { λ r. ⌜ now (out .exit) ≡ laid (closingTurn t (length (now (out .entry)))) (now (out .entry)) ⌝ }
+    ensures buffer { λ r. ⌜ now (out .exit) ≡ turnLaid (closingTurn t (length (now (out .entry)))) (now (out .entry)) ⌝ }
 {
     let own = Entry {
         kind: 8,
@@ -379,7 +387,7 @@ fn close_book(t: Typist, out: &mut [u8]) -> Entered
 // The end of the text.
 pub(crate) fn end(t: Typist, good: bool, out: &mut [u8]) -> Entered
     ensures result { λ r. ⌜ r ≡ enteredOf (endTurn good t (length (now (out .entry)))) ⌝ }
-    ensures buffer { λ r. ⌜ now (out .exit) ≡ laid (endTurn good t (length (now (out .entry)))) (now (out .entry)) ⌝ }
+    ensures buffer { λ r. ⌜ now (out .exit) ≡ turnLaid (endTurn good t (length (now (out .entry)))) (now (out .entry)) ⌝ }
 {
     let ended = run_ended(t);
     if good & (t.waiting.close != 0) {

@@ -4,6 +4,11 @@ use crate::typed_line::has_field;
 use account::Account;
 use account::Refusal;
 use account::Used;
+use codec::kinds::CATTLE;
+use codec::kinds::ENTERIC;
+use codec::kinds::FARM;
+use codec::kinds::FARM_FACTORS;
+use codec::kinds::PIG;
 use printing::say;
 use printing::say_number;
 use printing::say_pointed;
@@ -223,10 +228,10 @@ fn say_takes(out: &mut [u8], at: usize, kind: u64, row: u64) -> usize
     requires { ⌜ at ≤ length (now out) ⌝ }
     ensures { λ r. ⌜ Said (now (out .entry)) (now (out .exit)) at (takesText kind row) r ⌝ }
 {
-    if kind == 1 {
-        let first = say_number(out, at, codec::kinds::values_of(1) as u64);
+    if kind == FARM {
+        let first = say_number(out, at, codec::kinds::values_of(FARM) as u64);
         let or = say(out, first, b" or ");
-        return say_many(out, or, codec::kinds::values_of(codec::LAST_ROW) as u64);
+        return say_many(out, or, codec::kinds::values_of(FARM_FACTORS) as u64);
     }
     say_many(out, at, codec::kinds::values_of(row) as u64)
 }
@@ -235,7 +240,7 @@ fn say_names(out: &mut [u8], at: usize, kind: u64, row: u64) -> usize
     requires { ⌜ at ≤ length (now out) ⌝ }
     ensures { λ r. ⌜ Said (now (out .entry)) (now (out .exit)) at (namesText kind row) r ⌝ }
 {
-    if kind == 1 {
+    if kind == FARM {
         return say_either(out, at);
     }
     names::say_fields(out, at, row)
@@ -313,10 +318,10 @@ fn say_together(out: &mut [u8], at: usize, d: usize, before: u64, typed: u64, mo
 fn used_days(u: Used, kind: u64) -> u64
     ensures { λ r. ⌜ r ≡ usedDays u kind ⌝ }
 {
-    if kind == 3 {
+    if kind == ENTERIC {
         return u.enteric as u64;
     }
-    if kind == 4 {
+    if kind == CATTLE {
         return u.nitrogen as u64;
     }
     u.pig as u64
@@ -376,10 +381,10 @@ fn say_over(out: &mut [u8], at: usize, a: Account, e: Entry) -> usize
     requires { ⌜ (at ≤ length (now out)) × (length (e .values) ≡ 13) ⌝ }
     ensures { λ r. ⌜ Said (now (out .entry)) (now (out .exit)) at (overText a e) r ⌝ }
 {
-    if e.kind == 4 {
+    if e.kind == CATTLE {
         return say_shares(out, at, e);
     }
-    if e.kind == 5 {
+    if e.kind == PIG {
         return say_parts(out, at, e);
     }
     say_grazed(out, at, a, e)

@@ -10,6 +10,8 @@ use crate::lines::say_refused;
 use crate::lines::say_unread;
 use crate::typed_line::Entry;
 use crate::unusual::say_unusual;
+use codec::kinds::CLOSE;
+use codec::kinds::HEADING;
 use printing::say;
 use printing::say_number;
 ghost use mathlib.Core.Path.{_≡_};
@@ -163,7 +165,7 @@ fn say_ended(out: &mut [u8], at: usize, kind: u64, t: Typist) -> usize
     requires { ⌜ at ≤ length (now out) ⌝ }
     ensures { λ r. ⌜ Said (now (out .entry)) (now (out .exit)) at (endedText kind t) r ⌝ }
 {
-    if (kind == 2) | (kind == 8) {
+    if (kind == HEADING) | (kind == CLOSE) {
         let state = t.state;
         let a = state.account;
         return say_group(out, at, a, t.year);

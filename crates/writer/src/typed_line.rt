@@ -1,5 +1,7 @@
 // A book as a person types it, one record a line: the kind's name or number, then its values.
 use book::State;
+use codec::kinds::CLOSE;
+use codec::kinds::FARM;
 use make_record::Written;
 use typed_words::Whole;
 ghost use mathlib.Core.Path.{_≡_};
@@ -7,8 +9,8 @@ ghost use Prim.Native.Nat.{_≤_};
 ghost use lib.ListN.{length};
 ghost use Rattle.codec.specs.Table.{lastKind};
 ghost use Rattle.typed_words.specs.Words.{lowered};
-ghost use Rattle.make_record.specs.Write.{writtenOf, laid};
-ghost use Rattle.writer.specs.Line.{namedFrom, kindOf, rowOfLine, hasField, byChoice, valueAt, valuesFrom, listed, noRecord, lineOf};
+ghost use Rattle.make_record.specs.Write.{writtenOf, recordLaid};
+ghost use Rattle.writer.specs.Line.{namedFrom, kindOf, rowOfLine, hasField, byChoice, valueAt, valuesFrom, listed, noRecord, lineSaid};
 ghost use Rattle.writer.specs.Line.{completedOf, writeEntry};
 
 // How many values are typed and the first 13 of them, zeros behind; the place of a word that is no number, counted from 1, or 0.
@@ -75,7 +77,7 @@ pub fn row_of_line(kind: u64, line: &[u8]) -> u64
     }
     let fourth = typed_words::word(line, 4);
     let fifth = typed_words::word(line, 5);
-    if (kind == 1) & ((fourth.len() != 0) & (fifth.len() == 0)) {
+    if (kind == FARM) & ((fourth.len() != 0) & (fifth.len() == 0)) {
         return codec::LAST_ROW;
     }
     kind
@@ -165,7 +167,7 @@ fn without(said: Said) -> Line
 
 // What a line says that has no comment.
 pub fn read_line(text: &[u8]) -> Line
-    ensures { λ r. ⌜ r ≡ lineOf (now (text .entry)) ⌝ }
+    ensures { λ r. ⌜ r ≡ lineSaid (now (text .entry)) ⌝ }
 {
     if 1024 <= text.len() {
         return without(Said::Wrong(0, 0));
@@ -199,7 +201,7 @@ fn completed(entry: Entry, records: u16) -> Entry
     ensures { λ r. ⌜ r ≡ completedOf entry records ⌝ }
     ensures { λ r. ⌜ length (r .values) ≡ 13 ⌝ }
 {
-    if (entry.kind == 8) & (entry.count == 0) {
+    if (entry.kind == CLOSE) & (entry.count == 0) {
         let mut values = [0u64; 13];
         values[0] = records as u64;
         return Entry {
@@ -214,7 +216,7 @@ fn completed(entry: Entry, records: u16) -> Entry
 // Writes the record that is typed, after the records of the state.
 pub fn write_entry(state: State, entry: Entry, out: &mut [u8]) -> Written
     ensures result { λ r. ⌜ r ≡ writtenOf (writeEntry state entry (length (now (out .entry)))) ⌝ }
-    ensures buffer { λ r. ⌜ now (out .exit) ≡ laid (writeEntry state entry (length (now (out .entry)))) (now (out .entry)) ⌝ }
+    ensures buffer { λ r. ⌜ now (out .exit) ≡ recordLaid (writeEntry state entry (length (now (out .entry)))) (now (out .entry)) ⌝ }
     ensures count { λ r. ⌜ r .written ≤ length (now (out .entry)) ⌝ }
 {
     let a = state.account;

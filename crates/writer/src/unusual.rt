@@ -2,6 +2,8 @@
 use crate::typed_line::Entry;
 use account::Account;
 use base::one_more;
+use codec::kinds::CATTLE;
+use codec::kinds::GRAZING;
 use names::say_field;
 use names::say_kind;
 use names::say_unit;
@@ -24,7 +26,7 @@ fn who_for(a: Account, e: Entry) -> usize
     ensures { λ r. ⌜ r ≡ whoFor a e ⌝ }
 {
     let h = a.heading;
-    if e.kind == 10 {
+    if e.kind == GRAZING {
         return e.values[1] as usize;
     }
     h.class as usize
@@ -36,7 +38,7 @@ fn is_looked_at(e: Entry, i: usize) -> bool
     ensures { λ r. ⌜ r ≡ isLookedAt e i ⌝ }
 {
     let milk = e.values[3];
-    !(((e.kind == 4) & (i == 4)) & (milk == 0))
+    !(((e.kind == CATTLE) & (i == 4)) & (milk == 0))
 }
 
 fn outside(u: Usual, v: u64) -> bool

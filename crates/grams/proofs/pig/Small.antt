@@ -17,7 +17,7 @@ module _ {v mcf head days : ℕ} (p : v ≤ 10 ^ 7) (m : mcf ≤ 1000) (h : head
   pig-ch4-most = rounds _ _ (p ⊗ m ⊗ h ⊗ d ⊗ num _) tt tt
 
 module _ {feed protein nfactor head days : ℕ} (f : feed ≤ 1000) (p : protein ≤ 4000) (k : nfactor ≤ 2000) (h : head ≤ 20000) (d : days ≤ 366) where
-  pub pig-nitrogen-most : pig.nitrogenOf feed protein nfactor head days ≤ 7 * 10 ^ 9
+  pub pig-nitrogen-most : pig.pigNitrogenOf feed protein nfactor head days ≤ 7 * 10 ^ 9
   pig-nitrogen-most = rounds _ _ (f ⊗ p ⊗ k ⊗ h ⊗ d ⊗ num _) tt tt
 
 module _ {n : ℕ} (p : n ≤ 7 * 10 ^ 9) where

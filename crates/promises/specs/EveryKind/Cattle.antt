@@ -4,7 +4,7 @@ use Prim.Native.Nat.{ℕ}
 use mathlib.Core.List.{List, [], _∷_, _++_}
 use Rattle.codec.specs.Codec.{recordBytes}
 use Rattle.grams.specs.Cases.{Row, row}
-use Rattle.promises.specs.Rows.{going, refused, farm, cow, after, blank, given}
+use Rattle.promises.specs.Rows.{going, refused, farm, cow, rowAfter, blank, given}
 
 -- of so many days
 abbrev pub nitrogen : ℕ → List ℕ
@@ -13,71 +13,71 @@ nitrogen days = recordBytes 4 (days ∷ 20 ∷ 30 ∷ 4 ∷ 5 ∷ 0 ∷ 1 ∷ 2 
 abbrev pub cattleLimits : List Row
 cattleLimits =
     -- days: 1..366
-    after cow (recordBytes 4 (0 ∷ 5000 ∷ 4000 ∷ 0 ∷ 0 ∷ 0 ∷ 0 ∷ 0 ∷ 10000 ∷ [])) (refused 2 7 1)
-    ∷ after cow (recordBytes 4 (1 ∷ 5000 ∷ 4000 ∷ 0 ∷ 0 ∷ 0 ∷ 0 ∷ 0 ∷ 10000 ∷ [])) (going 3)
-    ∷ after cow (recordBytes 4 (366 ∷ 5000 ∷ 4000 ∷ 0 ∷ 0 ∷ 0 ∷ 0 ∷ 0 ∷ 10000 ∷ [])) (going 3)
-    ∷ after cow (recordBytes 4 (367 ∷ 5000 ∷ 4000 ∷ 0 ∷ 0 ∷ 0 ∷ 0 ∷ 0 ∷ 10000 ∷ [])) (refused 2 7 1)
+    rowAfter cow (recordBytes 4 (0 ∷ 5000 ∷ 4000 ∷ 0 ∷ 0 ∷ 0 ∷ 0 ∷ 0 ∷ 10000 ∷ [])) (refused 2 7 1)
+    ∷ rowAfter cow (recordBytes 4 (1 ∷ 5000 ∷ 4000 ∷ 0 ∷ 0 ∷ 0 ∷ 0 ∷ 0 ∷ 10000 ∷ [])) (going 3)
+    ∷ rowAfter cow (recordBytes 4 (366 ∷ 5000 ∷ 4000 ∷ 0 ∷ 0 ∷ 0 ∷ 0 ∷ 0 ∷ 10000 ∷ [])) (going 3)
+    ∷ rowAfter cow (recordBytes 4 (367 ∷ 5000 ∷ 4000 ∷ 0 ∷ 0 ∷ 0 ∷ 0 ∷ 0 ∷ 10000 ∷ [])) (refused 2 7 1)
     -- feed: 0..5000
-    ∷ after cow (recordBytes 4 (10 ∷ 0 ∷ 4000 ∷ 0 ∷ 0 ∷ 0 ∷ 0 ∷ 0 ∷ 10000 ∷ [])) (going 3)
-    ∷ after cow (recordBytes 4 (10 ∷ 5000 ∷ 4000 ∷ 0 ∷ 0 ∷ 0 ∷ 0 ∷ 0 ∷ 10000 ∷ [])) (going 3)
-    ∷ after cow (recordBytes 4 (10 ∷ 5001 ∷ 4000 ∷ 0 ∷ 0 ∷ 0 ∷ 0 ∷ 0 ∷ 10000 ∷ [])) (refused 2 7 2)
+    ∷ rowAfter cow (recordBytes 4 (10 ∷ 0 ∷ 4000 ∷ 0 ∷ 0 ∷ 0 ∷ 0 ∷ 0 ∷ 10000 ∷ [])) (going 3)
+    ∷ rowAfter cow (recordBytes 4 (10 ∷ 5000 ∷ 4000 ∷ 0 ∷ 0 ∷ 0 ∷ 0 ∷ 0 ∷ 10000 ∷ [])) (going 3)
+    ∷ rowAfter cow (recordBytes 4 (10 ∷ 5001 ∷ 4000 ∷ 0 ∷ 0 ∷ 0 ∷ 0 ∷ 0 ∷ 10000 ∷ [])) (refused 2 7 2)
     -- protein: 0..4000
-    ∷ after cow (recordBytes 4 (10 ∷ 5000 ∷ 0 ∷ 0 ∷ 0 ∷ 0 ∷ 0 ∷ 0 ∷ 10000 ∷ [])) (going 3)
-    ∷ after cow (recordBytes 4 (10 ∷ 5000 ∷ 4000 ∷ 0 ∷ 0 ∷ 0 ∷ 0 ∷ 0 ∷ 10000 ∷ [])) (going 3)
-    ∷ after cow (recordBytes 4 (10 ∷ 5000 ∷ 4001 ∷ 0 ∷ 0 ∷ 0 ∷ 0 ∷ 0 ∷ 10000 ∷ [])) (refused 2 7 3)
+    ∷ rowAfter cow (recordBytes 4 (10 ∷ 5000 ∷ 0 ∷ 0 ∷ 0 ∷ 0 ∷ 0 ∷ 0 ∷ 10000 ∷ [])) (going 3)
+    ∷ rowAfter cow (recordBytes 4 (10 ∷ 5000 ∷ 4000 ∷ 0 ∷ 0 ∷ 0 ∷ 0 ∷ 0 ∷ 10000 ∷ [])) (going 3)
+    ∷ rowAfter cow (recordBytes 4 (10 ∷ 5000 ∷ 4001 ∷ 0 ∷ 0 ∷ 0 ∷ 0 ∷ 0 ∷ 10000 ∷ [])) (refused 2 7 3)
     -- milk: 0..8000
-    ∷ after cow (recordBytes 4 (10 ∷ 5000 ∷ 4000 ∷ 0 ∷ 0 ∷ 0 ∷ 0 ∷ 0 ∷ 10000 ∷ [])) (going 3)
-    ∷ after cow (recordBytes 4 (10 ∷ 5000 ∷ 4000 ∷ 8000 ∷ 0 ∷ 0 ∷ 0 ∷ 0 ∷ 10000 ∷ [])) (going 3)
-    ∷ after cow (recordBytes 4 (10 ∷ 5000 ∷ 4000 ∷ 8001 ∷ 0 ∷ 0 ∷ 0 ∷ 0 ∷ 10000 ∷ [])) (refused 2 7 4)
+    ∷ rowAfter cow (recordBytes 4 (10 ∷ 5000 ∷ 4000 ∷ 0 ∷ 0 ∷ 0 ∷ 0 ∷ 0 ∷ 10000 ∷ [])) (going 3)
+    ∷ rowAfter cow (recordBytes 4 (10 ∷ 5000 ∷ 4000 ∷ 8000 ∷ 0 ∷ 0 ∷ 0 ∷ 0 ∷ 10000 ∷ [])) (going 3)
+    ∷ rowAfter cow (recordBytes 4 (10 ∷ 5000 ∷ 4000 ∷ 8001 ∷ 0 ∷ 0 ∷ 0 ∷ 0 ∷ 10000 ∷ [])) (refused 2 7 4)
     -- milk protein: 0..800
-    ∷ after cow (recordBytes 4 (10 ∷ 5000 ∷ 4000 ∷ 0 ∷ 0 ∷ 0 ∷ 0 ∷ 0 ∷ 10000 ∷ [])) (going 3)
-    ∷ after cow (recordBytes 4 (10 ∷ 5000 ∷ 4000 ∷ 0 ∷ 800 ∷ 0 ∷ 0 ∷ 0 ∷ 10000 ∷ [])) (going 3)
-    ∷ after cow (recordBytes 4 (10 ∷ 5000 ∷ 4000 ∷ 0 ∷ 801 ∷ 0 ∷ 0 ∷ 0 ∷ 10000 ∷ [])) (refused 2 7 5)
+    ∷ rowAfter cow (recordBytes 4 (10 ∷ 5000 ∷ 4000 ∷ 0 ∷ 0 ∷ 0 ∷ 0 ∷ 0 ∷ 10000 ∷ [])) (going 3)
+    ∷ rowAfter cow (recordBytes 4 (10 ∷ 5000 ∷ 4000 ∷ 0 ∷ 800 ∷ 0 ∷ 0 ∷ 0 ∷ 10000 ∷ [])) (going 3)
+    ∷ rowAfter cow (recordBytes 4 (10 ∷ 5000 ∷ 4000 ∷ 0 ∷ 801 ∷ 0 ∷ 0 ∷ 0 ∷ 10000 ∷ [])) (refused 2 7 5)
     -- gain: 0..3000
-    ∷ after cow (recordBytes 4 (10 ∷ 5000 ∷ 4000 ∷ 0 ∷ 0 ∷ 0 ∷ 0 ∷ 0 ∷ 10000 ∷ [])) (going 3)
-    ∷ after cow (recordBytes 4 (10 ∷ 5000 ∷ 4000 ∷ 0 ∷ 0 ∷ 3000 ∷ 0 ∷ 0 ∷ 10000 ∷ [])) (going 3)
-    ∷ after cow (recordBytes 4 (10 ∷ 5000 ∷ 4000 ∷ 0 ∷ 0 ∷ 3001 ∷ 0 ∷ 0 ∷ 10000 ∷ [])) (refused 2 7 6)
+    ∷ rowAfter cow (recordBytes 4 (10 ∷ 5000 ∷ 4000 ∷ 0 ∷ 0 ∷ 0 ∷ 0 ∷ 0 ∷ 10000 ∷ [])) (going 3)
+    ∷ rowAfter cow (recordBytes 4 (10 ∷ 5000 ∷ 4000 ∷ 0 ∷ 0 ∷ 3000 ∷ 0 ∷ 0 ∷ 10000 ∷ [])) (going 3)
+    ∷ rowAfter cow (recordBytes 4 (10 ∷ 5000 ∷ 4000 ∷ 0 ∷ 0 ∷ 3001 ∷ 0 ∷ 0 ∷ 10000 ∷ [])) (refused 2 7 6)
     -- solid share: 0..10000
-    ∷ after cow (recordBytes 4 (10 ∷ 5000 ∷ 4000 ∷ 0 ∷ 0 ∷ 0 ∷ 0 ∷ 10000 ∷ 0 ∷ [])) (going 3)
-    ∷ after cow (recordBytes 4 (10 ∷ 5000 ∷ 4000 ∷ 0 ∷ 0 ∷ 0 ∷ 10000 ∷ 0 ∷ 0 ∷ [])) (going 3)
-    ∷ after cow (recordBytes 4 (10 ∷ 5000 ∷ 4000 ∷ 0 ∷ 0 ∷ 0 ∷ 10001 ∷ 0 ∷ 0 ∷ [])) (refused 2 7 7)
+    ∷ rowAfter cow (recordBytes 4 (10 ∷ 5000 ∷ 4000 ∷ 0 ∷ 0 ∷ 0 ∷ 0 ∷ 10000 ∷ 0 ∷ [])) (going 3)
+    ∷ rowAfter cow (recordBytes 4 (10 ∷ 5000 ∷ 4000 ∷ 0 ∷ 0 ∷ 0 ∷ 10000 ∷ 0 ∷ 0 ∷ [])) (going 3)
+    ∷ rowAfter cow (recordBytes 4 (10 ∷ 5000 ∷ 4000 ∷ 0 ∷ 0 ∷ 0 ∷ 10001 ∷ 0 ∷ 0 ∷ [])) (refused 2 7 7)
     -- liquid share: 0..10000
-    ∷ after cow (recordBytes 4 (10 ∷ 5000 ∷ 4000 ∷ 0 ∷ 0 ∷ 0 ∷ 0 ∷ 0 ∷ 10000 ∷ [])) (going 3)
-    ∷ after cow (recordBytes 4 (10 ∷ 5000 ∷ 4000 ∷ 0 ∷ 0 ∷ 0 ∷ 0 ∷ 10000 ∷ 0 ∷ [])) (going 3)
-    ∷ after cow (recordBytes 4 (10 ∷ 5000 ∷ 4000 ∷ 0 ∷ 0 ∷ 0 ∷ 0 ∷ 10001 ∷ 0 ∷ [])) (refused 2 7 8)
+    ∷ rowAfter cow (recordBytes 4 (10 ∷ 5000 ∷ 4000 ∷ 0 ∷ 0 ∷ 0 ∷ 0 ∷ 0 ∷ 10000 ∷ [])) (going 3)
+    ∷ rowAfter cow (recordBytes 4 (10 ∷ 5000 ∷ 4000 ∷ 0 ∷ 0 ∷ 0 ∷ 0 ∷ 10000 ∷ 0 ∷ [])) (going 3)
+    ∷ rowAfter cow (recordBytes 4 (10 ∷ 5000 ∷ 4000 ∷ 0 ∷ 0 ∷ 0 ∷ 0 ∷ 10001 ∷ 0 ∷ [])) (refused 2 7 8)
     -- pasture share: 0..10000
-    ∷ after cow (recordBytes 4 (10 ∷ 5000 ∷ 4000 ∷ 0 ∷ 0 ∷ 0 ∷ 10000 ∷ 0 ∷ 0 ∷ [])) (going 3)
-    ∷ after cow (recordBytes 4 (10 ∷ 5000 ∷ 4000 ∷ 0 ∷ 0 ∷ 0 ∷ 0 ∷ 0 ∷ 10000 ∷ [])) (going 3)
-    ∷ after cow (recordBytes 4 (10 ∷ 5000 ∷ 4000 ∷ 0 ∷ 0 ∷ 0 ∷ 0 ∷ 0 ∷ 10001 ∷ [])) (refused 2 7 9)
+    ∷ rowAfter cow (recordBytes 4 (10 ∷ 5000 ∷ 4000 ∷ 0 ∷ 0 ∷ 0 ∷ 10000 ∷ 0 ∷ 0 ∷ [])) (going 3)
+    ∷ rowAfter cow (recordBytes 4 (10 ∷ 5000 ∷ 4000 ∷ 0 ∷ 0 ∷ 0 ∷ 0 ∷ 0 ∷ 10000 ∷ [])) (going 3)
+    ∷ rowAfter cow (recordBytes 4 (10 ∷ 5000 ∷ 4000 ∷ 0 ∷ 0 ∷ 0 ∷ 0 ∷ 0 ∷ 10001 ∷ [])) (refused 2 7 9)
     -- 4: its length is 20, one byte less and one more
-    ∷ after cow (blank 19 4) (refused 2 4 0)
-    ∷ after cow (blank 21 4) (refused 2 4 0)
+    ∷ rowAfter cow (blank 19 4) (refused 2 4 0)
+    ∷ rowAfter cow (blank 21 4) (refused 2 4 0)
     -- 6: not the first record, and under a cattle heading
-    ∷ after [] (nitrogen 10) (refused 0 6 0)
-    ∷ after farm (nitrogen 10) (refused 1 6 0)
-    ∷ after farm (recordBytes 2 (1 ∷ 1 ∷ 1 ∷ []) ++ nitrogen 10) (going 3)
-    ∷ after farm (recordBytes 2 (1 ∷ 2 ∷ 1 ∷ []) ++ nitrogen 10) (going 3)
-    ∷ after farm (recordBytes 2 (1 ∷ 3 ∷ 1 ∷ []) ++ nitrogen 10) (going 3)
-    ∷ after farm (recordBytes 2 (1 ∷ 4 ∷ 1 ∷ []) ++ nitrogen 10) (refused 2 6 0)
+    ∷ rowAfter [] (nitrogen 10) (refused 0 6 0)
+    ∷ rowAfter farm (nitrogen 10) (refused 1 6 0)
+    ∷ rowAfter farm (recordBytes 2 (1 ∷ 1 ∷ 1 ∷ []) ++ nitrogen 10) (going 3)
+    ∷ rowAfter farm (recordBytes 2 (1 ∷ 2 ∷ 1 ∷ []) ++ nitrogen 10) (going 3)
+    ∷ rowAfter farm (recordBytes 2 (1 ∷ 3 ∷ 1 ∷ []) ++ nitrogen 10) (going 3)
+    ∷ rowAfter farm (recordBytes 2 (1 ∷ 4 ∷ 1 ∷ []) ++ nitrogen 10) (refused 2 6 0)
     -- 9: days over 366 with this record
-    ∷ after cow (nitrogen 200 ++ nitrogen 166) (going 4)
-    ∷ after cow (nitrogen 200 ++ nitrogen 167) (refused 3 9 0)
-    ∷ after cow (nitrogen 366 ++ nitrogen 1) (refused 3 9 0)
+    ∷ rowAfter cow (nitrogen 200 ++ nitrogen 166) (going 4)
+    ∷ rowAfter cow (nitrogen 200 ++ nitrogen 167) (refused 3 9 0)
+    ∷ rowAfter cow (nitrogen 366 ++ nitrogen 1) (refused 3 9 0)
     -- 10: shares not 10000 together
-    ∷ after cow (recordBytes 4 (10 ∷ 20 ∷ 30 ∷ 4 ∷ 5 ∷ 0 ∷ 3333 ∷ 3333 ∷ 3334 ∷ [])) (going 3)
-    ∷ after cow (recordBytes 4 (10 ∷ 20 ∷ 30 ∷ 4 ∷ 5 ∷ 0 ∷ 3333 ∷ 3333 ∷ 3333 ∷ [])) (refused 2 10 0)
-    ∷ after cow (recordBytes 4 (10 ∷ 20 ∷ 30 ∷ 4 ∷ 5 ∷ 0 ∷ 3333 ∷ 3334 ∷ 3334 ∷ [])) (refused 2 10 0)
-    ∷ after cow (recordBytes 4 (10 ∷ 20 ∷ 30 ∷ 4 ∷ 5 ∷ 0 ∷ 0 ∷ 0 ∷ 0 ∷ [])) (refused 2 10 0)
-    ∷ after cow (recordBytes 4 (10 ∷ 20 ∷ 30 ∷ 4 ∷ 5 ∷ 0 ∷ 10000 ∷ 10000 ∷ 10000 ∷ [])) (refused 2 10 0)
-    ∷ after cow (recordBytes 4 (10 ∷ 20 ∷ 30 ∷ 4 ∷ 5 ∷ 0 ∷ 0 ∷ 0 ∷ 10000 ∷ [])) (going 3)
-    ∷ after cow (recordBytes 4 (10 ∷ 20 ∷ 30 ∷ 4 ∷ 5 ∷ 0 ∷ 1 ∷ 0 ∷ 10000 ∷ [])) (refused 2 10 0)
+    ∷ rowAfter cow (recordBytes 4 (10 ∷ 20 ∷ 30 ∷ 4 ∷ 5 ∷ 0 ∷ 3333 ∷ 3333 ∷ 3334 ∷ [])) (going 3)
+    ∷ rowAfter cow (recordBytes 4 (10 ∷ 20 ∷ 30 ∷ 4 ∷ 5 ∷ 0 ∷ 3333 ∷ 3333 ∷ 3333 ∷ [])) (refused 2 10 0)
+    ∷ rowAfter cow (recordBytes 4 (10 ∷ 20 ∷ 30 ∷ 4 ∷ 5 ∷ 0 ∷ 3333 ∷ 3334 ∷ 3334 ∷ [])) (refused 2 10 0)
+    ∷ rowAfter cow (recordBytes 4 (10 ∷ 20 ∷ 30 ∷ 4 ∷ 5 ∷ 0 ∷ 0 ∷ 0 ∷ 0 ∷ [])) (refused 2 10 0)
+    ∷ rowAfter cow (recordBytes 4 (10 ∷ 20 ∷ 30 ∷ 4 ∷ 5 ∷ 0 ∷ 10000 ∷ 10000 ∷ 10000 ∷ [])) (refused 2 10 0)
+    ∷ rowAfter cow (recordBytes 4 (10 ∷ 20 ∷ 30 ∷ 4 ∷ 5 ∷ 0 ∷ 0 ∷ 0 ∷ 10000 ∷ [])) (going 3)
+    ∷ rowAfter cow (recordBytes 4 (10 ∷ 20 ∷ 30 ∷ 4 ∷ 5 ∷ 0 ∷ 1 ∷ 0 ∷ 10000 ∷ [])) (refused 2 10 0)
     -- 11: X below zero: 160 × feed × protein − 157 × milk × milk protein − 27000 × gain of 1, 0 and −1
-    ∷ after cow (recordBytes 4 (10 ∷ 105 ∷ 1 ∷ 107 ∷ 1 ∷ 0 ∷ 0 ∷ 0 ∷ 10000 ∷ [])) (going 3)
-    ∷ after cow (recordBytes 4 (10 ∷ 0 ∷ 0 ∷ 0 ∷ 0 ∷ 0 ∷ 0 ∷ 0 ∷ 10000 ∷ [])) (going 3)
-    ∷ after cow (recordBytes 4 (10 ∷ 157 ∷ 1 ∷ 160 ∷ 1 ∷ 0 ∷ 0 ∷ 0 ∷ 10000 ∷ [])) (going 3)
-    ∷ after cow (recordBytes 4 (10 ∷ 675 ∷ 1 ∷ 0 ∷ 0 ∷ 4 ∷ 0 ∷ 0 ∷ 10000 ∷ [])) (going 3)
-    ∷ after cow (recordBytes 4 (10 ∷ 52 ∷ 1 ∷ 53 ∷ 1 ∷ 0 ∷ 0 ∷ 0 ∷ 10000 ∷ [])) (refused 2 11 0)
-    ∷ after cow (recordBytes 4 (10 ∷ 0 ∷ 4000 ∷ 0 ∷ 800 ∷ 1 ∷ 0 ∷ 0 ∷ 10000 ∷ [])) (refused 2 11 0)
+    ∷ rowAfter cow (recordBytes 4 (10 ∷ 105 ∷ 1 ∷ 107 ∷ 1 ∷ 0 ∷ 0 ∷ 0 ∷ 10000 ∷ [])) (going 3)
+    ∷ rowAfter cow (recordBytes 4 (10 ∷ 0 ∷ 0 ∷ 0 ∷ 0 ∷ 0 ∷ 0 ∷ 0 ∷ 10000 ∷ [])) (going 3)
+    ∷ rowAfter cow (recordBytes 4 (10 ∷ 157 ∷ 1 ∷ 160 ∷ 1 ∷ 0 ∷ 0 ∷ 0 ∷ 10000 ∷ [])) (going 3)
+    ∷ rowAfter cow (recordBytes 4 (10 ∷ 675 ∷ 1 ∷ 0 ∷ 0 ∷ 4 ∷ 0 ∷ 0 ∷ 10000 ∷ [])) (going 3)
+    ∷ rowAfter cow (recordBytes 4 (10 ∷ 52 ∷ 1 ∷ 53 ∷ 1 ∷ 0 ∷ 0 ∷ 0 ∷ 10000 ∷ [])) (refused 2 11 0)
+    ∷ rowAfter cow (recordBytes 4 (10 ∷ 0 ∷ 4000 ∷ 0 ∷ 800 ∷ 1 ∷ 0 ∷ 0 ∷ 10000 ∷ [])) (refused 2 11 0)
     ∷ []
 
 -- exact halves

@@ -3,39 +3,39 @@
 use mathlib.Core.List.{List, [], _∷_}
 use Rattle.codec.specs.Codec.{recordBytes}
 use Rattle.grams.specs.Cases.{Row, row, above, below}
-use Rattle.promises.specs.Rows.{going, refused, farm, after, blank, given}
+use Rattle.promises.specs.Rows.{going, refused, farm, rowAfter, blank, given}
 
 abbrev pub tillageLimits : List Row
 tillageLimits =
     -- zone: 1..9
-    after farm (recordBytes 9 (0 ∷ 2 ∷ 3 ∷ 4 ∷ 5 ∷ [])) (refused 1 7 1)
-    ∷ after farm (recordBytes 9 (1 ∷ 2 ∷ 3 ∷ 4 ∷ 5 ∷ [])) (going 2)
-    ∷ after farm (recordBytes 9 (9 ∷ 2 ∷ 3 ∷ 4 ∷ 5 ∷ [])) (going 2)
-    ∷ after farm (recordBytes 9 (10 ∷ 2 ∷ 3 ∷ 4 ∷ 5 ∷ [])) (refused 1 7 1)
+    rowAfter farm (recordBytes 9 (0 ∷ 2 ∷ 3 ∷ 4 ∷ 5 ∷ [])) (refused 1 7 1)
+    ∷ rowAfter farm (recordBytes 9 (1 ∷ 2 ∷ 3 ∷ 4 ∷ 5 ∷ [])) (going 2)
+    ∷ rowAfter farm (recordBytes 9 (9 ∷ 2 ∷ 3 ∷ 4 ∷ 5 ∷ [])) (going 2)
+    ∷ rowAfter farm (recordBytes 9 (10 ∷ 2 ∷ 3 ∷ 4 ∷ 5 ∷ [])) (refused 1 7 1)
     -- texture: 1..3
-    ∷ after farm (recordBytes 9 (1 ∷ 0 ∷ 3 ∷ 4 ∷ 5 ∷ [])) (refused 1 7 2)
-    ∷ after farm (recordBytes 9 (1 ∷ 1 ∷ 3 ∷ 4 ∷ 5 ∷ [])) (going 2)
-    ∷ after farm (recordBytes 9 (1 ∷ 3 ∷ 3 ∷ 4 ∷ 5 ∷ [])) (going 2)
-    ∷ after farm (recordBytes 9 (1 ∷ 4 ∷ 3 ∷ 4 ∷ 5 ∷ [])) (refused 1 7 2)
+    ∷ rowAfter farm (recordBytes 9 (1 ∷ 0 ∷ 3 ∷ 4 ∷ 5 ∷ [])) (refused 1 7 2)
+    ∷ rowAfter farm (recordBytes 9 (1 ∷ 1 ∷ 3 ∷ 4 ∷ 5 ∷ [])) (going 2)
+    ∷ rowAfter farm (recordBytes 9 (1 ∷ 3 ∷ 3 ∷ 4 ∷ 5 ∷ [])) (going 2)
+    ∷ rowAfter farm (recordBytes 9 (1 ∷ 4 ∷ 3 ∷ 4 ∷ 5 ∷ [])) (refused 1 7 2)
     -- change: 1..6
-    ∷ after farm (recordBytes 9 (1 ∷ 2 ∷ 0 ∷ 4 ∷ 5 ∷ [])) (refused 1 7 3)
-    ∷ after farm (recordBytes 9 (1 ∷ 2 ∷ 1 ∷ 4 ∷ 5 ∷ [])) (going 2)
-    ∷ after farm (recordBytes 9 (1 ∷ 2 ∷ 6 ∷ 4 ∷ 5 ∷ [])) (going 2)
-    ∷ after farm (recordBytes 9 (1 ∷ 2 ∷ 7 ∷ 4 ∷ 5 ∷ [])) (refused 1 7 3)
+    ∷ rowAfter farm (recordBytes 9 (1 ∷ 2 ∷ 0 ∷ 4 ∷ 5 ∷ [])) (refused 1 7 3)
+    ∷ rowAfter farm (recordBytes 9 (1 ∷ 2 ∷ 1 ∷ 4 ∷ 5 ∷ [])) (going 2)
+    ∷ rowAfter farm (recordBytes 9 (1 ∷ 2 ∷ 6 ∷ 4 ∷ 5 ∷ [])) (going 2)
+    ∷ rowAfter farm (recordBytes 9 (1 ∷ 2 ∷ 7 ∷ 4 ∷ 5 ∷ [])) (refused 1 7 3)
     -- years: 1..100
-    ∷ after farm (recordBytes 9 (1 ∷ 2 ∷ 3 ∷ 0 ∷ 5 ∷ [])) (refused 1 7 4)
-    ∷ after farm (recordBytes 9 (1 ∷ 2 ∷ 3 ∷ 1 ∷ 5 ∷ [])) (going 2)
-    ∷ after farm (recordBytes 9 (1 ∷ 2 ∷ 3 ∷ 100 ∷ 5 ∷ [])) (going 2)
-    ∷ after farm (recordBytes 9 (1 ∷ 2 ∷ 3 ∷ 101 ∷ 5 ∷ [])) (refused 1 7 4)
+    ∷ rowAfter farm (recordBytes 9 (1 ∷ 2 ∷ 3 ∷ 0 ∷ 5 ∷ [])) (refused 1 7 4)
+    ∷ rowAfter farm (recordBytes 9 (1 ∷ 2 ∷ 3 ∷ 1 ∷ 5 ∷ [])) (going 2)
+    ∷ rowAfter farm (recordBytes 9 (1 ∷ 2 ∷ 3 ∷ 100 ∷ 5 ∷ [])) (going 2)
+    ∷ rowAfter farm (recordBytes 9 (1 ∷ 2 ∷ 3 ∷ 101 ∷ 5 ∷ [])) (refused 1 7 4)
     -- area: 0..10000000
-    ∷ after farm (recordBytes 9 (1 ∷ 2 ∷ 3 ∷ 4 ∷ 0 ∷ [])) (going 2)
-    ∷ after farm (recordBytes 9 (1 ∷ 2 ∷ 3 ∷ 4 ∷ 10000000 ∷ [])) (going 2)
-    ∷ after farm (recordBytes 9 (1 ∷ 2 ∷ 3 ∷ 4 ∷ 10000001 ∷ [])) (refused 1 7 5)
+    ∷ rowAfter farm (recordBytes 9 (1 ∷ 2 ∷ 3 ∷ 4 ∷ 0 ∷ [])) (going 2)
+    ∷ rowAfter farm (recordBytes 9 (1 ∷ 2 ∷ 3 ∷ 4 ∷ 10000000 ∷ [])) (going 2)
+    ∷ rowAfter farm (recordBytes 9 (1 ∷ 2 ∷ 3 ∷ 4 ∷ 10000001 ∷ [])) (refused 1 7 5)
     -- 4: its length is 11, one byte less and one more
-    ∷ after farm (blank 10 9) (refused 1 4 0)
-    ∷ after farm (blank 12 9) (refused 1 4 0)
+    ∷ rowAfter farm (blank 10 9) (refused 1 4 0)
+    ∷ rowAfter farm (blank 12 9) (refused 1 4 0)
     -- 6: not the first record
-    ∷ after [] (recordBytes 9 (1 ∷ 2 ∷ 3 ∷ 4 ∷ 5 ∷ [])) (refused 0 6 0)
+    ∷ rowAfter [] (recordBytes 9 (1 ∷ 2 ∷ 3 ∷ 4 ∷ 5 ∷ [])) (refused 0 6 0)
     ∷ []
 
 -- exact halves

@@ -4,7 +4,7 @@ use borrow.Author.Tests.{lt-ltb, le-ltb}
 use native.Mathlib.Omega.{arith}
 use mathlib.Core.Path.{_≡_}
 use Prim.Native.Nat.{ℕ, _-_, _*_, _<_, _≤_}
-use Rattle.grams.specs.Cattle.{CattleIn, fedOf, keptOf, belowZero, excretedOf, storageOf, manureOf, nitrogenOf}
+use Rattle.grams.specs.Cattle.{CattleIn, fedOf, keptOf, belowZero, excretedOf, storageOf, manureOf, cattleNitrogenOf}
 use Rattle.grams.specs.declared.units.N2o.{N2o}
 use Rattle.grams.specs.declared.cattle.CattleRation.{CattleRation}
 use Rattle.grams.specs.declared.cattle.CattleNitrogen.the-variants.{BelowZero, Given}
@@ -21,13 +21,13 @@ module _ {r : CattleRation} {head : ℕ} (p : CattleIn r head) where
   milk-room = num _ ⊗ p .milk-in ⊗ p .milkprotein-in
 
 -- the answer where milk and gain keep more
-below-is : (r : CattleRation) (head : ℕ) → fedOf r < keptOf r → BelowZero ≡ nitrogenOf r head
+below-is : (r : CattleRation) (head : ℕ) → fedOf r < keptOf r → BelowZero ≡ cattleNitrogenOf r head
 unfolding belowZero
 below-is r head p = simp (lt-ltb _ _ p)
 
 -- the answer where the feed brings enough
 given-is : (r : CattleRation) (head n : ℕ) (g : N2o) → keptOf r ≤ fedOf r → n ≡ excretedOf (fedOf r - keptOf r) head (r .days)
-    → g ≡ storageOf n (r .solid) (r .liquid) → Given (record { excreted = n; n2o = g }) ≡ nitrogenOf r head
+    → g ≡ storageOf n (r .solid) (r .liquid) → Given (record { excreted = n; n2o = g }) ≡ cattleNitrogenOf r head
 unfolding belowZero manureOf
 given-is r head n g p e f = simp (le-ltb _ _ p) (cc)
 
