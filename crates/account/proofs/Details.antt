@@ -18,7 +18,8 @@ use Rattle.account.specs.declared.Account.{Account}
 use Rattle.account.specs.declared.Figures.{Figures}
 use Rattle.account.specs.declared.Heading.{Heading}
 use Rattle.account.specs.declared.Subtotal.{Subtotal}
-use Rattle.account.specs.Sorts.{Sort, sortOf, bySort}
+use Rattle.account.specs.declared.sort.Sort.{Sort}
+use Rattle.account.specs.Sorts.{sortOf, bySort}
 use Rattle.account.specs.Figures.{added, grouped, figuresOf}
 use Rattle.account.specs.Line.{lineOf}
 use Rattle.account.specs.Range.{UsedMost}

@@ -22,7 +22,8 @@ use Rattle.grams.specs.Grazing.{pastureTable, pastureFactor, grazingOf}
 use Rattle.grams.specs.declared.units.Co2.{Co2}
 use Rattle.account.specs.declared.Figures.{Figures}
 use Rattle.account.specs.declared.Heading.{Heading}
-use Rattle.account.specs.Sorts.{ofFarm, sortOf}
+use Rattle.account.specs.declared.sort.Sort.the-variants.{OfFarm}
+use Rattle.account.specs.Sorts.{sortOf}
 use Rattle.account.specs.Figures.{co2Alone, figuresOf}
 use Rattle.account.specs.Judge.{partsWrong}
 use Rattle.account.specs.Told.{Small}
@@ -75,7 +76,7 @@ figures-small h v m =
     )
 
 -- a detail of the farm gives CO2 alone
-pub of-farm : (P : Figures → Type 0) (h : Heading) (k : ℕ) (v : List ℕ) → sortOf k ≡ ofFarm → ((g : Co2) → P (co2Alone g)) → P (figuresOf h k v)
+pub of-farm : (P : Figures → Type 0) (h : Heading) (k : ℕ) (v : List ℕ) → sortOf k ≡ OfFarm → ((g : Co2) → P (co2Alone g)) → P (figuresOf h k v)
 unfolding figuresOf
 of-farm P h k v e p =
     let n = not-of-group k e in

@@ -22,7 +22,8 @@ use Rattle.account.specs.declared.Figures.{Figures}
 use Rattle.account.specs.declared.Heading.{Heading}
 use Rattle.account.specs.declared.Subtotal.{Subtotal}
 use Rattle.account.specs.declared.Used.{Used}
-use Rattle.account.specs.Sorts.{isFarm, heads, ofGroup, ofFarm, sortOf}
+use Rattle.account.specs.declared.sort.Sort.the-variants.{Heads, OfGroup, OfFarm}
+use Rattle.account.specs.Sorts.{isFarm, sortOf}
 use Rattle.account.specs.Figures.{figuresOf, grouped, groupFigures}
 use Rattle.account.specs.Line.{joined, lineWith, lineOf, subtotals, totalOf}
 use Rattle.account.specs.Range.{FarmIn, UsedMost, Under, AccountInRange}
@@ -32,7 +33,7 @@ use Rattle.account.specs.Account.{farmOf, usedAfter}
 use Rattle.account.specs.Judge.{headingServes, inPlace, partsWrong, refusals, withLine}
 use Rattle.account.specs.Judge.{first, ValuesPass, Step, accepted, judge}
 use Rattle.account.specs.Told.{Small}
-use Rattle.account.proofs.Sorts.{by-sort, sort-farm, heads-two, of-group, not-of-group}
+use Rattle.account.proofs.Sorts.{by-sort, sort-farm, heads-two, not-of-group}
 use Rattle.account.proofs.Sums.{bounded-none, bounded-next, bounded-added, grouped-added}
 use Rattle.account.proofs.FarmSet.{farm-opened}
 use Rattle.account.proofs.Started.{started-none, started-refused, started-opened, started-next, started-closed}
@@ -94,16 +95,12 @@ abbrev Kept : Step → Type 0
 Kept s = AccountInRange (s .account)
 
 -- a heading that serves a detail of the group has a class
-class-least : (k class : ℕ) → sortOf k ≡ ofGroup → headingServes class k ≡ true → 1 ≤ class
-class-least k class e = go (eqb k 3) (eqb k 4) (eqb k 5) (eqb k 10) (of-group k e)
+class-least : (k class : ℕ) → sortOf k ≡ OfGroup → headingServes class k ≡ true → 1 ≤ class
+class-least k class e s = go (eqb k 5) (rw e at s)
   where
-    go : (b c d e : Bool) → b || (c || (d || e)) ≡ true
-        → pick (b || (c || e)) (leb 1 class && leb class 3) (pick d (eqb class 4) true) ≡ true → 1 ≤ class
-    go true c d e g s = leb-true _ _ (and-l _ _ s)
-    go false true d e g s = leb-true _ _ (and-l _ _ s)
-    go false false d true g s = leb-true _ _ (and-l _ _ s)
-    go false false true false g s = let four = eqb-true class 4 s in omega arith
-    go false false false false g s = no-bool g
+    go : (b : Bool) → pick b (eqb class 4) (leb 1 class && leb class 3) ≡ true → 1 ≤ class
+    go true t = let four = eqb-true class 4 t in omega arith
+    go false t = leb-true _ _ (and-l _ _ t)
 
 module _ (a : Account) (f : AccountInRange a) (early : a .stage < 2) where
   in-range-opened : (farm : Farm) → FarmIn farm (a .records + 1) → a .records ≡ 0 → AccountInRange (opened a farm)
@@ -166,14 +163,14 @@ module _ (a : Account) (f : AccountInRange a) (early : a .stage < 2) where
       used-with = fits-within (a .used) k v (used-most a f) (record { days = c .days; grazed = or-r (partsWrong k v) _ (c .together) })
 
       -- under a heading the subtotal takes the figures too
-      detail-of-group : sortOf k ≡ ofGroup → Kept (withLine a k v (grouped (a .subtotal) (figuresOf (a .heading) k v)))
+      detail-of-group : sortOf k ≡ OfGroup → Kept (withLine a k v (grouped (a .subtotal) (figuresOf (a .heading) k v)))
       detail-of-group e =
           let class = class-least k _ e (and-l (headingServes (a .heading .class) k) _ (placed k v c (rw e at (sort-farm k)))) in
           let small = detail-small (rw e refl) in
           in-range-detail _ _ _ small (under-more (f .under) _ _ class used-with (grouped-added (f .under .grouped) small))
 
       -- without one it stays
-      detail-of-farm : sortOf k ≡ ofFarm → Kept (withLine a k v (a .subtotal))
+      detail-of-farm : sortOf k ≡ OfFarm → Kept (withLine a k v (a .subtotal))
       detail-of-farm e =
           let q = not-of-group k e in
           rw (q .0, q .1 .0, q .1 .1 .0, q .1 .1 .1) (in-range-detail _ _ _ (detail-small (rw e refl)) (under-next (f .under)))
@@ -186,7 +183,7 @@ module _ (a : Account) (f : AccountInRange a) (early : a .stage < 2) where
       let empty = eqb-true _ _ (rw e at (passed a k v c .place)) in
       in-range-opened (farmOf k v) (farm-opened k v (a .records + 1) (omega arith) (passed a k v c .ranges)) empty
 
-  kept-heading : (k : ℕ) (v : List ℕ) → ValuesPass a k v → sortOf k ≡ heads → AccountInRange (underHeading a (getD v 0 0) (getD v 1 0) (getD v 2 0))
+  kept-heading : (k : ℕ) (v : List ℕ) → ValuesPass a k v → sortOf k ≡ Heads → AccountInRange (underHeading a (getD v 0 0) (getD v 1 0) (getD v 2 0))
   kept-heading k v c e =
       let i = heading-in v (rw (heads-two k e) at (passed a k v c .ranges)) in
       in-range-heading (after-first k v c (rw e at (sort-farm k))) (passed a k v c .room)

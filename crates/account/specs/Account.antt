@@ -25,24 +25,24 @@ use Rattle.account.specs.Figures.{noFigures, noSubtotal, added, listed}
 
 -- the warming factors of a farm record: those of its set, or with version 2 its own
 abbrev pub farmFactors : ℕ → List ℕ → Factors
-farmFactors k v = pick (eqb k lastRow) (record { ch4 = getD v 2 0; n2o = getD v 3 0 }) (setFactors (getD v 2 0))
+farmFactors row v = pick (eqb row lastRow) (record { ch4 = getD v 2 0; n2o = getD v 3 0 }) (setFactors (getD v 2 0))
 
--- what a farm record of kind k and the values v sets
+-- what a farm record of a row and the values v sets
 abbrev pub farmOf : ℕ → List ℕ → Farm
-farmOf k v = record { ch4 = farmFactors k v .ch4; n2o = farmFactors k v .n2o }
+farmOf row v = record { ch4 = farmFactors row v .ch4; n2o = farmFactors row v .n2o }
 
 -- the factors that CO2e goes by
 abbrev pub factorsOf : Farm → Factors
 factorsOf f = record { ch4 = f .ch4; n2o = f .n2o }
 
--- what is used with a record of kind k and the values v: the days of kinds 3, 4 and 5, the grazed fraction of kind 10; other kinds use nothing
+-- what is used with a record of a row and the values v: the days of kinds 3, 4 and 5, the grazed fraction of kind 10; other kinds use nothing
 abbrev pub usedAfter : Used → ℕ → List ℕ → Used
-usedAfter u k v =
+usedAfter u row v =
     record {
-      enteric = pick (eqb k 3) (u .enteric + getD v 0 0) (u .enteric);
-      nitrogen = pick (eqb k 4) (u .nitrogen + getD v 0 0) (u .nitrogen);
-      pig = pick (eqb k 5) (u .pig + getD v 0 0) (u .pig);
-      grazed = pick (eqb k 10) (u .grazed + getD v 3 0) (u .grazed);
+      enteric = pick (eqb row 3) (u .enteric + getD v 0 0) (u .enteric);
+      nitrogen = pick (eqb row 4) (u .nitrogen + getD v 0 0) (u .nitrogen);
+      pig = pick (eqb row 5) (u .pig + getD v 0 0) (u .pig);
+      grazed = pick (eqb row 10) (u .grazed + getD v 3 0) (u .grazed);
     }
 
 -- ---- before any record, and made of another

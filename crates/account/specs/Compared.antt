@@ -32,19 +32,19 @@ numbers value limit = record { some = true; value = value; limit = limit }
 abbrev pub outside : ℕ → ℕ → ℕ → Compared
 outside lowest highest value = numbers value (pick (ltb value lowest) lowest highest)
 
--- the first field out of its range, of values v of kind k: its position from 1, its range and its value
+-- the first field out of its range, of values v of a row: its position from 1, its range and its value
 abbrev pub badField : ℕ → List ℕ → ℕ
-badField k v = firstBad (fields k) v 0
+badField row v = firstBad (fields row) v 0
 
 abbrev pub rangeOf : ℕ → ℕ → Field
-rangeOf k position = getD (fields k) (position - 1) (field 0 0 0)
+rangeOf row position = getD (fields row) (position - 1) (field 0 0 0)
 
 abbrev pub valueAt : List ℕ → ℕ → ℕ
 valueAt v position = getD v (position - 1) 0
 
--- the days of kind k, 3, 4 or 5, with so many more
+-- the days of the row 3, 4 or 5, with so many more
 abbrev pub daysWith : Used → ℕ → ℕ → ℕ
-daysWith u k more = pick (eqb k 3) (u .enteric + more) (pick (eqb k 4) (u .nitrogen + more) (u .pig + more))
+daysWith u row more = pick (eqb row 3) (u .enteric + more) (pick (eqb row 4) (u .nitrogen + more) (u .pig + more))
 
 -- cattle shares together; a pig's parts together
 abbrev pub sharesOf : List ℕ → ℕ
@@ -57,14 +57,14 @@ partsOf v = getD v 8 0 + getD v 10 0
 abbrev pub grazedWith : ℕ → List ℕ → ℕ
 grazedWith grazed v = grazed + getD v 3 0
 
--- what the test with the number c compares, of values v of kind k
+-- what the test with the number c compares, of values v of a row
 unfoldable pub valuesCompared : ℕ → Account → ℕ → List ℕ → Compared
-valuesCompared c a k v =
-    pick (eqb c 7) (outside (rangeOf k (badField k v) .1) (rangeOf k (badField k v) .2) (valueAt v (badField k v)))
+valuesCompared c a row v =
+    pick (eqb c 7) (outside (rangeOf row (badField row v) .1) (rangeOf row (badField row v) .2) (valueAt v (badField row v)))
     (pick (eqb c 8) (numbers (getD v 0 0) (a .heading .group))
-    (pick (eqb c 9) (numbers (daysWith (a .used) k (getD v 0 0)) 366)
-    (pick (eqb c 10) (pick (eqb k 4) (numbers (sharesOf v) 10000)
-    (pick (eqb k 5) (numbers (partsOf v) 1000) (numbers (grazedWith (a .used .grazed) v) 10000)))
+    (pick (eqb c 9) (numbers (daysWith (a .used) row (getD v 0 0)) 366)
+    (pick (eqb c 10) (pick (eqb row 4) (numbers (sharesOf v) 10000)
+    (pick (eqb row 5) (numbers (partsOf v) 1000) (numbers (grazedWith (a .used .grazed) v) 10000)))
     (pick (eqb c 12) (numbers (getD v 0 0) (a .records)) noNumbers))))
 
 -- what the test with the number c compares, of the bytes r of a record; for 1 its length is enough

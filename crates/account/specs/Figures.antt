@@ -101,13 +101,13 @@ pigRation v =
 abbrev pub pigFigures : PigManure → Figures
 pigFigures m = record { ch4 = m .ch4; n2o = m .n2o; co2 = noCo2; excreted = m .excreted; land = m .land; grazing = gramsGrazed 0 }
 
--- the figures of a detail record of kind k (3 to 7, 9, 10) with the values v, under the heading h
+-- the figures of a detail record of the row (3 to 7, 9, 10) with the values v, under the heading h
 unfoldable pub figuresOf : Heading → ℕ → List ℕ → Figures
-figuresOf h k v =
-    pick (eqb k 3) (ch4Alone (cattle.entericOf (getD v 1 0) (getD v 2 0) (h .head) (getD v 0 0)))
-    (pick (eqb k 4) (cattleFigures (cattle.manureOf (cattleRation v) (h .head)))
-    (pick (eqb k 5) (pigFigures (pig.manureOf (pigRation v) (h .head)))
-    (pick (eqb k 10) (grazingAlone (grazingOf (getD v 0 0) (getD v 1 0) (getD v 2 0) (getD v 3 0) (h .head)))
-    (pick (eqb k 6) (co2Alone (energyOf (getD v 1 0) (getD v 2 0)))
-    (pick (eqb k 7) (co2Alone (soilOf (getD v 0 0)))
+figuresOf h row v =
+    pick (eqb row 3) (ch4Alone (cattle.entericOf (getD v 1 0) (getD v 2 0) (h .head) (getD v 0 0)))
+    (pick (eqb row 4) (cattleFigures (cattle.manureOf (cattleRation v) (h .head)))
+    (pick (eqb row 5) (pigFigures (pig.manureOf (pigRation v) (h .head)))
+    (pick (eqb row 10) (grazingAlone (grazingOf (getD v 0 0) (getD v 1 0) (getD v 2 0) (getD v 3 0) (h .head)))
+    (pick (eqb row 6) (co2Alone (energyOf (getD v 1 0) (getD v 2 0)))
+    (pick (eqb row 7) (co2Alone (soilOf (getD v 0 0)))
     (co2Alone (tillageOf (getD v 0 0) (getD v 1 0) (getD v 2 0) (getD v 3 0) (getD v 4 0))))))))

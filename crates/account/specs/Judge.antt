@@ -13,7 +13,7 @@ use Rattle.grams.specs.Cattle.{belowZero}
 use Rattle.account.specs.declared.Account.{Account}
 use Rattle.account.specs.declared.Subtotal.{Subtotal}
 use Rattle.account.specs.declared.Used.{Used}
-use Rattle.account.specs.Sorts.{isFarm, sortOf, bySort}
+use Rattle.account.specs.Sorts.{isFarm, sortOf, bySort, isOfGroup}
 use Rattle.account.specs.Figures.{grouped, cattleRation, figuresOf}
 use Rattle.account.specs.Account.{refused, opened, underHeading, withDetail, closed, farmOf, usedAfter}
 use Rattle.account.specs.Line.{lineOf, subtotals, totalOf}
@@ -41,15 +41,13 @@ valuesOf r = valuesAt (fields (kindOf r)) r 4
 
 -- ---- the refusals
 
--- kinds 3, 4 and 10 need a cattle heading (classes 1 to 3), kind 5 a pig heading (class 4)
+-- of the group's details a pig record (5) needs a pig heading (class 4), the others (3, 4 and 10) a cattle heading (classes 1 to 3)
 abbrev pub headingServes : ℕ → ℕ → Bool
-headingServes class k =
-    pick (eqb k 3 || (eqb k 4 || eqb k 10)) (leb 1 class && leb class 3)
-    (pick (eqb k 5) (eqb class 4) true)
+headingServes class row = pick (isOfGroup row) (pick (eqb row 5) (eqb class 4) (leb 1 class && leb class 3)) true
 
 -- the first record is kind 1 and no other is
 unfoldable pub inPlace : Account → ℕ → Bool
-inPlace a k = pick (isFarm k) (eqb (a .records) 0) (headingServes (a .heading .class) k && not (eqb (a .records) 0))
+inPlace a row = pick (isFarm row) (eqb (a .records) 0) (headingServes (a .heading .class) row && not (eqb (a .records) 0))
 
 -- the tests, by name, each true where it refuses
 
@@ -71,53 +69,53 @@ bookFull a = leb 4096 (a .records)
 
 -- 6: out of its place
 abbrev pub outOfPlace : Account → ℕ → Bool
-outOfPlace a k = not (inPlace a k)
+outOfPlace a row = not (inPlace a row)
 
 -- 7: a field out of range
 abbrev pub outOfRange : ℕ → List ℕ → Bool
-outOfRange k v = not (eqb (firstBad (fields k) v 0) 0)
+outOfRange row v = not (eqb (firstBad (fields row) v 0) 0)
 
 -- 8: group not above the last
 abbrev pub notRising : Account → ℕ → List ℕ → Bool
-notRising a k v = eqb k 2 && leb (getD v 0 0) (a .heading .group)
+notRising a row v = eqb row 2 && leb (getD v 0 0) (a .heading .group)
 
 -- 9: days over 366 with this record, each of kinds 3, 4 and 5 for itself
 abbrev pub daysOver : Used → ℕ → List ℕ → Bool
-daysOver u k v =
-    pick (eqb k 3) (ltb 366 (u .enteric + getD v 0 0))
-    (pick (eqb k 4) (ltb 366 (u .nitrogen + getD v 0 0))
-    (pick (eqb k 5) (ltb 366 (u .pig + getD v 0 0)) false))
+daysOver u row v =
+    pick (eqb row 3) (ltb 366 (u .enteric + getD v 0 0))
+    (pick (eqb row 4) (ltb 366 (u .nitrogen + getD v 0 0))
+    (pick (eqb row 5) (ltb 366 (u .pig + getD v 0 0)) false))
 
 -- 10: cattle shares not 10000 together, or pig parts over 1000 together
 abbrev pub partsWrong : ℕ → List ℕ → Bool
-partsWrong k v =
-    pick (eqb k 4) (not (eqb (getD v 6 0 + getD v 7 0 + getD v 8 0) 10000))
-    (pick (eqb k 5) (ltb 1000 (getD v 8 0 + getD v 10 0)) false)
+partsWrong row v =
+    pick (eqb row 4) (not (eqb (getD v 6 0 + getD v 7 0 + getD v 8 0) 10000))
+    (pick (eqb row 5) (ltb 1000 (getD v 8 0 + getD v 10 0)) false)
 
 -- 10 too: grazed fractions over 10000 under the heading with this record
 abbrev pub grazedOver : Used → ℕ → List ℕ → Bool
-grazedOver u k v = eqb k 10 && ltb 10000 (u .grazed + getD v 3 0)
+grazedOver u row v = eqb row 10 && ltb 10000 (u .grazed + getD v 3 0)
 
 -- 11: X below zero
 abbrev pub feedBelow : ℕ → List ℕ → Bool
-feedBelow k v = eqb k 4 && belowZero (cattleRation v)
+feedBelow row v = eqb row 4 && belowZero (cattleRation v)
 
 -- 12: close count wrong
 abbrev pub wrongCount : Account → ℕ → List ℕ → Bool
-wrongCount a k v = eqb k 8 && not (eqb (getD v 0 0) (a .records))
+wrongCount a row v = eqb row 8 && not (eqb (getD v 0 0) (a .records))
 
--- the refusals of values v of kind k, in the order they are tried
+-- the refusals of values v of a row, in the order they are tried
 abbrev pub valueRefusals : Account → ℕ → List ℕ → List (Bool × ℕ)
-valueRefusals a k v =
+valueRefusals a row v =
     (bookFull a, 5)
-    ∷ (outOfPlace a k, 6)
-    ∷ (outOfRange k v, 7)
-    ∷ (notRising a k v, 8)
-    ∷ (daysOver (a .used) k v, 9)
-    ∷ (partsWrong k v, 10)
-    ∷ (grazedOver (a .used) k v, 10)
-    ∷ (feedBelow k v, 11)
-    ∷ (wrongCount a k v, 12)
+    ∷ (outOfPlace a row, 6)
+    ∷ (outOfRange row v, 7)
+    ∷ (notRising a row v, 8)
+    ∷ (daysOver (a .used) row v, 9)
+    ∷ (partsWrong row v, 10)
+    ∷ (grazedOver (a .used) row v, 10)
+    ∷ (feedBelow row v, 11)
+    ∷ (wrongCount a row v, 12)
     ∷ []
 
 -- the refusals of a whole record, in the order they are tried
@@ -131,16 +129,16 @@ first (t ∷ ts) = pick (t .0) (t .1) (first ts)
 
 -- ---- the refusals, test by test and by name
 
--- what P says of each test of values v of kind k, by the test's number and by whether it refuses; the two tests of 10 count as one
-pub record ValueTests (P : ℕ → Bool → Type 0) (a : Account) (k : ℕ) (v : List ℕ) : Type 0 where
+-- what P says of each test of values v of a row, by the test's number and by whether it refuses; the two tests of 10 count as one
+pub record ValueTests (P : ℕ → Bool → Type 0) (a : Account) (row : ℕ) (v : List ℕ) : Type 0 where
   pub room : P 5 (bookFull a)
-  pub place : P 6 (outOfPlace a k)
-  pub inRange : P 7 (outOfRange k v)
-  pub rising : P 8 (notRising a k v)
-  pub days : P 9 (daysOver (a .used) k v)
-  pub together : P 10 (partsWrong k v || grazedOver (a .used) k v)
-  pub feed : P 11 (feedBelow k v)
-  pub count : P 12 (wrongCount a k v)
+  pub place : P 6 (outOfPlace a row)
+  pub inRange : P 7 (outOfRange row v)
+  pub rising : P 8 (notRising a row v)
+  pub days : P 9 (daysOver (a .used) row v)
+  pub together : P 10 (partsWrong row v || grazedOver (a .used) row v)
+  pub feed : P 11 (feedBelow row v)
+  pub count : P 12 (wrongCount a row v)
 
 -- the same of each test of a whole record
 pub record Tests (P : ℕ → Bool → Type 0) (a : Account) (r : List ℕ) : Type 0 where
@@ -154,7 +152,7 @@ abbrev pub LetsThrough : ℕ → Bool → Type 0
 LetsThrough number refuses = refuses ≡ false
 
 abbrev pub ValuesPass : Account → ℕ → List ℕ → Type 0
-ValuesPass a k v = ValueTests LetsThrough a k v
+ValuesPass a row v = ValueTests LetsThrough a row v
 
 abbrev pub NotRefused : Account → List ℕ → Type 0
 NotRefused a r = Tests LetsThrough a r
@@ -175,30 +173,30 @@ pub record Step : Type 0 where
 
 -- a detail that leaves this subtotal
 abbrev pub withLine : Account → ℕ → List ℕ → Subtotal → Step
-withLine a k v subtotal =
+withLine a row v subtotal =
     record {
-      account = withDetail a (usedAfter (a .used) k v) subtotal (figuresOf (a .heading) k v);
-      lines = lineOf (a .heading) k v ∷ [];
+      account = withDetail a (usedAfter (a .used) row v) subtotal (figuresOf (a .heading) row v);
+      lines = lineOf (a .heading) row v ∷ [];
     }
 
 -- a record that is not refused, by its sort; a detail of the group alone counts in the subtotal
 unfoldable pub accepted : Account → ℕ → List ℕ → Step
-accepted a k v =
-    bySort (sortOf k) (record { account = opened a (farmOf k v); lines = [] })
+accepted a row v =
+    bySort (sortOf row) (record { account = opened a (farmOf row v); lines = [] })
     (record { account = underHeading a (getD v 0 0) (getD v 1 0) (getD v 2 0); lines = subtotals a })
-    (withLine a k v (grouped (a .subtotal) (figuresOf (a .heading) k v)))
-    (withLine a k v (a .subtotal))
+    (withLine a row v (grouped (a .subtotal) (figuresOf (a .heading) row v)))
+    (withLine a row v (a .subtotal))
     (record { account = closed a; lines = subtotals a ++ (totalOf a ∷ []) })
 
 -- by the number of its first refusal; the field is given for 7 alone
 abbrev pub decided : ℕ → Account → ℕ → List ℕ → Step
-decided code a k v =
-    pick (eqb code 0) (accepted a k v)
-    (record { account = refused a code (pick (eqb code 7) (firstBad (fields k) v 0) 0); lines = [] })
+decided code a row v =
+    pick (eqb code 0) (accepted a row v)
+    (record { account = refused a code (pick (eqb code 7) (firstBad (fields row) v 0) 0); lines = [] })
 
 -- what values of a kind do
 unfoldable pub weigh : Account → ℕ → List ℕ → Step
-weigh a k v = decided (first (valueRefusals a k v)) a k v
+weigh a row v = decided (first (valueRefusals a row v)) a row v
 
 -- what a whole record does
 unfoldable pub judge : Account → List ℕ → Step

@@ -4,7 +4,7 @@ use Prim.Native.Nat.{ℕ}
 use mathlib.Core.List.{List, [], _∷_, _++_}
 use lib.Dec.{eqb}
 use Rattle.base.specs.Choice.{pick}
-use Rattle.line_bytes.specs.Lines.{lineSize, totalSize, lineBytes, totalBytes}
+use Rattle.line_bytes.specs.Lines.{lineSize, totalSize, subtotalKind, lineBytes, totalBytes}
 use Rattle.grams.specs.Units.{co2Word}
 use Rattle.grams.specs.Farm.{co2eOf}
 use Rattle.grams.specs.declared.units.Co2.{Co2}
@@ -16,17 +16,17 @@ use Rattle.account.specs.Sorts.{sortOf, bySort}
 use Rattle.account.specs.Account.{factorsOf}
 use Rattle.account.specs.Figures.{listed, groupFigures, figuresOf}
 
--- a line of kind k, with a group and its figures
+-- a line of a kind, with a group and its figures
 abbrev pub lineWith : ℕ → ℕ → Figures → List ℕ
-lineWith k group f = lineBytes k group (listed f)
+lineWith kind group f = lineBytes kind group (listed f)
 
 -- the group that a line bears: the heading's for a detail of the group, else 0
 abbrev pub groupOf : Heading → ℕ → ℕ
-groupOf h k = bySort (sortOf k) 0 0 (h .group) 0 0
+groupOf h row = bySort (sortOf row) 0 0 (h .group) 0 0
 
 -- a detail's line is a function of its heading and its values alone
 abbrev pub lineOf : Heading → ℕ → List ℕ → List ℕ
-lineOf h k v = lineWith k (groupOf h k) (figuresOf h k v)
+lineOf h row v = lineWith row (groupOf h row) (figuresOf h row v)
 
 -- CO2e of the sums, by the farm's warming factors
 abbrev pub co2eIn : Account → Co2
@@ -39,9 +39,9 @@ totalWith f co2e = totalBytes (listed f) (co2Word co2e)
 abbrev pub totalOf : Account → List ℕ
 totalOf a = totalWith (a .sums) (co2eIn a)
 
--- the subtotal of the group that a new heading or the close ends: a line of kind 16 with the group's number; none where there is no heading
+-- the subtotal of the group that a new heading or the close ends: a line of the subtotal's kind with the group's number; none where there is no heading
 abbrev pub subtotals : Account → List (List ℕ)
-subtotals a = pick (eqb (a .heading .group) 0) [] (lineWith 16 (a .heading .group) (groupFigures (a .subtotal)) ∷ [])
+subtotals a = pick (eqb (a .heading .group) 0) [] (lineWith subtotalKind (a .heading .group) (groupFigures (a .subtotal)) ∷ [])
 
 -- lines one after the other
 abbrev pub joined : List (List ℕ) → List ℕ

@@ -7,7 +7,7 @@ use mathlib.Core.Bool.{false}
 use lib.ListN.{length}
 use lib.Dec.{leb, eqb}
 use Rattle.base.specs.Choice.{pick}
-use Rattle.line_bytes.specs.Lines.{lineSize, totalSize, linesMost}
+use Rattle.line_bytes.specs.Lines.{lineSize, totalSize, linesMost, subtotalKind}
 use Rattle.grams.specs.Units.{noCo2}
 use Rattle.account.specs.declared.Account.{Account}
 use Rattle.account.specs.declared.Figures.{Figures}
@@ -38,12 +38,12 @@ pub record TellsIn (room : ℕ) (a : Account) (j : Step) (r : Judged) : Type 0 w
   pub tells : Tells j whole
   pub is : r ≡ inRoom room a whole
 
--- r is a whole record that 2 and 3 let through, of the row k
-pub record Kind (k : ℕ) (r : List ℕ) : Type 0 where
+-- r is a whole record that 2 and 3 let through, of the row
+pub record Kind (row : ℕ) (r : List ℕ) : Type 0 where
   pub whole : WholeRecord r
   pub version : wrongVersion r ≡ false
   pub listed : wrongKind r ≡ false
-  pub kind : kindOf r ≡ k
+  pub kind : kindOf r ≡ row
 
 -- what one line adds at most: the sums of one record
 abbrev pub Small : Figures → Type 0
@@ -64,7 +64,7 @@ detailing a kind group used subtotal f =
 
 abbrev pub groupLine : Account → Line
 groupLine a =
-    pick (eqb (a .heading .group) 0) noLine (record { given = lineSize; kind = 16; group = a .heading .group; figures = groupFigures (a .subtotal); co2e = noCo2 })
+    pick (eqb (a .heading .group) 0) noLine (record { given = lineSize; kind = subtotalKind; group = a .heading .group; figures = groupFigures (a .subtotal); co2e = noCo2 })
 
 abbrev pub heading : Account → ℕ → ℕ → ℕ → Judged
 heading a group class head = record { account = underHeading a group class head; line = groupLine a }
@@ -73,5 +73,5 @@ abbrev pub closing : Account → Judged
 closing a =
     record {
       account = closed a;
-      line = record { given = pick (eqb (a .heading .group) 0) totalSize linesMost; kind = 16; group = a .heading .group; figures = groupFigures (a .subtotal); co2e = co2eIn a };
+      line = record { given = pick (eqb (a .heading .group) 0) totalSize linesMost; kind = subtotalKind; group = a .heading .group; figures = groupFigures (a .subtotal); co2e = co2eIn a };
     }

@@ -2,6 +2,7 @@
 pub mod line;
 pub mod numbers;
 mod range;
+pub mod sort;
 
 use grams::units::Co2;
 use grams::units::Grazed;

@@ -10,3 +10,5 @@ pub mod Calls
 pub mod RecordRuns
 pub mod OneTurn
 pub mod RunLeaves
+pub mod NextRecords
+pub mod Walks

@@ -15,7 +15,7 @@ ghost use Rattle.book.specs.WholeRecords.{Ready};
 ghost use Rattle.book.specs.Inner.{byLength, codeOf};
 
 // Length outside 4..26.
-pub(crate) fn bad_length(length: u64) -> bool
+pub fn bad_length(length: u64) -> bool
     ensures { λ r. ⌜ r ≡ (ltb length 4 || ltb lengthMost length) ⌝ }
 {
     (length < 4) | (LENGTH_MOST < length)

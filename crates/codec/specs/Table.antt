@@ -72,17 +72,17 @@ fieldAt row i = getD (fields row) i (field 0 0 0)
 
 -- a kind that a record may have
 abbrev pub isKind : ℕ → Bool
-isKind k = leb 1 k && leb k lastKind
+isKind kind = leb 1 kind && leb kind lastKind
 
 -- a row of the table
 abbrev pub isRow : ℕ → Bool
 isRow row = leb 1 row && leb row lastRow
 
--- v are values of the row k, as many as its fields
-pub record Of (k : ℕ) (v : List ℕ) : Type 0 where
-  pub least : 1 ≤ k
-  pub most : k ≤ lastRow
-  pub count : length v ≡ length (fields k)
+-- v are values of the row, as many as its fields
+pub record Of (row : ℕ) (v : List ℕ) : Type 0 where
+  pub least : 1 ≤ row
+  pub most : row ≤ lastRow
+  pub count : length v ≡ length (fields row)
 
 -- how many bytes the fields take
 unfoldable pub size : List Field → ℕ

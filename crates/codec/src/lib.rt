@@ -2,7 +2,8 @@
 pub mod numbers; // numbers.rt: big-endian numbers
 pub mod start; // start.rt: what every record and every line begins with
 
-// A file for each kind: its values from its bytes, and the first value out of its range.
+// A file for each kind: its values from its bytes, and the first value out of its range. Its places and ranges stand there as numbers, not by the
+// table of src/kinds: the reader is on its way, and a table in the code would be stored anew at each record. The proofs hold them to specs/Table.
 pub mod cattle;
 pub mod close;
 pub mod energy;

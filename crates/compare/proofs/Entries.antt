@@ -1,133 +1,123 @@
--- The entries of some bytes by the record at their front.
+-- The next accepted record, as the code finds it, and the text of its lines.
 -- Assumes nothing.
-use Prim.Native.Nat.{ℕ, _≤_, _<_}
-use mathlib.Core.Path.{_≡_, refl}
-use mathlib.Core.List.{List, [], _∷_}
+use Prim.Native.Nat.{ℕ, _+_, _*_, _≤_, _<_}
+use mathlib.Core.Path.{_≡_, refl, ap, _∙_}
+use mathlib.Core.List.{List, [], _∷_, _++_, append-nil}
 use mathlib.Core.Bool.{true, false, _||_}
-use mathlib.Core.Logic.{⊎-elim}
 use native.Mathlib.Omega.{arith}
-use borrow.Author.Tests.{lt-ltb, le-ltb, eqb-true, eqb-false, leb-true, leb-false, eq-eqb, ne-eqb}
+use native.Mathlib.Nat.{sub-zero}
+use borrow.Author.Tests.{eqb-true, eqb-false, le-leb}
 use lib.ListN.{length, take, drop, length-append}
-use lib.Dec.{leb, eqb}
-use lib.Seq.{take-append-seam}
-use Rattle.base.proofs.Tests.{neither, or-cases}
+use lib.Dec.{eqb}
+use lib.Seq.{take-all, take-length, take-append-seam}
+use Rattle.base.proofs.Tests.{by-test, neither}
 use Rattle.codec.specs.Codec.{valAt}
+use Rattle.line_bytes.specs.Lines.{linesMost}
 use Rattle.account.specs.declared.Account.{Account}
-use Rattle.account.specs.Judge.{kindByte}
+use Rattle.account.specs.Judge.{kindByte, judge}
+use Rattle.account.specs.Line.{joined}
+use Rattle.account.specs.Range.{AccountInRange}
+use Rattle.account.proofs.Keeps.{judge-short}
 use Rattle.book.specs.declared.State.{State}
-use Rattle.book.specs.declared.Fed.{Fed}
-use Rattle.book.specs.Front.{Front, unfinished, badLength, whole, need, front}
-use Rattle.book.specs.WholeRecords.{Ready, beginsWith, recordsBy, recordsOf}
+use Rattle.book.specs.declared.walk.Next.{Next}
+use Rattle.book.specs.Front.{whole, need, front}
 use Rattle.book.specs.State.{holding}
-use Rattle.book.specs.Call.{call, fedOf, laid}
-use Rattle.book.proofs.Fronts.{meaning}
-use Rattle.book.proofs.WholeRecords.{records-whole}
-use Rattle.book.proofs.RecordRuns.{record-in}
+use Rattle.book.specs.Run.{run}
+use Rattle.book.specs.Call.{Call, call, fits}
+use Rattle.book.specs.Walk.{linesOf, nextOf, linesNext, entriesAfter}
+use Rattle.book.proofs.Fronts.{is-whole}
+use Rattle.book.proofs.Ranges.{range-idle}
+use Rattle.book.proofs.RecordRuns.{record-whole, book-one}
+use Rattle.book.proofs.Longest.{longest-top}
+use Rattle.book.proofs.Calls.{call-at}
+use Rattle.book.proofs.Walks.{Stands, stands, entries-none, entries-stop, entries-next}
 use Rattle.lister.specs.Listing.{linesText, lineRoom}
 use Rattle.compare.specs.declared.cursor.Taken.{Taken}
-use Rattle.compare.specs.Entries.{after, linesOf, entriesFrom, entriesAfter}
-use Rattle.compare.specs.Inner.{entry, Turned, Written}
-
--- a book that has ended has no more
-pub shut : (a : Account) (rs : List (List ℕ)) → 2 ≤ a .stage → entriesFrom a rs ≡ []
-unfolding entriesFrom
-shut a [] h = refl
-shut a (r ∷ rs) h = rw (le-ltb _ _ h) refl
-
-pub records-none : (xs : List ℕ) → (front xs ≡ whole → ⊥) → recordsOf xs ≡ []
-unfolding recordsOf recordsBy
-records-none xs n = go (front xs) refl
-  where
-    go : (f : Front) → front xs ≡ f → beginsWith f xs (recordsBy (length xs) (drop (need xs) xs)) ≡ []
-    go unfinished e = refl
-    go badLength e = refl
-    go whole e = absurd (n e)
-
-pub entries-none : (a : Account) (xs : List ℕ) → (front xs ≡ whole → ⊥) → entriesAfter a xs ≡ []
-unfolding entriesFrom
-entries-none a xs n = rw (records-none xs n) refl
+use Rattle.compare.specs.Inner.{Readable, Turned, Written}
 
 -- nothing is taken
 abbrev noMore : Account → Taken
 noMore a = record { n = 0; written = 0; next = a }
 
-none-taken : (a : Account) (xs : List ℕ) → entriesAfter a xs ≡ [] → Turned a xs (noMore a)
-none-taken a xs e = record { inside = omega arith; some = λ h. absurd (omega arith); ended = λ z. e; goes = λ h. absurd (omega arith) }
-
 pub none-written : (a : Account) (xs lines : List ℕ) → Written a xs lines (noMore a)
 none-written a xs lines = record { inside = omega arith; are = λ h. absurd (omega arith) }
 
--- a whole record stands at the front, or there is none
-module _ (a : Account) (xs : List ℕ) (n : ℕ) (y : Ready xs n) where
-  -- there is none, or the book has ended
-  pub turned-none : eqb n 0 || leb 2 (a .stage) ≡ true → Turned a xs (noMore a)
+-- t is the next record of the walk
+module _ (a : Account) (xs : List ℕ) (t : Next) (e : t ≡ nextOf a xs) (v : AccountInRange a) where
+  -- there is none, or it is refused
+  pub turned-none : eqb (t .size) 0 || eqb (t .account .stage) 3 ≡ true → Turned a xs (noMore a)
   turned-none h =
-      none-taken a xs
-      (⊎-elim (λ (z : eqb n 0 ≡ true). entries-none a xs (y .none (eqb-true _ _ z)))
-      (λ (z : leb 2 (a .stage) ≡ true). shut a (recordsOf xs) (leb-true _ _ z))
-      (or-cases (eqb n 0) (leb 2 (a .stage)) h))
+      let none : entriesAfter a xs ≡ [] =
+      by-test (eqb (t .size) 0) (λ z. entries-none a xs t e (eqb-true _ _ z))
+      (λ z. entries-stop a xs t e (eqb-false _ _ z) (eqb-true _ _ (rw z at h))) in
+      record {
+        inside = omega arith;
+        some = λ k. absurd (omega arith);
+        ended = λ z. none;
+        goes = λ k. absurd (omega arith);
+        readable = λ k. absurd (omega arith);
+        range = v;
+      }
 
-  module _ (h : eqb n 0 || leb 2 (a .stage) ≡ false) where
-    some-bytes : 0 < n
-    some-bytes = let z : n ≡ 0 → ⊥ = eqb-false n 0 (neither (eqb n 0) (leb 2 (a .stage)) h .0) in omega (arith, z)
+  module _ (h : eqb (t .size) 0 || eqb (t .account .stage) 3 ≡ false) where
+    some-bytes : t .size ≡ 0 → ⊥
+    some-bytes = eqb-false _ _ (neither (eqb (t .size) 0) (eqb (t .account .stage) 3) h .0)
 
-    early : a .stage < 2
-    early = leb-false _ _ (neither (eqb n 0) (leb 2 (a .stage)) h .1)
+    here : Stands a xs t
+    here = stands a xs t e some-bytes
 
-    here : (front xs ≡ whole) × (n ≡ need xs)
-    here = y .some some-bytes
+    pub turned-on : AccountInRange (t .account) → Turned a xs (record { n = t .size; written = t .written; next = t .account })
+    turned-on w =
+        record {
+          inside = here .inside;
+          some = λ k. here .least;
+          ended = λ z. absurd (some-bytes z);
+          goes = λ k. entries-next a xs t e some-bytes (eqb-false _ _ (neither (eqb (t .size) 0) (eqb (t .account .stage) 3) h .1));
+          readable = λ k. record { range = v; early = here .early; whole = record-whole xs (t .size) (here .front) (here .size) };
+          range = w;
+        }
 
-    pub record-inside : n ≤ length xs
-    record-inside = record-in xs n (here .0) (here .1)
+    pub turned-lines : (before lines : List ℕ) → lines ≡ linesNext a xs ++ drop (t .written) before
+        → Written a xs lines (record { n = t .size; written = t .written; next = t .account })
+    turned-lines before lines b =
+        let l : lines ≡ linesOf a (take (t .size) xs) ++ drop (t .written) before = rw (← here .lines) b in
+        record {
+          inside = omega (arith, here .written, ap length l, length-append (linesOf a (take (t .size) xs)) (drop (t .written) before));
+          are = λ k. rw (l, here .written) (take-append-seam (linesOf a (take (t .size) xs)) _);
+        }
 
-    module _ (next : Account) (g : next ≡ after a (take n xs)) where
-      -- the record is refused
-      refused-none : next .stage ≡ 3 → entriesAfter a xs ≡ []
-      unfolding entriesFrom
-      refused-none s =
-          let z : after a (take n xs) .stage ≡ 3 = rw g at s in
-          rw (records-whole xs (here .0), ← here .1, lt-ltb _ _ early, eq-eqb _ _ z) refl
+-- ---- what a call makes of one record
 
-      pub turned-refused : next .stage ≡ 3 → Turned a xs (noMore a)
-      turned-refused s = none-taken a xs (refused-none s)
+module _ (a : Account) (r : List ℕ) (k : Readable a r) where
+  is-front : front r ≡ whole
+  is-front = let w = k .whole in is-whole r (omega (arith, w .long), w .low, w .high, omega (arith, w .long))
 
-      -- it is accepted
-      accepted-one : (next .stage ≡ 3 → ⊥) → entriesAfter a xs ≡ entry a (take n xs) ∷ entriesAfter (after a (take n xs)) (drop n xs)
-      unfolding entriesFrom
-      accepted-one s =
-          let z : after a (take n xs) .stage ≡ 3 → ⊥ = rw g at s in
-          rw (records-whole xs (here .0), ← here .1, lt-ltb _ _ early, ne-eqb _ _ z) refl
+  run-one : run (holding a []) r ≡ record { state = holding (judge a r .account) []; lines = judge a r .lines; left = [] }
+  unfolding run
+  run-one =
+      let t : take (need r) r ≡ r = take-all (need r) r (omega (arith, k .whole .long)) in
+      rw (t, append-nil) at (book-one r (need r) is-front refl a (k .range) (k .early))
 
-      pub turned-on : (written : ℕ) → (next .stage ≡ 3 → ⊥) → Turned a xs (record { n = n; written = written; next = next })
-      turned-on written s =
-          let m = meaning xs whole (here .0) in
-          record {
-            inside = record-inside;
-            some = λ k. omega (arith, here .1, m .1);
-            ended = λ z. absurd (omega (arith, some-bytes));
-            goes = λ k. rw g (accepted-one s);
-          }
+  -- with room for the lines of any record they are its lines
+  lines-one : (room : ℕ) → linesMost ≤ room → call (holding a []) r room .bytes ≡ linesOf a r
+  lines-one room h =
+      let s = holding a [] in
+      let o : run s (take (length r) r) ≡ record { state = holding (judge a r .account) []; lines = judge a r .lines; left = [] } =
+      rw (take-length r) run-one in
+      let f : length (joined (run s (take (length r) r) .lines)) ≤ room = rw o (omega (arith, judge-short a r)) in
+      ap (λ (c : Call). c .bytes)
+      (call-at s r room (length r) (record { state = holding (judge a r .account) []; bytes = joined (judge a r .lines); left = [] })
+      (range-idle a (k .range)) (longest-top (fits s r room) (length r) (le-leb _ _ f)) (rw o))
 
--- what a call of one record gives, as the code finds it
-module _ (a : Account) (s : State) (r before : List ℕ) (f : Fed) (i : s ≡ holding a []) (l : length before ≡ 128)
-    (e : f ≡ fedOf (call s r (length before))) where
-  pub fed-account : f .state .account ≡ after a r
-  fed-account = rw (e, i, l) refl
+  -- the text of its lines, as the lister makes it in a buffer of four bytes for each of theirs
+  pub told-lines : (s : State) (t : List ℕ) (n : ℕ) → s ≡ holding a [] → n ≡ 4 * linesMost → t ≡ linesText (call s r (lineRoom n) .bytes)
+      → t ≡ linesText (linesOf a r)
+  told-lines s t n i l e = rw (i, l, lines-one linesMost (omega arith)) at e
 
-  pub fed-lines : (behind : List ℕ) → behind ≡ laid (call s r (length before)) before → take (f .written) behind ≡ linesOf a r
-  fed-lines behind b = rw (b, e, i, l) (take-append-seam (linesOf a r) (drop (length (linesOf a r)) before))
+-- a record has a kind, and the code reads it
+pub kind-there : (a : Account) (r : List ℕ) → Readable a r → 4 ≤ length r
+kind-there a r k = omega (arith, k .whole .long, k .whole .low)
 
-  pub fed-inside : (behind : List ℕ) → behind ≡ laid (call s r (length before)) before → f .written ≤ length behind
-  fed-inside behind b =
-      let n = length-append (call s r (length before) .bytes) (drop (length (call s r (length before) .bytes)) before) in
-      rw (b, e) (omega (arith, n))
-
--- the text of its lines, as the lister makes it in a buffer of 512 bytes
-pub told-lines : (a : Account) (s : State) (r t : List ℕ) (n : ℕ) → s ≡ holding a [] → n ≡ 512 → t ≡ linesText (call s r (lineRoom n) .bytes)
-    → t ≡ linesText (linesOf a r)
-told-lines a s r t n i l e = rw (i, l) at e
-
--- a record's kind, as the code reads it
 pub kind-byte : (k : ℕ) (r : List ℕ) → k ≡ valAt r 3 1 → k ≡ kindByte r
 unfolding valAt
 kind-byte k r e = omega (arith, e)

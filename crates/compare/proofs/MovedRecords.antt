@@ -14,19 +14,21 @@ use Rattle.base.specs.Choice.{pick}
 use Rattle.codec.specs.Table.{rowOf, lastRow}
 use Rattle.base.proofs.Tests.{by-test, of-choice, not-true, not-false, and-l, and-r}
 use Rattle.account.specs.declared.Account.{Account}
-use Rattle.account.specs.Sorts.{ofGroup, ofFarm, sortOf, bySort}
+use Rattle.account.specs.declared.sort.Sort.the-variants.{OfGroup, OfFarm}
+use Rattle.account.specs.Sorts.{sortOf, bySort}
 use Rattle.book.specs.Front.{whole, need, front}
 use Rattle.book.specs.WholeRecords.{Ready, recordsOf}
 use Rattle.book.proofs.WholeRecords.{records-whole}
 use Rattle.book.proofs.RecordRuns.{record-in}
 use Rattle.book.proofs.Fronts.{meaning}
 use Rattle.compare.specs.declared.cursor.Cursor.{Cursor}
-use Rattle.compare.specs.Entries.{after, takes, Entry, recordsIn, entriesFrom, entriesAfter, entriesOf}
+use Rattle.account.specs.Judge.{judge}
+use Rattle.book.specs.Walk.{accepts, Entry, entryOf, recordsIn, entriesFrom, entriesAfter, entriesOf}
 use Rattle.compare.specs.Same.{same}
 use Rattle.compare.specs.Moved.{timesIn, asOften, allAsOften, sameDetails}
 use Rattle.compare.specs.Compare.{movedOf}
-use Rattle.compare.specs.Inner.{entry, Reached}
-use Rattle.compare.proofs.Entries.{records-none}
+use Rattle.compare.specs.Inner.{Reached}
+use Rattle.book.proofs.Walks.{records-none}
 use Rattle.compare.proofs.Tellings.{long-enough}
 
 take-none : (n : ℕ) → take {A = List ℕ} n [] ≡ []
@@ -123,7 +125,7 @@ detail-kind k =
     (λ q8. by-test (eqb k lastRow) (λ q. rw (eqb-true k lastRow q) refl)
     (λ q11. rw (q1, q2, q8, q11) (go (eqb k 3 || (eqb k 4 || (eqb k 5 || eqb k 10))))))))
   where
-    go : (b : Bool) → true ≡ bySort (pick b ofGroup ofFarm) false false true true false
+    go : (b : Bool) → true ≡ bySort (pick b OfGroup OfFarm) false false true true false
     go true = refl
     go false = refl
 
@@ -179,11 +181,11 @@ first-records : (a : Account) (rs : List (List ℕ)) (m : ℕ) → m ≤ length 
 unfolding entriesFrom recordsIn
 first-records a rs zero h = refl
 first-records a [] (suc m) h = absurd (omega arith)
-first-records a (r ∷ rs) (suc m) h = go (λ k. first-records (after a r) rs m k) (takes a r) h
+first-records a (r ∷ rs) (suc m) h = go (λ k. first-records (judge a r .account) rs m k) (accepts a r) h
   where
-    go : (m ≤ length (entriesFrom (after a r) rs) → take m rs ≡ recordsIn (take m (entriesFrom (after a r) rs)))
-        → (b : Bool) → suc m ≤ length (pick b (entry a r ∷ entriesFrom (after a r) rs) [])
-        → r ∷ take m rs ≡ recordsIn (take (suc m) (pick b (entry a r ∷ entriesFrom (after a r) rs) []))
+    go : (m ≤ length (entriesFrom (judge a r .account) rs) → take m rs ≡ recordsIn (take m (entriesFrom (judge a r .account) rs)))
+        → (b : Bool) → suc m ≤ length (pick b (entryOf a r ∷ entriesFrom (judge a r .account) rs) [])
+        → r ∷ take m rs ≡ recordsIn (take (suc m) (pick b (entryOf a r ∷ entriesFrom (judge a r .account) rs) []))
     go ih true h = ap (λ (l : List (List ℕ)). r ∷ l) (ih (omega (arith, h)))
     go ih false h = absurd (omega (arith, h))
 

@@ -14,11 +14,12 @@ use Rattle.base.specs.Choice.{pick}
 use Rattle.base.proofs.Tests.{neither, or-cases}
 use Rattle.account.specs.declared.Account.{Account}
 use Rattle.account.specs.Judge.{kindByte}
+use Rattle.account.specs.Range.{AccountInRange}
 use Rattle.compare.specs.declared.cursor.Cursor.{Cursor}
 use Rattle.compare.specs.declared.cursor.Taken.{Taken}
 use Rattle.compare.specs.declared.runs.Counts.{Counts}
 use Rattle.compare.specs.declared.runs.Pair.{Pair}
-use Rattle.compare.specs.Entries.{Entry, linesOf, entriesAfter, entriesOf}
+use Rattle.book.specs.Walk.{Entry, linesOf, entriesAfter, entriesOf}
 use Rattle.compare.specs.Same.{same}
 use Rattle.compare.specs.Compare.{shapeOf, noRuns, oneMore, runsFrom, runsOf, movedOf, planOf}
 use Rattle.compare.specs.Inner.{Turned, Written, Reached, Looked, CountsIn}
@@ -27,8 +28,9 @@ use Rattle.compare.proofs.Walks.{entries-behind}
 -- ---- the next pair
 
 module _ (a b : Account) (xs ys : List ℕ) (t u : Taken) (p : Turned a xs t) (q : Turned b ys u) where
-  pub looked-none : eqb (t .n) 0 || eqb (u .n) 0 ≡ true → Looked a b xs ys (record { old = 0; new = 0; a = a; b = b; records = false; lines = false })
-  looked-none h =
+  pub looked-none : AccountInRange a → AccountInRange b → eqb (t .n) 0 || eqb (u .n) 0 ≡ true
+      → Looked a b xs ys (record { old = 0; new = 0; a = a; b = b; records = false; lines = false })
+  looked-none v w h =
       record {
         inside = omega arith;
         inside′ = omega arith;
@@ -38,6 +40,10 @@ module _ (a b : Account) (xs ys : List ℕ) (t u : Taken) (p : Turned a xs t) (q
             (or-cases (eqb (t .n) 0) (eqb (u .n) 0) h);
         goes = λ k. absurd (omega arith);
         goes′ = λ k. absurd (omega arith);
+        readable = λ k. absurd (omega arith);
+        readable′ = λ k. absurd (omega arith);
+        range = v;
+        range′ = w;
         records = λ k. absurd (omega arith);
         lines = λ k. absurd (omega arith);
       }
@@ -60,6 +66,10 @@ module _ (a b : Account) (xs ys : List ℕ) (t u : Taken) (p : Turned a xs t) (q
           ended = λ z. absurd (omega (arith, left-some));
           goes = λ k. p .goes left-some;
           goes′ = λ k. q .goes right-some;
+          readable = λ k. p .readable left-some;
+          readable′ = λ k. q .readable right-some;
+          range = p .range;
+          range′ = q .range;
           records = λ k. e;
           lines = λ k. f;
         }
@@ -76,6 +86,8 @@ pub record Pairing (xs ys : List ℕ) (i j : ℕ) (a b : Account) (at to : ℕ) 
   pub inside : at ≤ length xs
   pub inside′ : to ≤ length ys
   pub counts : CountsIn u at
+  pub range : AccountInRange a
+  pub range′ : AccountInRange b
   pub rest : runsFrom u (entriesAfter a (drop at xs)) (entriesAfter b (drop to ys)) ≡ runsOf (drop i (entriesOf xs)) (drop j (entriesOf ys))
 
 pub pairing-none : (xs ys : List ℕ) (i j : ℕ) (c d : Cursor) → Reached xs i c → Reached ys j d
@@ -85,6 +97,8 @@ pairing-none xs ys i j c d r s =
       inside = r .inside;
       inside′ = s .inside;
       counts = record { pairs = omega arith; leading = omega arith; trailing = omega arith; others = omega arith };
+      range = r .range;
+      range′ = s .range;
       rest = rw (r .rest, s .rest) refl;
     }
 
@@ -151,6 +165,8 @@ module _ (xs ys : List ℕ) (i j : ℕ) (a b : Account) (at to : ℕ) (u : Count
         inside = pair-inside;
         inside′ = pair-inside′;
         counts = rw g (one-at-most u (l .records) (l .lines) at (l .old) (w .counts) h);
+        range = k .range;
+        range′ = k .range′;
         rest = rw (g, k .records h, k .lines h) (sym o ∙ w .rest);
       }
 

@@ -10,12 +10,13 @@ use mathlib.Core.Logic.{_⊎_, ⊎-elim}
 use lib.ListN.{length, take, drop, length-drop}
 use lib.Seq.{drop-drop, length-take-le}
 use Rattle.account.specs.declared.Account.{Account}
+use Rattle.account.specs.Range.{AccountInRange}
 use Rattle.printing.specs.Said.{Said}
 use Rattle.printing.proofs.Sayings.{_⟫_, said-none}
 use Rattle.compare.specs.declared.cursor.Cursor.{Cursor}
 use Rattle.compare.specs.declared.cursor.Taken.{Taken}
 use Rattle.compare.specs.declared.runs.Pair.{Pair}
-use Rattle.compare.specs.Entries.{Entry, linesOf, entriesAfter, entriesOf}
+use Rattle.book.specs.Walk.{Entry, linesOf, entriesAfter, entriesOf}
 use Rattle.compare.specs.Same.{same}
 use Rattle.compare.specs.Remarks.{entryText, recordsText, partText, otherText, pairsText, pairsPart}
 use Rattle.compare.specs.Inner.{Turned, Reached, Looked}
@@ -47,6 +48,7 @@ one-text new n k l es es′ e p q = rw (p, q) refl
 pub record Telling (out₀ xs : List ℕ) (new : Bool) (from many : ℕ) (out : List ℕ) (a : Account) (at number i w : ℕ) : Type 0 where
   pub inside : at ≤ length xs
   pub few : number ≤ at
+  pub range : AccountInRange a
   pub room : w ≤ length out
   pub long : length out ≡ length out₀
   pub rest : (zs : List ℕ) (q : ℕ) → Said out zs w (recordsText new number (take (many - i) (entriesAfter a (drop at xs)))) q
@@ -58,6 +60,7 @@ telling-none out xs new from many c r =
     record {
       inside = r .inside;
       few = r .most;
+      range = r .range;
       room = omega arith;
       long = refl;
       rest = λ zs q p. rw (r .number, r .rest, sub-zero) at p;
@@ -89,6 +92,7 @@ module _ (out₀ xs : List ℕ) (new : Bool) (from many : ℕ) (out : List ℕ) 
         record {
           inside = tell-inside;
           few = omega (arith, t .few, u .some k);
+          range = u .range;
           room = omega (arith, s .put .room, s .long);
           long = s .long ∙ t .long;
           rest = λ zs q p. t .rest zs q (rw o ((rw b at s) ⟫ p));
@@ -121,6 +125,8 @@ pub record PairTelling (out₀ xs ys : List ℕ) (i j many n m : ℕ) (out : Lis
   pub inside′ : to ≤ length ys
   pub few : n + k ≤ at
   pub few′ : m + k ≤ to
+  pub range : AccountInRange a
+  pub range′ : AccountInRange b
   pub room : w ≤ length out
   pub long : length out ≡ length out₀
   pub rest : (zs : List ℕ) (q : ℕ)
@@ -135,6 +141,8 @@ pairs-none out xs ys i j many c d r s =
       inside′ = s .inside;
       few = omega (arith, r .most);
       few′ = omega (arith, s .most);
+      range = r .range;
+      range′ = s .range;
       room = omega arith;
       long = refl;
       rest = λ zs q p. rw (add-zero (c .number), add-zero (d .number), r .number, s .number, r .rest, s .rest, sub-zero) at p;
@@ -181,6 +189,8 @@ module _ (out₀ xs ys : List ℕ) (i j many n m : ℕ) (out : List ℕ) (a b : 
           inside′ = pairs-inside′;
           few = omega (arith, t .few, u .some some .0);
           few′ = omega (arith, t .few′, u .some some .1);
+          range = u .range;
+          range′ = u .range′;
           room = omega (arith, second .put .room, second .long);
           long = second .long ∙ first .long ∙ t .long;
           rest = λ zs y c. t .rest zs y (rw (o, i1, i2) ((rw (p, u .lines some) at first) ⟫ ((rw (q, u .lines some) at second) ⟫ c)));

@@ -15,7 +15,8 @@ use Rattle.base.specs.Choice.{pick}
 use Rattle.base.proofs.Tests.{lt-or-ge}
 use Rattle.account.specs.declared.Account.{Account}
 use Rattle.account.specs.declared.Heading.{Heading}
-use Rattle.account.specs.Sorts.{ofGroup, sortOf}
+use Rattle.account.specs.declared.sort.Sort.the-variants.{OfGroup}
+use Rattle.account.specs.Sorts.{sortOf}
 use Rattle.account.specs.Line.{joined, lineOf}
 use Rattle.account.specs.Range.{AccountInRange}
 use Rattle.account.specs.Account.{noRecord}
@@ -42,11 +43,11 @@ use Rattle.promises.proofs.WholeLines.{shaped, bookRecords}
 use Rattle.promises.proofs.SameLine.{heading-is, gives-line, same-line}
 use Rattle.why.proofs.Faults.{refused-is}
 use Rattle.compare.specs.declared.runs.Counts.{Counts}
-use Rattle.compare.specs.Entries.{read, after, linesOf, Entry, recordsIn, entriesFrom, entriesAfter, entriesOf}
+use Rattle.book.specs.Walk.{Entry, entryOf, recordsIn, entriesFrom, entriesAfter, entriesOf}
 use Rattle.compare.specs.Same.{same}
 use Rattle.compare.specs.Compare.{shapeOf, noRuns, oneMore, runsFrom, runsOf, frontOf}
 use Rattle.compare.specs.Remarks.{otherText}
-use Rattle.compare.proofs.Entries.{shut, entries-none}
+use Rattle.book.proofs.Walks.{records-none, entries-ended, entries-first, entries-refused}
 use Rattle.compare.proofs.SameBytes.{same-true, same-self}
 use Rattle.compare.proofs.Pairs.{runs-most}
 
@@ -162,27 +163,6 @@ back-same es ns l = last-same noRuns es ns l .inside (let g = runs-most noRuns e
 
 -- ---- entries and rule 2
 
--- what a call of one whole record gives is what the rules say of it
-module _ (a : Account) (xs : List ℕ) (n : ℕ) (v : AccountInRange a) (early : a .stage < 2) (e : front xs ≡ whole) (k : n ≡ need xs) where
-  one-call : read a (take n xs)
-      ≡ record {
-        state = holding (judge a (take n xs) .account) [];
-        taken = length (take n xs);
-        bytes = joined (judge a (take n xs) .lines);
-        answer = answerOf (judge a (take n xs) .account) (length (take n xs)) (length (take n xs));
-      }
-  unfolding run
-  one-call =
-      let r = take n xs in
-      let s = holding a [] in
-      let all : take (length r) r ≡ r = take-length r in
-      let o : outcome (run s (take (length r) r)) ≡ record { state = holding (judge a r .account) []; bytes = joined (judge a r .lines); left = [] } =
-      rw (all, book-one xs n e k a v early, append-nil) refl in
-      let short : length (joined (run s (take (length r) r) .lines)) ≤ 128 =
-      rw (ap (λ (x : Outcome). x .bytes) o) (omega (arith, judge-short a r)) in
-      let l = longest-top (fits s r 128) (length r) (le-leb _ _ short) in
-      rw sub-zero at (call-at s r 128 (length r) _ (range-idle a v) l o)
-
 -- the bytes of the lines of entries, one after the other
 unfoldable pub linesIn : List Entry → List ℕ
 linesIn [] = []
@@ -207,47 +187,42 @@ module _ (a : Account) (xs : List ℕ) (v : AccountInRange a) (early : a .stage 
   abbrev r : List ℕ
   r = take (need xs) xs
 
-  after-is : after a r ≡ judge a r .account
-  after-is = ap (λ (c : Call). c .state .account) (one-call a xs (need xs) v early e refl)
-
-  lines-are : linesOf a r ≡ joined (judge a r .lines)
-  lines-are = ap (λ (c : Call). c .bytes) (one-call a xs (need xs) v early e refl)
-
   stopped : Stopped a (judge a r) → Cases a xs
-  unfolding entriesFrom
   stopped s =
       let b = book-whole a xs early e in
       let d = book-ended (judge a r .account) (drop (need xs) xs) (omega (arith, s .stage)) in
-      none (rw (records-whole xs e, after-is, lt-ltb _ _ early, eq-eqb _ _ (s .stage)) refl) (rw (b, d) (s .counted)) (rw (b, d, s .none) refl)
-      (rw (b, d) (λ q. absurd (omega (arith, q, s .stage))))
+      none (ap (entriesFrom a) (records-whole xs e) ∙ entries-refused a r (recordsOf (drop (need xs) xs)) early (s .stage)) (rw (b, d) (s .counted))
+      (rw (b, d, s .none) refl) (rw (b, d) (λ q. absurd (omega (arith, q, s .stage))))
 
-  grown-entry : Grown a r (judge a r)
-      → entriesAfter a xs ≡ record { bytes = r; lines = joined (judge a r .lines) } ∷ entriesAfter (judge a r .account) (drop (need xs) xs)
-  unfolding entriesFrom
+  grown-entry : Grown a r (judge a r) → entriesAfter a xs ≡ entryOf a r ∷ entriesAfter (judge a r .account) (drop (need xs) xs)
   grown-entry g =
       let z : judge a r .account .stage ≡ 3 → ⊥ = λ s.
       let q = ap (λ (b : Account). b .records) (refused-is a r early s) in
       absurd (omega (arith, q, g .counted)) in
-      rw (records-whole xs e, after-is, lines-are, lt-ltb _ _ early, ne-eqb _ _ z) refl
+      ap (entriesFrom a) (records-whole xs e) ∙ entries-first a r (recordsOf (drop (need xs) xs)) early z
 
   grown : Grown a r (judge a r) → Cases a xs
   grown g = some _ _ (grown-entry g) (record { early = early; front = e; bytes = refl; lines = refl; counted = g .counted; rest = refl })
 
+entries-less : (a : Account) (xs : List ℕ) → (front xs ≡ whole → ⊥) → entriesAfter a xs ≡ []
+unfolding entriesFrom
+entries-less a xs n = rw (records-none xs n) refl
+
 cases-at : (a : Account) (xs : List ℕ) → AccountInRange a → a .stage < 2 → (f : Front) → front xs ≡ f → Cases a xs
 cases-at a xs v k unfinished e =
     let b = book-unfinished a xs k e in
-    none (entries-none a xs (λ z. let q : _≡_ {A = ℕ} 0 1 = cc in absurd (omega arith))) (rw b refl) (rw b refl)
+    none (entries-less a xs (λ z. let q : _≡_ {A = ℕ} 0 1 = cc in absurd (omega arith))) (rw b refl) (rw b refl)
     (rw b (λ q. absurd (omega (arith, q, k))))
 cases-at a xs v k badLength e =
     let b = book-bad a xs k e in
-    none (entries-none a xs (λ z. let q : _≡_ {A = ℕ} 0 1 = cc in absurd (omega arith))) (rw b refl) (rw b refl)
+    none (entries-less a xs (λ z. let q : _≡_ {A = ℕ} 0 1 = cc in absurd (omega arith))) (rw b refl) (rw b refl)
     (rw b (λ q. absurd (omega (arith, q))))
 cases-at a xs v k whole e = ⊎-elim (stopped a xs v k e) (grown a xs v k e) (judged a (take (need xs) xs) v)
 
 pub cases : (a : Account) (xs : List ℕ) → AccountInRange a → Cases a xs
 cases a xs v =
     ⊎-elim (λ (k : a .stage < 2). cases-at a xs v k (front xs) refl)
-    (λ (k : 2 ≤ a .stage). none (shut a (recordsOf xs) k) (rw (book-ended a xs k) refl) (rw (book-ended a xs k) refl) (λ q. k))
+    (λ (k : 2 ≤ a .stage). none (entries-ended a (recordsOf xs) k) (rw (book-ended a xs k) refl) (rw (book-ended a xs k) refl) (λ q. k))
     (lt-or-ge (a .stage) 2)
 
 -- the entries are the records that rule 2 accepts, with its lines
@@ -350,7 +325,7 @@ own-line xs pre post x q d =
 -- both: it is never told as one that gives other lines. By same-line.
 pub unchanged-unlisted : (old new : List ℕ) (pre post pre′ post′ : List Entry) (e n : Entry)
     → entriesOf old ≡ pre ++ (e ∷ post) → entriesOf new ≡ pre′ ++ (n ∷ post′) → e .bytes ≡ n .bytes → isDetail (e .bytes) ≡ true
-    → (sortOf (kindOf (e .bytes)) ≡ ofGroup → headingBefore (recordsIn pre) ≡ headingBefore (recordsIn pre′))
+    → (sortOf (kindOf (e .bytes)) ≡ OfGroup → headingBefore (recordsIn pre) ≡ headingBefore (recordsIn pre′))
     → (e .lines ≡ n .lines) × ((b : Bool) (number : ℕ) → otherText (same (e .lines) (n .lines)) b number (e .bytes) (e .lines) ≡ [])
 unchanged-unlisted old new pre post pre′ post′ e n p q r d h =
     let a = accepts-entry old pre post e p in

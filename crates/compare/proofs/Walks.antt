@@ -7,26 +7,36 @@ use mathlib.Core.Logic.{⊎-elim}
 use native.Mathlib.Omega.{arith}
 use lib.ListN.{length, take, drop, length-drop, drop-of-length-le}
 use lib.Seq.{drop-drop}
-use Rattle.book.proofs.Fronts.{front-none}
 use Rattle.base.proofs.Tests.{lt-or-ge}
+use Rattle.book.proofs.Walks.{entries-nil}
 use Rattle.account.specs.declared.Account.{Account}
 use Rattle.account.specs.Account.{noRecord}
+use Rattle.account.specs.Range.{AccountInRange}
+use Rattle.account.proofs.Keeps.{in-range-none}
 use Rattle.compare.specs.declared.cursor.Cursor.{Cursor}
 use Rattle.compare.specs.declared.cursor.Taken.{Taken}
-use Rattle.compare.specs.Entries.{Entry, entriesAfter, entriesOf}
-use Rattle.compare.specs.Inner.{entry, Turned, Reached}
-use Rattle.compare.proofs.Entries.{entries-none}
+use Rattle.book.specs.Walk.{Entry, entryOf, entriesAfter, entriesOf}
+use Rattle.compare.specs.Inner.{Turned, Reached}
 
--- the first i entries of the book xs are walked over, up to the byte at, and a is the account behind them
+-- the first i entries of the book xs are walked over, up to the byte at, and a is the account after them
 pub record Walked (xs : List ℕ) (k : ℕ) (a : Account) (at i : ℕ) : Type 0 where
   pub inside : at ≤ length xs
   pub few : i ≤ k
   pub most : i ≤ at
   pub there : i ≤ length (entriesOf xs)
   pub rest : entriesAfter a (drop at xs) ≡ drop i (entriesOf xs)
+  pub range : AccountInRange a
 
 pub walked-none : (xs : List ℕ) (k : ℕ) (a : Account) → a ≡ noRecord → Walked xs k a 0 0
-walked-none xs k a e = record { inside = omega arith; few = omega arith; most = omega arith; there = omega arith; rest = rw e refl }
+walked-none xs k a e =
+    record {
+      inside = omega arith;
+      few = omega arith;
+      most = omega arith;
+      there = omega arith;
+      rest = rw e refl;
+      range = rw e in-range-none;
+    }
 
 one-less : (n : ℕ) (l : List Entry) (e : Entry) (es : List Entry) → drop n l ≡ e ∷ es → (drop (n + 1) l ≡ es) × (n < length l)
 one-less n l e es q =
@@ -41,7 +51,7 @@ module _ (xs : List ℕ) (k : ℕ) (a : Account) (at i : ℕ) (w : Walked xs k a
   walked-inside = omega (arith, u .inside, long, w .inside)
 
   -- one entry more
-  pub walked-entry : (t .n ≡ 0 → ⊥) → drop i (entriesOf xs) ≡ entry a (take (t .n) rest) ∷ entriesAfter (t .next) (drop (at + t .n) xs)
+  pub walked-entry : (t .n ≡ 0 → ⊥) → drop i (entriesOf xs) ≡ entryOf a (take (t .n) rest) ∷ entriesAfter (t .next) (drop (at + t .n) xs)
   walked-entry n =
       let g = u .goes (omega (arith, n)) in
       let d : drop (t .n) rest ≡ drop (at + t .n) xs = rw (e, drop-drop) refl in
@@ -56,6 +66,7 @@ module _ (xs : List ℕ) (k : ℕ) (a : Account) (at i : ℕ) (w : Walked xs k a
         most = omega (arith, w .most, u .some (omega (arith, n)));
         there = omega (arith, o .1);
         rest = sym (o .0);
+        range = u .range;
       }
 
   -- there is no more
@@ -71,6 +82,7 @@ module _ (xs : List ℕ) (k : ℕ) (a : Account) (at i : ℕ) (w : Walked xs k a
         number = omega (arith, w .few);
         most = w .most;
         rest = w .rest ∙ walked-last z ∙ sym (drop-of-length-le (entriesOf xs) {i = k} (omega (arith, w .few)));
+        range = w .range;
       }
 
 -- the count is reached
@@ -78,11 +90,7 @@ pub walked-far : (xs : List ℕ) (k : ℕ) (a : Account) (at i : ℕ) → Walked
     → Reached xs k (record { account = a; at = at; number = i })
 walked-far xs k a at i w h =
     let e : i ≡ k = omega (arith, w .few) in
-    record { inside = w .inside; number = omega (arith, w .there); most = w .most; rest = rw e at (w .rest) }
-
--- no bytes have no entries
-pub entries-nil : (a : Account) → entriesAfter a [] ≡ []
-entries-nil a = entries-none a [] (λ e. let q : _≡_ {A = ℕ} 0 1 = cc (e, front-none) in absurd (omega (arith, q)))
+    record { inside = w .inside; number = omega (arith, w .there); most = w .most; rest = rw e at (w .rest); range = w .range }
 
 pub entries-behind : (a : Account) (xs : List ℕ) (at : ℕ) → length xs ≤ at → entriesAfter a (drop at xs) ≡ []
 entries-behind a xs at h = rw (drop-of-length-le xs {i = at} h) (entries-nil a)

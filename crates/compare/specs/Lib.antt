@@ -1,4 +1,3 @@
-pub mod Entries
 pub mod Same
 pub mod Moved
 pub mod Compare

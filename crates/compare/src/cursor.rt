@@ -1,16 +1,19 @@
-// A book read record by record: the account behind those that are accepted.
+// A book read record by record: the account after those that are accepted.
 use account::Account;
-use base::first_of;
 use base::rest_of;
 use book::State;
-use book::front::ready;
+use book::walk::next_record;
+use line_bytes::LINES_MOST;
 ghost use mathlib.Core.Path.{_≡_};
 ghost use mathlib.Core.List.{[]};
+ghost use Prim.Native.Nat.{_≤_};
 ghost use lib.ListN.{length};
+ghost use Rattle.line_bytes.specs.Lines.{linesMost};
+ghost use Rattle.account.specs.Range.{AccountInRange};
 ghost use Rattle.book.specs.State.{holding};
 ghost use Rattle.compare.specs.Inner.{Turned, Written, Reached};
 
-// The next accepted record: its bytes, those of its lines, and the account behind it. No bytes: there is none.
+// The next accepted record: its bytes, those of its lines, and the account after it. No bytes: there is none.
 pub(crate) struct Taken {
     pub n: usize,
     pub written: usize,
@@ -24,7 +27,7 @@ pub(crate) struct Cursor {
     pub number: usize,
 }
 
-// The state behind whole records.
+// The state after whole records.
 pub(crate) fn idle(a: Account) -> State
     ensures { λ r. ⌜ r ≡ holding a [] ⌝ }
 {
@@ -37,23 +40,13 @@ pub(crate) fn idle(a: Account) -> State
 
 // The next accepted record of xs, and its lines at the start of a buffer that has room for those of any record.
 pub(crate) fn turn(a: Account, xs: &[u8], lines: &mut [u8]) -> Taken
-    requires { ⌜ length (now lines) ≡ 128 ⌝ }
+    requires { ⌜ AccountInRange a × (linesMost ≤ length (now lines)) ⌝ }
     ensures { λ t. ⌜ Turned a (now (xs .entry)) t ⌝ }
     ensures { λ t. ⌜ Written a (now (xs .entry)) (now (lines .exit)) t ⌝ }
 {
-    let n = ready(xs);
-    if (n == 0) | (2 <= a.stage) {
-        return Taken {
-            n: 0,
-            written: 0,
-            next: a,
-        };
-    }
-    let s = idle(a);
-    let fed = s.feed(first_of(xs, n), lines);
-    let state = fed.state;
-    let next = state.account;
-    if next.stage == 3 {
+    let t = next_record(a, xs, lines);
+    let next = t.account;
+    if (t.size == 0) | (next.stage == 3) {
         return Taken {
             n: 0,
             written: 0,
@@ -61,21 +54,22 @@ pub(crate) fn turn(a: Account, xs: &[u8], lines: &mut [u8]) -> Taken
         };
     }
     Taken {
-        n: n,
-        written: fed.written,
+        n: t.size,
+        written: t.written,
         next: next,
     }
 }
 
 // The same without its lines.
 pub(crate) fn step(a: Account, xs: &[u8]) -> Taken
+    requires { ⌜ AccountInRange a ⌝ }
     ensures { λ t. ⌜ Turned a (now (xs .entry)) t ⌝ }
 {
-    let mut lines = [0u8; 128];
+    let mut lines = [0u8; LINES_MOST];
     turn(a, xs, &mut lines)
 }
 
-// Behind the first k accepted records of a book, or behind all of them.
+// After the first k accepted records of a book, or after all of them.
 pub(crate) fn reach(book: &[u8], k: usize) -> Cursor
     ensures { λ c. ⌜ Reached (now (book .entry)) k c ⌝ }
 {

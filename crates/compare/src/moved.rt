@@ -11,7 +11,7 @@ ghost use Prim.Native.Nat.{_-_, _≤_};
 ghost use lib.ListN.{length, take};
 ghost use Rattle.promises.specs.WholeLines.{isDetail};
 ghost use Rattle.book.specs.WholeRecords.{recordsOf};
-ghost use Rattle.compare.specs.Entries.{entriesOf};
+ghost use Rattle.book.specs.Walk.{entriesOf};
 ghost use Rattle.compare.specs.Moved.{timesIn, asOften, eachAsOften, sameDetails};
 ghost use Rattle.compare.specs.Compare.{movedOf};
 

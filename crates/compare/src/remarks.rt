@@ -8,6 +8,8 @@ use account::Account;
 use base::first_of;
 use base::rest_of;
 use codec::numbers::be8;
+use line_bytes::LINES_MOST;
+use line_rows::Form;
 use names::hints;
 use names::hints::Given;
 use names::say_kind;
@@ -21,9 +23,13 @@ ghost use Rattle.account.specs.Judge.{kindByte};
 ghost use Rattle.printing.specs.Said.{Said};
 ghost use Rattle.names.specs.Hints.{hintText};
 ghost use Rattle.lister.specs.Listing.{linesText};
-ghost use Rattle.compare.specs.Entries.{linesOf, entriesOf};
+ghost use Rattle.book.specs.Walk.{linesOf, entriesOf};
+ghost use Rattle.compare.specs.Inner.{Readable};
 ghost use Rattle.compare.specs.Remarks.{wordOf, entryText, partText, pairsPart, planText, oldBetween, newBetween, changedText, othersText};
 ghost use Rattle.compare.specs.Remarks.{movedText, otherText, twoText, lastText, bookText, bookHint, statusByte};
+
+// The lines of a record as the lister prints them: at most four bytes for each of theirs.
+const TEXT_MOST: usize = 4 * LINES_MOST;
 
 // Which book.
 fn say_word(out: &mut [u8], at: usize, new: bool) -> usize
@@ -65,11 +71,11 @@ pub fn say_hint(out: &mut [u8], new: bool, given: Given) -> usize
 
 // The lines of the record r after the account a, as the lister prints them.
 fn say_lines(out: &mut [u8], at: usize, a: Account, r: &[u8]) -> usize
-    requires { ⌜ at ≤ length (now out) ⌝ }
+    requires { ⌜ (at ≤ length (now out)) × Readable a (now r) ⌝ }
     ensures { λ w. ⌜ Said (now (out .entry)) (now (out .exit)) at (linesText (linesOf a (now (r .entry)))) w ⌝ }
 {
-    let mut text = [0u8; 512];
-    let listed = lister::list(idle(a), r, &mut text);
+    let mut text = [0u8; TEXT_MOST];
+    let listed = lister::list(Form::Listing, idle(a), r, &mut text);
     say(out, at, first_of(&text, listed.written))
 }
 
@@ -82,7 +88,7 @@ fn kind_of(r: &[u8]) -> u64
 
 // A record of that number after the account a, and its lines.
 fn say_entry(out: &mut [u8], at: usize, new: bool, number: usize, a: Account, r: &[u8]) -> usize
-    requires { ⌜ (at ≤ length (now out)) × (4 ≤ length (now r)) ⌝ }
+    requires { ⌜ (at ≤ length (now out)) × Readable a (now r) ⌝ }
     ensures { λ w. ⌜ Said (now (out .entry)) (now (out .exit)) at (entryText new number (now (r .entry)) (linesOf a (now (r .entry)))) w ⌝ }
 {
     let word = say_word(out, at, new);
@@ -129,7 +135,7 @@ fn say_other(
     a: Account,
     r: &[u8],
 ) -> usize
-    requires { ⌜ (at ≤ length (now out)) × (4 ≤ length (now r)) ⌝ }
+    requires { ⌜ (at ≤ length (now out)) × Readable a (now r) ⌝ }
     ensures { λ w. ⌜ Said (now (out .entry)) (now (out .exit)) at (otherText lines new number (now (r .entry)) (linesOf a (now (r .entry)))) w ⌝ }
 {
     if lines {

@@ -4,11 +4,13 @@ use crate::cursor::turn;
 use account::Account;
 use base::first_of;
 use base::rest_of;
+use line_bytes::LINES_MOST;
 ghost use mathlib.Core.Path.{_≡_};
 ghost use Prim.Native.Nat.{_+_, _≤_, _<_};
 ghost use lib.ListN.{length, take, drop};
 ghost use Rattle.base.specs.Choice.{pick};
-ghost use Rattle.compare.specs.Entries.{entriesOf};
+ghost use Rattle.account.specs.Range.{AccountInRange};
+ghost use Rattle.book.specs.Walk.{entriesOf};
 ghost use Rattle.compare.specs.Same.{same};
 ghost use Rattle.compare.specs.Compare.{shapeOf, oneMore, runsOf};
 ghost use Rattle.compare.specs.Inner.{Looked, CountsIn};
@@ -21,7 +23,7 @@ pub(crate) struct Counts {
     pub others: usize,
 }
 
-// The next pair: the bytes of either record, the accounts behind them, and whether the records and their lines are the same.
+// The next pair: the bytes of either record, the accounts after them, and whether the records and their lines are the same.
 pub(crate) struct Pair {
     pub old: usize,
     pub new: usize,
@@ -69,10 +71,11 @@ fn alike(xs: &[u8], n: usize, ys: &[u8], m: usize) -> bool
 
 // The next pair of records of xs and ys; no bytes of the first where either has no more.
 pub(crate) fn look(a: Account, xs: &[u8], b: Account, ys: &[u8]) -> Pair
+    requires { ⌜ AccountInRange a × AccountInRange b ⌝ }
     ensures { λ l. ⌜ Looked a b (now (xs .entry)) (now (ys .entry)) l ⌝ }
 {
-    let mut left = [0u8; 128];
-    let mut right = [0u8; 128];
+    let mut left = [0u8; LINES_MOST];
+    let mut right = [0u8; LINES_MOST];
     let t = turn(a, xs, &mut left);
     let u = turn(b, ys, &mut right);
     if (t.n == 0) | (u.n == 0) {

@@ -12,8 +12,8 @@ use Rattle.bytes.specs.Bytes.{indexOf, indexAfter}
 use Rattle.typed_words.specs.Words.{leadingOf, nthWord, sameText, lowered, nthPart}
 use Rattle.typed_words.specs.Amounts.{numberFrom, amountOf}
 use Rattle.names.specs.Names.{kindTable, fieldTable, expectedTable, choiceTable, chosenFrom, decimalsTable}
-use Rattle.typed_line.specs.declared.Said.the-variants.{Record}
-use Rattle.typed_line.specs.Line.{namedFrom, kindOf, rowOfLine, valueAt, valuesFrom, valuesIn, lineOf}
+use Rattle.writer.specs.declared.typed_line.Said.the-variants.{Record}
+use Rattle.writer.specs.Line.{namedFrom, kindOf, rowOfLine, valueAt, valuesFrom, valuesIn, lineOf}
 use Rattle.kinds_screen.specs.Screen.{exampleTable, exampleOf, fieldsFrom, rowsFrom, screenText}
 
 -- how many values the example of a row has

@@ -19,7 +19,7 @@ use Rattle.line_bytes.specs.Lines.{figure, figureCount, lineFields, tota
 -- ---- written
 
 -- length, version 1, kind and group, then some bytes
-abbrev headed : ℕ → ℕ → ℕ → List ℕ → List ℕ
+abbrev pub headed : ℕ → ℕ → ℕ → List ℕ → List ℕ
 headed len kind group rest = be 2 len ++ (be 1 1 ++ (be 1 kind ++ (be 2 group ++ rest)))
 
 line-is : (kind group : ℕ) (figures : List ℕ)
@@ -48,7 +48,7 @@ total-is sums co2e n = ap (headed totalLength 8 0) (one-behind figureCount 0 sum
 abbrev pub opened : List ℕ → ℕ → ℕ → ℕ → ℕ → List ℕ
 opened l at len kind group = sets (sets (sets (sets l at (be 2 len)) (at + 2) (be 1 1)) (at + 3) (be 1 kind)) (at + 4) (be 2 group)
 
-head-stored : (len kind group : ℕ) (rest l : List ℕ) (at : ℕ)
+pub head-stored : (len kind group : ℕ) (rest l : List ℕ) (at : ℕ)
     → sets l at (headed len kind group rest) ≡ sets (opened l at len kind group) (at + 6) rest
 head-stored len kind group rest l at =
     let l2 : List ℕ = sets l at (be 2 len) in

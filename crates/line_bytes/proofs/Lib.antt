@@ -1,3 +1,4 @@
 pub mod Rows
 pub mod Laid
+pub mod AnyLine
 pub mod Sample

@@ -1,14 +1,14 @@
 -- Document 01, "Lines, calls and state": the two sorts of line, their fields as data and their bytes.
 -- Assumes nothing.
 use Prim.Native.Nat.{ℕ, _+_, _-_, _*_}
-use mathlib.Core.Bool.{Bool}
+use mathlib.Core.Bool.{Bool, _&&_, _||_}
 use mathlib.Core.List.{List, [], _∷_, _++_}
-use lib.Dec.{eqb}
-use lib.ListN.{getD, replicate}
+use lib.Dec.{leb, eqb}
+use lib.ListN.{getD, length, drop, replicate}
 use Rattle.base.specs.Choice.{pick}
 use Rattle.codec.specs.declared.Field.{Field}
-use Rattle.codec.specs.Table.{field}
-use Rattle.codec.specs.Codec.{bytesOf}
+use Rattle.codec.specs.Table.{field, lastKind}
+use Rattle.codec.specs.Codec.{valAt, bytesOf}
 
 -- a figure of a line: grams, or the word of signed grams
 abbrev pub figure : Field
@@ -67,10 +67,34 @@ totalBytes sums co2e = bytesOf totalFields (totalValues sums co2e) 0
 abbrev pub isTotal : List ℕ → Bool
 isTotal xs = eqb (getD xs 3 0) 8
 
+-- the bytes and the fields of a line of a kind
+abbrev pub sizeOfKind : ℕ → ℕ
+sizeOfKind kind = pick (eqb kind 8) totalSize lineSize
+
+abbrev pub fieldsOfKind : ℕ → List Field
+fieldsOfKind kind = pick (eqb kind 8) totalFields lineFields
+
 -- the bytes of the line at the front of xs
 abbrev pub frontSize : List ℕ → ℕ
-frontSize xs = pick (isTotal xs) totalSize lineSize
+frontSize xs = sizeOfKind (getD xs 3 0)
 
 -- the fields of the line at the front of xs
 abbrev pub frontFields : List ℕ → List Field
-frontFields xs = pick (isTotal xs) totalFields lineFields
+frontFields xs = fieldsOfKind (getD xs 3 0)
+
+-- ---- any line, of this book or another (document 02, W13: "A line's kind is 3 to 10 or 16.")
+
+abbrev pub isLineKind : ℕ → Bool
+isLineKind k = (leb 3 k && leb k lastKind) || eqb k subtotalKind
+
+-- the bytes of a line's number by its place, counted from 0: kind, group, then the figures
+abbrev pub numberWidth : ℕ → ℕ
+numberWidth place = getD (drop 2 totalFields) place figure .0
+
+-- the bytes of a line from its numbers: kind, group and the figures, in the close's line CO2e too
+unfoldable pub numbersBytes : ℕ → List ℕ → List ℕ
+numbersBytes kind vs = bytesOf (fieldsOfKind kind) ((sizeOfKind kind - 2) ∷ 1 ∷ vs) 0
+
+-- xs begins with a whole line
+unfoldable pub isLine : List ℕ → Bool
+isLine xs = ((leb (frontSize xs) (length xs) && eqb (valAt xs 0 2) (frontSize xs - 2)) && eqb (getD xs 2 0) 1) && isLineKind (getD xs 3 0)

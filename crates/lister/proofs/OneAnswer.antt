@@ -11,6 +11,8 @@ use denote.Ref.{now}
 use denote.Triple.Clauses.{AtExit}
 use Rattle.printing.proofs.Examples.{one-put}
 use Rattle.lister.specs.declared.Listed.{Listed}
+use Rattle.lister.proofs.begin.Kinds as head
+use Rattle.lister.proofs.begin.Reads as head-contract
 use Rattle.lister.proofs.goes_on.Kinds as on
 use Rattle.lister.proofs.goes_on.Reads as on-contract
 use Rattle.lister.proofs.list.Kinds as listed
@@ -25,6 +27,9 @@ use Rattle.lister.proofs.status.Reads as digit-contract
 pub list-asks-nothing : (κs : Lfts 2) (args : Dens κs listed.ps) → listed-contract.Asked κs args
 list-asks-nothing κs args = tt
 
+pub begin-asks-nothing : (κs : Lfts 1) (args : Dens κs head.ps) → head-contract.Asked κs args
+begin-asks-nothing κs args = tt
+
 pub goes-on-asks-nothing : (κs : Lfts 0) (args : Dens κs on.ps) → on-contract.Asked κs args
 goes-on-asks-nothing κs args = tt
 
@@ -37,12 +42,17 @@ say-remark-asks-nothing κs args = tt
 pub status-asks-nothing : (κs : Lfts 0) (args : Dens κs digit.ps) → digit-contract.Asked κs args
 status-asks-nothing κs args = tt
 
--- A part listed: the state after it, the bytes taken and written, and the text (the third parameter, out).
+-- A part listed: the state after it, the bytes taken and written, and the rows (the fourth parameter, out).
 pub one-list : (κs : Lfts 2) (args : Dens κs listed.ps) (f g : Listed) (e e′ : AtExit (endedOf 2 listed.ps listed.r) κs)
     → listed-contract.Learnt κs args f e → listed-contract.Learnt κs args g e′
-    → (f .state ≡ g .state) × ((f .taken ≡ g .taken) × ((f .written ≡ g .written) × (now (e .1 .1 .0) ≡ now (e′ .1 .1 .0))))
+    → (f .state ≡ g .state) × ((f .taken ≡ g .taken) × ((f .written ≡ g .written) × (now (e .1 .1 .1 .0) ≡ now (e′ .1 .1 .1 .0))))
 one-list κs args f g e e′ p q =
     (p .0 .state ∙ sym (q .0 .state), (p .0 .taken ∙ sym (q .0 .taken), one-put (p .0 .text) (q .0 .text)))
+
+-- What stands before the rows: its length, and the buffer at the end.
+pub one-begin : (κs : Lfts 1) (args : Dens κs head.ps) (f g : ℕ) (e e′ : AtExit (endedOf 1 head.ps head.r) κs)
+    → head-contract.Learnt κs args f e → head-contract.Learnt κs args g e′ → (f ≡ g) × (now (e .0) ≡ now (e′ .0))
+one-begin κs args f g e e′ p q = one-put p q
 
 -- Whether more is read.
 pub one-goes-on : (κs : Lfts 0) (args : Dens κs on.ps) (f g : Bool) (e e′ : AtExit (endedOf 0 on.ps on.r) κs)

@@ -33,17 +33,17 @@ pub record Write : Type 0 where
 abbrev pub refusalBy : ℕ → ℕ → Refusal
 refusalBy code records = record { code = code; accepted = records; field = 0 }
 
--- the row of the table that so many values of kind k are of: four of a farm record are version 2's, any other count version 1's
+-- the row of the table that so many values of a kind are of: four of a farm record are version 2's, any other count version 1's
 abbrev pub rowFor : ℕ → ℕ → ℕ
-rowFor k count = pick (eqb k 1 && eqb count 4) lastRow k
+rowFor kind count = pick (eqb kind 1 && eqb count 4) lastRow kind
 
 -- the reader's account after values v of a row
 abbrev pub next : State → ℕ → List ℕ → Account
 next s row v = weigh (s .account) row v .account
 
--- the refusals of values v of kind k, which are of this row, for a buffer of room bytes, in the order they are tried
+-- the refusals of values v of a kind, which are of this row, for a buffer of room bytes, in the order they are tried
 unfoldable pub refusals : State → ℕ → ℕ → List ℕ → ℕ → List (Bool × Refusal)
-refusals s k row v room =
+refusals s kind row v room =
     -- 13: the state is outside the ranges
     (not (inRange s), refusalBy 13 0)
     -- a refused state gives its own number
@@ -51,7 +51,7 @@ refusals s k row v room =
     -- 22: the state is closed or holds bytes
     ∷ (eqb (s .account .stage) 2 || not (eqb (s .count) 0), refusalBy 22 (s .account .records))
     -- 3: no such kind
-    ∷ (ltb k 1 || ltb lastKind k, refusalBy 3 (s .account .records))
+    ∷ (ltb kind 1 || ltb lastKind kind, refusalBy 3 (s .account .records))
     -- 4: a wrong count of values
     ∷ (not (eqb (length v) (length (fields row))), refusalBy 4 (s .account .records))
     -- 5 to 12 as the reader, which would be refused with this record; a value too big for its bytes is out of its range, and so 7
@@ -77,13 +77,13 @@ abbrev pub byAnswer : Answer → State → ℕ → List ℕ → Write
 byAnswer Wrote s row v = writing s row v
 byAnswer (Refused r) s row v = refusing s r
 
--- what writing values v of kind k and of this row after the state s gives, for a buffer of room bytes
+-- what writing values v of a kind and of this row after the state s gives, for a buffer of room bytes
 unfoldable pub writeRow : State → ℕ → ℕ → List ℕ → ℕ → Write
-writeRow s k row v room = byAnswer (answerOf (refusals s k row v room)) s row v
+writeRow s kind row v room = byAnswer (answerOf (refusals s kind row v room)) s row v
 
 -- the row goes by the kind and the count of values
 abbrev pub write : State → ℕ → List ℕ → ℕ → Write
-write s k v room = writeRow s k (rowFor k (length v)) v room
+write s kind v room = writeRow s kind (rowFor kind (length v)) v room
 
 -- the state, the count of bytes written, and the answer
 abbrev pub writtenOf : Write → Written
@@ -101,10 +101,10 @@ pub record Ready (s : State) : Type 0 where
   pub early : s .account .stage < 2
   pub none : s .count ≡ 0
 
--- v are values of kind k, as many as the fields of their row
-pub record OfKind (k row : ℕ) (v : List ℕ) : Type 0 where
-  pub least : 1 ≤ k
-  pub most : k ≤ lastKind
+-- v are values of a kind, as many as the fields of their row
+pub record OfKind (kind row : ℕ) (v : List ℕ) : Type 0 where
+  pub least : 1 ≤ kind
+  pub most : kind ≤ lastKind
   pub count : length v ≡ length (fields row)
 
 -- what the reader says by the account that it reaches

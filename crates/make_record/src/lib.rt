@@ -4,6 +4,8 @@ mod kinds;
 use account::Refusal;
 use book::State;
 use codec::LAST_KIND;
+use codec::kinds::FARM;
+use codec::kinds::FARM_FACTORS;
 use codec::kinds::bytes_of;
 use codec::kinds::values_of;
 ghost use mathlib.Core.Path.{_≡_};
@@ -65,8 +67,8 @@ fn outside(state: State) -> Written
 fn row_for(kind: u64, count: usize) -> u64
     ensures { λ r. ⌜ r ≡ rowFor kind count ⌝ }
 {
-    if (kind == 1) & (count == 4) {
-        return codec::LAST_ROW;
+    if (kind == FARM) & (count == 4) {
+        return FARM_FACTORS;
     }
     kind
 }

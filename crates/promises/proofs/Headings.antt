@@ -17,7 +17,8 @@ use Rattle.codec.specs.Table.{table, isRow}
 use Rattle.codec.specs.Codec.{valAt, be, valuesAt, bytesOf}
 use Rattle.line_bytes.specs.Lines.{lineFields, totalFields, lineBytes, totalBytes}
 use Rattle.account.specs.declared.Account.{Account}
-use Rattle.account.specs.Sorts.{heads, ofGroup, sortOf}
+use Rattle.account.specs.declared.sort.Sort.the-variants.{Heads, OfGroup}
+use Rattle.account.specs.Sorts.{sortOf}
 use Rattle.account.specs.Line.{lineWith, subtotals, totalOf}
 use Rattle.account.specs.Figures.{groupFigures}
 use Rattle.account.specs.Range.{AccountInRange}
@@ -91,7 +92,7 @@ module _ (a : Account) (r : List ℕ) (f : AccountInRange a) (kinds : isRow (kin
   unfolding table valuesAt
   first-value k = rw k refl
 
-  new-heading : sortOf (kindOf r) ≡ heads
+  new-heading : sortOf (kindOf r) ≡ Heads
       → Grown a r (record { account = underHeading a (getD (valuesOf r) 0 0) (getD (valuesOf r) 1 0) (getD (valuesOf r) 2 0); lines = subtotals a })
   unfolding table valuesAt lastGroup
   new-heading e = let k = heads-two (kindOf r) e in record { counted = refl; marks = group-marks ∙ rw e refl; group = rw e (first-value k) }
@@ -195,7 +196,7 @@ unfolding marksOf lastGroup
 marks-append g [] ys = refl
 marks-append g (x ∷ xs) ys = rw (marks-append (groupBy g x) xs ys, append-assoc)
 
-under-heading : (g : ℕ) (r : List ℕ) (rs : List (List ℕ)) → sortOf (kindOf r) ≡ ofGroup
+under-heading : (g : ℕ) (r : List ℕ) (rs : List (List ℕ)) → sortOf (kindOf r) ≡ OfGroup
     → marksOf g (r ∷ rs) ≡ record { kind = kindOf r; group = g } ∷ marksOf g rs
 unfolding marksOf lastGroup
 under-heading g r rs e = rw e refl
@@ -204,7 +205,7 @@ under-heading g r rs e = rw e refl
 -- others, the lines are those of the first ones, then one of r's kind with the group of the last heading among the first ones (the
 -- state's where there is none), then those of the others.
 pub bears-last-heading : (s : State) (xs : List ℕ) → InRange s → (before after : List (List ℕ)) (r : List ℕ)
-    → acceptedRecords s xs ≡ before ++ (r ∷ after) → sortOf (kindOf r) ≡ ofGroup
+    → acceptedRecords s xs ≡ before ++ (r ∷ after) → sortOf (kindOf r) ≡ OfGroup
     → map markOf (run s xs .lines)
     ≡ marksOf (s .account .heading .group) before
     ++ (record { kind = kindOf r; group = lastGroup (s .account .heading .group) before }

@@ -18,7 +18,9 @@ use Rattle.grams.specs.Pig as pig
 use Rattle.grams.specs.Farm.{energyOf, soilOf, co2eOf}
 use Rattle.account.specs.declared.Account.{Account}
 use Rattle.account.specs.declared.Heading.{Heading}
-use Rattle.account.specs.Sorts.{Sort, opens, heads, ofGroup, ofFarm, closes, sortOf, bySort}
+use Rattle.account.specs.declared.sort.Sort.{Sort}
+use Rattle.account.specs.declared.sort.Sort.the-variants.{Opens, Heads, OfGroup, OfFarm, Closes}
+use Rattle.account.specs.Sorts.{sortOf, bySort}
 use Rattle.account.specs.Figures.{figuresOf}
 use Rattle.account.specs.Line.{joined, lineOf}
 use Rattle.account.specs.Range.{AccountInRange}
@@ -52,11 +54,11 @@ book-record a r ys w early =
 heading-after : (h r : List ℕ) (s : Sort)
     → bySort s (headingFrom h) (headingFrom r) (headingFrom h) (headingFrom h) (headingFrom h)
     ≡ headingFrom (pick (bySort s false true false false false) r h)
-heading-after h r opens = refl
-heading-after h r heads = refl
-heading-after h r ofGroup = refl
-heading-after h r ofFarm = refl
-heading-after h r closes = refl
+heading-after h r Opens = refl
+heading-after h r Heads = refl
+heading-after h r OfGroup = refl
+heading-after h r OfFarm = refl
+heading-after h r Closes = refl
 
 -- what the last heading record says is the last heading
 last-is : (rs : List (List ℕ)) (h : List ℕ) → lastHeading (headingFrom h) rs ≡ headingFrom (lastHeadingFrom h rs)
@@ -126,24 +128,24 @@ one-line xs before r l k d g =
 -- ---- two books
 
 -- a detail of the farm has the same line under any heading
-farm-line : (g h : Heading) (k : ℕ) (v : List ℕ) → sortOf k ≡ ofFarm → lineOf g k v ≡ lineOf h k v
+farm-line : (g h : Heading) (k : ℕ) (v : List ℕ) → sortOf k ≡ OfFarm → lineOf g k v ≡ lineOf h k v
 unfolding figuresOf
 farm-line g h k v e = let n = not-of-group k e in rw (e, n .0, n .1 .0, n .1 .1 .0, n .1 .1 .1) refl
 
 same-under : (r g h : List ℕ) (s : Sort) → sortOf (kindOf r) ≡ s → bySort s false false true true false ≡ true
-    → (sortOf (kindOf r) ≡ ofGroup → g ≡ h) → lineUnder g r ≡ lineUnder h r
-same-under r g h opens e d q = no-bool d
-same-under r g h heads e d q = no-bool d
-same-under r g h ofGroup e d q = rw (q e) refl
-same-under r g h ofFarm e d q = farm-line (headingFrom g) (headingFrom h) (kindOf r) (valuesOf r) e
-same-under r g h closes e d q = no-bool d
+    → (sortOf (kindOf r) ≡ OfGroup → g ≡ h) → lineUnder g r ≡ lineUnder h r
+same-under r g h Opens e d q = no-bool d
+same-under r g h Heads e d q = no-bool d
+same-under r g h OfGroup e d q = rw (q e) refl
+same-under r g h OfFarm e d q = farm-line (headingFrom g) (headingFrom h) (kindOf r) (valuesOf r) e
+same-under r g h Closes e d q = no-bool d
 
 -- Two books, any bytes, each accepted up to and with the detail record r; where r is a detail of the group, the last heading records before it are
 -- the same. Then its line is the same. All else is free: the other records before it and their number, the farm record with its warming set among
 -- them, and whatever stands behind it.
 pub same-line : (xs ys : List ℕ) (before before′ : List (List ℕ)) (r l l′ : List ℕ)
     → Accepts xs before r → Accepts ys before′ r
-    → isDetail r ≡ true → (sortOf (kindOf r) ≡ ofGroup → headingBefore before ≡ headingBefore before′)
+    → isDetail r ≡ true → (sortOf (kindOf r) ≡ OfGroup → headingBefore before ≡ headingBefore before′)
     → Gives xs before l → Gives ys before′ l′ → l ≡ l′
 same-line xs ys before before′ r l l′ k k′ d h g g′ =
     one-line xs before r l k d g
@@ -158,7 +160,7 @@ unfolding table size valAt valuesAt firstBad first inPlace accepted cattle.below
 shared-accepted = (record { after = drop 8 (recordsOf everyKind); records = refl }, record { after = []; records = refl })
 
 -- it is a detail of the group, and the last heading records before it are the same:
-pub shared-heading : (sortOf (kindOf sharedPig) ≡ ofGroup) × ((headingBefore everyKindBefore ≡ sharedHeading) ×
+pub shared-heading : (sortOf (kindOf sharedPig) ≡ OfGroup) × ((headingBefore everyKindBefore ≡ sharedHeading) ×
     (headingBefore otherBefore ≡ sharedHeading))
 unfolding sortOf valAt front recordsBy recordsOf lastHeadingFrom
 shared-heading = (refl, (refl, refl))

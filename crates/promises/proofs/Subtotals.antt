@@ -19,7 +19,9 @@ use Rattle.account.specs.declared.Account.{Account}
 use Rattle.grams.specs.declared.units.Co2.{Co2}
 use Rattle.account.specs.declared.Figures.{Figures}
 use Rattle.account.specs.declared.Subtotal.{Subtotal}
-use Rattle.account.specs.Sorts.{Sort, opens, heads, ofGroup, ofFarm, closes, sortOf, bySort}
+use Rattle.account.specs.declared.sort.Sort.{Sort}
+use Rattle.account.specs.declared.sort.Sort.the-variants.{Opens, Heads, OfGroup, OfFarm, Closes}
+use Rattle.account.specs.Sorts.{sortOf, bySort}
 use Rattle.account.specs.Figures.{noFigures, noSubtotal, added, grouped, groupFigures, co2Alone}
 use Rattle.account.specs.Line.{lineWith, subtotals, totalOf}
 use Rattle.account.specs.Range.{Ungrouped, AccountInRange}
@@ -210,7 +212,7 @@ module _ (a : Account) (r : List ℕ) (f : AccountInRange a) (x : Gas) where
   Nothing g = x .farm g ≡ 0
 
   -- a detail of the farm gives CO2 alone
-  air-alone : sortOf (kindOf r) ≡ ofFarm → x .farm (detailOf (a .heading) r) ≡ 0
+  air-alone : sortOf (kindOf r) ≡ OfFarm → x .farm (detailOf (a .heading) r) ≡ 0
   air-alone e = of-farm Nothing (a .heading) (kindOf r) (valuesOf r) e (x .air)
 
   abbrev Balanced : Sort → Type 0
@@ -222,11 +224,11 @@ module _ (a : Account) (r : List ℕ) (f : AccountInRange a) (x : Gas) where
 
   balance-by : (s : Sort) → sortOf (kindOf r) ≡ s → bySort s false false false false true ≡ false → Balanced s
   unfolding addedUp
-  balance-by opens e n = omega arith
-  balance-by heads e n = omega (arith, ended-group a f x, x .none)
-  balance-by ofGroup e n = omega (arith, x .adds (a .sums) (detailOf (a .heading) r), x .groups (a .subtotal) (detailOf (a .heading) r))
-  balance-by ofFarm e n = omega (arith, x .adds (a .sums) (detailOf (a .heading) r), air-alone e)
-  balance-by closes e n = no-bool (sym n)
+  balance-by Opens e n = omega arith
+  balance-by Heads e n = omega (arith, ended-group a f x, x .none)
+  balance-by OfGroup e n = omega (arith, x .adds (a .sums) (detailOf (a .heading) r), x .groups (a .subtotal) (detailOf (a .heading) r))
+  balance-by OfFarm e n = omega (arith, x .adds (a .sums) (detailOf (a .heading) r), air-alone e)
+  balance-by Closes e n = no-bool (sym n)
 
   balance : closing r ≡ false
       → x .farm (farmAfter (a .heading) (a .sums) r) + x .group (a .subtotal)
@@ -234,12 +236,12 @@ module _ (a : Account) (r : List ℕ) (f : AccountInRange a) (x : Gas) where
   balance n = balance-by (sortOf (kindOf r)) refl n
 
 -- only the close closes
-closes-by : (s : Sort) → bySort s false false false false true ≡ true → s ≡ closes
-closes-by opens e = no-bool e
-closes-by heads e = no-bool e
-closes-by ofGroup e = no-bool e
-closes-by ofFarm e = no-bool e
-closes-by closes e = refl
+closes-by : (s : Sort) → bySort s false false false false true ≡ true → s ≡ Closes
+closes-by Opens e = no-bool e
+closes-by Heads e = no-bool e
+closes-by OfGroup e = no-bool e
+closes-by OfFarm e = no-bool e
+closes-by Closes e = refl
 
 -- one record accepted, and then those behind it
 module _ (a : Account) (xs : List ℕ) (j : Step) (b : Run) (f : AccountInRange a) (early : a .stage < 2) (e : front xs ≡ whole)

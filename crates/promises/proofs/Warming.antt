@@ -16,12 +16,13 @@ use Rattle.codec.proofs.Round.{record-length, record-back}
 use Rattle.grams.specs.Farm.{setFactors}
 use Rattle.grams.specs.declared.farm.Factors.{Factors}
 use Rattle.account.specs.declared.Account.{Account}
-use Rattle.account.specs.Sorts.{isFarm, opens, heads, ofGroup, ofFarm, closes, sortOf}
+use Rattle.account.specs.declared.sort.Sort.the-variants as sort
+use Rattle.account.specs.Sorts.{isFarm, sortOf}
 use Rattle.account.specs.Account.{opened, refused, noRecord, farmOf, factorsOf}
 use Rattle.account.specs.Judge.{WholeRecord, versionOf, kindByte, kindOf, valuesOf, refusals, first, inPlace, Step}
 use Rattle.account.specs.Judge.{accepted, weigh, judge}
 use Rattle.account.specs.Told.{Kind}
-use Rattle.account.proofs.Sorts.{by-sort}
+use Rattle.account.proofs.Sorts.{by-sort, sort-farm}
 use Rattle.account.proofs.Refusals.{not-refused}
 use Rattle.account.proofs.Told.{right-length}
 use Rattle.book.specs.Front.{Front, unfinished, badLength, whole, need, front}
@@ -32,16 +33,8 @@ use Rattle.promises.proofs.SameLine.{book-record}
 
 -- ---- the factors stay
 
-opens-farm : (k : ℕ) → sortOf k ≡ opens → isFarm k ≡ true
-unfolding sortOf
-opens-farm k e = go (isFarm k) (eqb k 2) (eqb k 3 || (eqb k 4 || (eqb k 5 || eqb k 10))) (eqb k 8) e
-  where
-    go : (a b c d : Bool) → pick a opens (pick b heads (pick c ofGroup (pick d closes ofFarm))) ≡ opens → a ≡ true
-    go true b c d e = refl
-    go false true c d e = let z : _≡_ {A = ℕ} 0 1 = cc in absurd (omega arith)
-    go false false true d e = let z : _≡_ {A = ℕ} 0 1 = cc in absurd (omega arith)
-    go false false false true e = let z : _≡_ {A = ℕ} 0 1 = cc in absurd (omega arith)
-    go false false false false e = let z : _≡_ {A = ℕ} 0 1 = cc in absurd (omega arith)
+opens-farm : (k : ℕ) → sortOf k ≡ sort.Opens → isFarm k ≡ true
+opens-farm k e = rw e at (sort-farm k)
 
 -- behind a book's first record no farm record is in its place
 no-second : (a : Account) (k : ℕ) → 1 ≤ a .records → isFarm k ≡ true → inPlace a k ≡ true → ⊥

@@ -11,7 +11,9 @@ use lib.Dec.{eqb}
 use Rattle.base.proofs.Tests.{and-l, and-r, lt-or-ge, no-bool, not-true, of-choice}
 use Rattle.account.specs.declared.Account.{Account}
 use Rattle.account.specs.declared.Heading.{Heading}
-use Rattle.account.specs.Sorts.{Sort, opens, heads, ofGroup, ofFarm, closes, sortOf, bySort}
+use Rattle.account.specs.declared.sort.Sort.{Sort}
+use Rattle.account.specs.declared.sort.Sort.the-variants.{Opens, Heads, OfGroup, OfFarm, Closes}
+use Rattle.account.specs.Sorts.{sortOf, bySort}
 use Rattle.account.specs.Line.{lineOf}
 use Rattle.account.specs.Range.{AccountInRange}
 use Rattle.account.specs.Judge.{WholeRecord, kindOf, valuesOf, first, refusals, Step, accepted, judge}
@@ -155,19 +157,19 @@ stays h (r ∷ rs) n =
     ap (λ (g : Heading). lastHeading g rs) e ∙ stays h rs (and-r (not (isHeading r)) (noHeading rs) n)
   where
     other-stays : (s : Sort) (g new : Heading) → bySort s false true false false false ≡ false → bySort s g new g g g ≡ g
-    other-stays opens g new e = refl
-    other-stays heads g new e = no-bool (sym e)
-    other-stays ofGroup g new e = refl
-    other-stays ofFarm g new e = refl
-    other-stays closes g new e = refl
+    other-stays Opens g new e = refl
+    other-stays Heads g new e = no-bool (sym e)
+    other-stays OfGroup g new e = refl
+    other-stays OfFarm g new e = refl
+    other-stays Closes g new e = refl
 
 -- a heading record brings its own
 brings : (s : Sort) (g new : Heading) → bySort s false true false false false ≡ true → bySort s g new g g g ≡ new
-brings opens g new e = no-bool e
-brings heads g new e = refl
-brings ofGroup g new e = no-bool e
-brings ofFarm g new e = no-bool e
-brings closes g new e = no-bool e
+brings Opens g new e = no-bool e
+brings Heads g new e = refl
+brings OfGroup g new e = no-bool e
+brings OfFarm g new e = no-bool e
+brings Closes g new e = no-bool e
 
 last-is : (before between : List (List ℕ)) (l : List ℕ) (h : Heading) → isHeading l ≡ true → noHeading between ≡ true
     → lastHeading h (before ++ (l ∷ between)) ≡ headingFrom l

@@ -17,6 +17,7 @@ use Rattle.text_lines.specs.Lines.{has, kept, unmarked, isMarked}
 use Rattle.text_lines.proofs.Bytes.{before-all, has-behind}
 use Rattle.codec.specs.Table.{table, fields, rowKind, Of, isKind, lastKind, lastRow, recordMost}
 use Rattle.base.proofs.Tests.{and-false, by-test, not-false}
+use Rattle.account.specs.Sorts.{isOfGroup}
 use Rattle.account.specs.Judge.{WholeRecord, versionOf, kindByte, kindOf, valuesOf, judge}
 use Rattle.book.specs.declared.State.{State}
 use Rattle.book.specs.State.{holding}
@@ -25,14 +26,14 @@ use Rattle.make_record.specs.declared.Answer.the-variants as answers
 use Rattle.make_record.proofs.Rows.{kind-again}
 use Rattle.account.proofs.Refusals.{judged-passes}
 use Rattle.make_record.proofs.RoundTrip.{written-again}
-use Rattle.typed_line.specs.declared.Entry.{Entry}
-use Rattle.typed_line.specs.declared.Said.the-variants as said
-use Rattle.typed_line.specs.Line.{rowOfLine, valuesFrom, entry, lineOf, completedOf, valuesIn, writeEntry}
-use Rattle.typed_line.proofs.Lines.{kept as entry-kept}
+use Rattle.writer.specs.declared.typed_line.Entry.{Entry}
+use Rattle.writer.specs.declared.typed_line.Said.the-variants as said
+use Rattle.writer.specs.Line.{rowOfLine, valuesFrom, entry, lineOf, completedOf, valuesIn, writeEntry}
+use Rattle.writer.proofs.TypedLines.{kept as entry-kept}
 use Rattle.writer.specs.declared.Typist.{Typist}
 use Rattle.writer.specs.declared.Lost.{Lost}
 use Rattle.writer.specs.declared.Fate.the-variants.{Waits, Wrote}
-use Rattle.writer.specs.Typist.{inGroup, notLost, hears, early, runEnded, waits, writtenAs, byWrite, closeBy, withheld, judgedTurn}
+use Rattle.writer.specs.Typist.{notLost, hears, early, runEnded, waits, writtenAs, byWrite, closeBy, withheld, judgedTurn}
 use Rattle.writer.specs.Typist.{recordTurn, turn, ownClose, endBy, closingTurn}
 use Rattle.writer.proofs.Fates.{is-close, is-judged, not-headless, said-turn}
 use Rattle.retype.proofs.Words.{Word, first-is, past-is, none-in-word}
@@ -232,7 +233,7 @@ module _ (t : Typist) (c : Clean t) (n : ℕ) (e : Entry) (room : ℕ) where
   is-judging : recordTurn (early hearing) n e room ≡ judgedTurn hearing n e room
   is-judging =
       ap (λ (x : Typist). recordTurn x n e room) (none-early hearing (c .close))
-      ∙ sym (not-headless hearing n e room (nothing-lost (inGroup (e .kind)) (eqb (t .lost .line) 0) (eq-eqb _ _ (c .lost))))
+      ∙ sym (not-headless hearing n e room (nothing-lost (isOfGroup (e .kind)) (eqb (t .lost .line) 0) (eq-eqb _ _ (c .lost))))
       ∙ ap (λ (x : Typist). judgedTurn x n e room) (no-run hearing (c .run))
 
   not-withheld : withheld hearing e ≡ false

@@ -22,7 +22,7 @@ use Rattle.account.specs.Range.{AccountInRange}
 use Rattle.account.proofs.Keeps.{in-range-none, in-range-judge}
 use Rattle.book.specs.State.{holding, noRecordYet}
 use Rattle.book.proofs.Ranges.{range-idle}
-use Rattle.typed_line.specs.Line.{entry, lineOf}
+use Rattle.writer.specs.Line.{entry, lineOf}
 use Rattle.writer.specs.declared.Typist.{Typist}
 use Rattle.writer.specs.declared.Fate.the-variants.{Nothing}
 use Rattle.writer.specs.Typist.{beginning, hears, waits, writtenAs, Turn, turn, closingTurn, endTurn}

@@ -5,14 +5,15 @@ use native.Mathlib.Omega.{arith}
 use native.Mathlib.Nat.{zero-add, add-zero}
 use native.Mathlib.Numerals.{add-one}
 use mathlib.Core.Path.{_≡_, refl, sym, ap, _∙_}
-use mathlib.Core.Bool.{Bool, true, false, _&&_, not}
+use mathlib.Core.Bool.{Bool, true, false, _||_, not}
 use mathlib.Core.List.{List, [], _∷_, _++_, append-nil, append-assoc}
-use lib.ListN.{length, getD, take, drop, replicate, length-drop, drop-of-length-le}
-use lib.Seq.{drop-drop, drop-cons, take-all, take-at}
-use lib.Dec.{eqb, ltb}
-use borrow.Author.Tests.{eq-eqb, ne-eqb, eqb-true, eqb-false, ltb-true, lt-ltb, le-ltb, not-true, not-false}
-use Rattle.base.proofs.Tests.{and-l, and-r}
-use Rattle.printing.specs.Decimal.{decimal, spaced, joined, Put}
+use lib.ListN.{length, getD, take, drop, replicate, length-append, length-drop, drop-of-length-le}
+use lib.Seq.{drop-drop, drop-cons, take-all, take-at, length-take-le}
+use lib.Dec.{eqb, leb}
+use borrow.Author.Tests.{eq-eqb, ne-eqb, eqb-true, eqb-false, le-leb, lt-leb, leb-true, leb-false, not-true, not-false}
+use Rattle.base.proofs.Tests.{by-test, neither}
+use Rattle.printing.specs.Decimal.{decimal, spaced, Put}
+use Rattle.printing.specs.Decimal as printing
 use Rattle.printing.specs.Said.{Said}
 use Rattle.printing.proofs.Puts.{none, put-length, and-then}
 use Rattle.printing.specs.Ascii.{ascii}
@@ -20,128 +21,21 @@ use Rattle.names.specs.Names.{kindName, valueText, sentence}
 use Rattle.codec.specs.Table.{fields, size, lengthOf, lastRow, isRow, Of}
 use Rattle.codec.specs.Codec.{valAt, valuesAt, inTwelve, firstBad}
 use Rattle.codec.proofs.Values.{values-length}
-use Rattle.line_bytes.specs.Lines.{linesMost}
 use Rattle.account.specs.declared.Account.{Account}
+use Rattle.account.specs.Range.{AccountInRange}
+use Rattle.account.specs.Line.{joined}
 use Rattle.account.specs.Judge.{versionOf, kindByte, WholeRecord, kindOf, valuesOf, judge}
 use Rattle.codec.proofs.EachKind.{row-least, row-most, row-of-kind}
 use Rattle.account.proofs.Refusals.{passed, judged-passes}
-use Rattle.book.specs.declared.State.{State}
-use Rattle.book.specs.declared.Fed.{Fed}
-use Rattle.book.specs.Front.{Front, unfinished, badLength, whole, need, front}
-use Rattle.book.specs.State.{inRange, holding}
-use Rattle.book.specs.Call.{Call, call, fedOf}
-use Rattle.book.proofs.Fronts.{good-length}
-use Rattle.book.proofs.Ranges.{range-parts}
-use Rattle.book.proofs.RecordRuns.{record-whole, record-in}
-use Rattle.make_record.proofs.OneRecord.{call-one}
+use Rattle.book.specs.declared.walk.Next.{Next}
+use Rattle.book.specs.Walk.{nextOf, recordsIn, entryOf, entriesAfter}
+use Rattle.book.proofs.RecordRuns.{record-whole}
+use Rattle.book.proofs.Walks.{stands, entries-next, entries-end}
 use Rattle.retype.specs.declared.Retyped.{Retyped}
-use Rattle.retype.specs.Typed.{valuesTyped, lineTyped}
-use Rattle.make_record.specs.Write.{Ready}
+use Rattle.retype.specs.Typed.{valuesTyped, lineTyped, textTyped, accountBehind}
 use Rattle.retype.proofs.Tables.{name-short, fields-few}
 use Rattle.retype.proofs.Values.{ReadsBack}
-use Rattle.retype.specs.Book.{lengthBy, wholeLength, readOf, isReady, accepts, Retyping, typedIf, oneTyped}
-use Rattle.retype.specs.Book.{andThen, nothingYet, retypedBy, Retypes, Typable, refusedText, endText}
-
--- ---- the length of the record at the front
-
-module _ (xs : List ℕ) where
-  pub no-length : length xs < 2 → 0 ≡ wholeLength xs
-  unfolding wholeLength front
-  no-length h = rw (lt-ltb _ _ h)
-
-  pub length-small : 2 ≤ length xs → valAt xs 0 2 < 4 → 0 ≡ wholeLength xs
-  unfolding wholeLength front
-  length-small h l = rw (le-ltb _ _ h, lt-ltb _ _ l)
-
-  pub length-big : 2 ≤ length xs → 4 ≤ valAt xs 0 2 → 26 < valAt xs 0 2 → 0 ≡ wholeLength xs
-  unfolding wholeLength front
-  length-big h l m = rw (le-ltb _ _ h, le-ltb _ _ l, lt-ltb _ _ m)
-
-  module _ (h : 2 ≤ length xs) (l : 4 ≤ valAt xs 0 2) (m : valAt xs 0 2 ≤ 26) where
-    pub not-whole : length xs < valAt xs 0 2 + 2 → 0 ≡ wholeLength xs
-    unfolding wholeLength front
-    not-whole s = rw (le-ltb _ _ h, good-length xs l m, lt-ltb _ _ s)
-
-    pub is-length : valAt xs 0 2 + 2 ≤ length xs → valAt xs 0 2 + 2 ≡ wholeLength xs
-    unfolding wholeLength front
-    is-length s = rw (le-ltb _ _ h, good-length xs l m, le-ltb _ _ s)
-
--- a length that is not 0 is that of a whole record
-some-length : (xs : List ℕ) (f : Front) → front xs ≡ f → (lengthBy f xs ≡ 0 → ⊥) → (front xs ≡ whole) × (lengthBy f xs ≡ need xs)
-some-length xs unfinished e h = absurd (h refl)
-some-length xs badLength e h = absurd (h refl)
-some-length xs whole e h = (e, refl)
-
-pub record Lies (xs : List ℕ) (n : ℕ) : Type 0 where
-  pub is : front xs ≡ whole
-  pub long : n ≡ need xs
-
-pub lies : (xs : List ℕ) → (wholeLength xs ≡ 0 → ⊥) → Lies xs (wholeLength xs)
-unfolding wholeLength
-lies xs h = let l = some-length xs (front xs) refl h in record { is = l .0; long = l .1 }
-
-pub length-inside : (xs : List ℕ) → wholeLength xs ≤ length xs
-unfolding wholeLength
-length-inside xs = by-front (front xs) refl
-  where
-    by-front : (f : Front) → front xs ≡ f → lengthBy f xs ≤ length xs
-    by-front unfinished e = omega arith
-    by-front badLength e = omega arith
-    by-front whole e = record-in xs (need xs) e refl
-
--- ---- the reader's call
-
-module _ (s : State) (n : ℕ) (xs lines : List ℕ) (l : length lines ≡ linesMost) {f : Fed} where
-  pub all-read : n ≡ 0 → f ≡ fedOf (call s xs (length lines)) → f ≡ fedOf (readOf s n xs)
-  all-read z e = rw (eq-eqb n 0 z) (rw l at e)
-
-  pub first-read : (n ≡ 0 → ⊥) → {r : List ℕ} → r ≡ take n xs → f ≡ fedOf (call s r (length lines)) → f ≡ fedOf (readOf s n xs)
-  first-read z p e = rw (ne-eqb n 0 z, ← p) (rw l at e)
-
--- ---- a record that is accepted
-
-pub record Taken (s : State) (xs : List ℕ) (n : ℕ) : Type 0 where
-  pub ready : Ready s
-  pub lies : Lies xs n
-  pub whole : WholeRecord (take n xs)
-  pub state : readOf s n xs .state ≡ holding (judge (s .account) (take n xs) .account) []
-  pub taken : judge (s .account) (take n xs) .account .stage ≡ 3 → ⊥
-
-is-ready : (s : State) → isReady s ≡ true → Ready s
-is-ready s e =
-    let t = and-r (inRange s) (ltb (s .account .stage) 2 && eqb (s .count) 0) e in
-    record {
-      range = range-parts s (and-l (inRange s) (ltb (s .account .stage) 2 && eqb (s .count) 0) e);
-      early = ltb-true _ _ (and-l (ltb (s .account .stage) 2) (eqb (s .count) 0) t);
-      none = eqb-true _ _ (and-r (ltb (s .account .stage) 2) (eqb (s .count) 0) t);
-    }
-
--- the state that the reader reaches behind the n bytes of a record
-pub state-at : (s : State) (xs : List ℕ) (n : ℕ) → Ready s → Lies xs n → (n ≡ 0 → ⊥)
-    → readOf s n xs .state ≡ holding (judge (s .account) (take n xs) .account) []
-state-at s xs n y l z =
-    rw (ne-eqb n 0 z) (ap (λ (c : Call). c .state) (call-one s y (take n xs) (record-whole xs n (l .is) (l .long)) linesMost (omega arith)))
-
-taken-at : (s : State) (xs : List ℕ) (n : ℕ) → Ready s → Lies xs n → (n ≡ 0 → ⊥) → (readOf s n xs .state .account .stage ≡ 3 → ⊥) → Taken s xs n
-taken-at s xs n y l z h =
-    let state = state-at s xs n y l z in
-    record {
-      ready = y;
-      lies = l;
-      whole = record-whole xs n (l .is) (l .long);
-      state = state;
-      taken = λ e. h (ap (λ (x : State). x .account .stage) state ∙ e);
-    }
-
-pub is-taken : (s : State) (xs : List ℕ) → accepts s (wholeLength xs) (readOf s (wholeLength xs) xs .state) ≡ true → Taken s xs (wholeLength xs)
-unfolding accepts
-is-taken s xs e =
-    let n = wholeLength xs in
-    let last = readOf s n xs .state .account .stage in
-    let t = and-r (isReady s) (not (eqb n 0) && not (eqb last 3)) e in
-    let z : n ≡ 0 → ⊥ = eqb-false _ _ (not-true _ (and-l (not (eqb n 0)) (not (eqb last 3)) t)) in
-    taken-at s xs n (is-ready s (and-l (isReady s) (not (eqb n 0) && not (eqb last 3)) e)) (lies xs z) z
-    (eqb-false _ _ (not-true _ (and-r (not (eqb n 0)) (not (eqb last 3)) t)))
+use Rattle.retype.specs.Book.{Retyping, typedBy, Retypes, Typable, valueMost, lineMost, refusedText, endText}
 
 -- ---- what a record that is not refused is
 
@@ -161,126 +55,190 @@ typable a r w h =
 pub typable-of : (r : List ℕ) → Typable r → Of (kindOf r) (valuesOf r)
 typable-of r t = record { least = t .least; most = t .most; count = values-length (fields (kindOf r)) r 4 }
 
--- ---- one record
+-- ---- some records, and then others after them
 
-pub one-is : (s : State) (xs : List ℕ) (n : ℕ) → n ≡ wholeLength xs → (b : Bool) → accepts s n (readOf s n xs .state) ≡ b
-    → oneTyped s xs ≡ typedIf b (readOf s n xs) n (take n xs)
-unfolding oneTyped
-one-is s xs n e b h = rw (← e, h)
+abbrev pub andThen : Retyping → Retyping → Retyping
+andThen x y = record { account = y .account; taken = x .taken + y .taken; text = x .text ++ y .text; more = y .more }
 
--- f is what the reader says to the n bytes of the record, and b whether they are accepted
-module _ (s : State) (xs : List ℕ) {n : ℕ} (e : n ≡ wholeLength xs) {f : Fed} (g : f ≡ fedOf (readOf s n xs))
-    {b : Bool} (h : b ≡ accepts s n (f .state)) where
-  told : accepts s n (readOf s n xs .state) ≡ b
-  told = ap (λ (x : Fed). accepts s n (x .state)) (sym g) ∙ sym h
+abbrev pub nothingYet : Account → Retyping
+nothingYet a = record { account = a; taken = 0; text = []; more = true }
 
-  pub stops : not b ≡ true → (out : List ℕ) (at : ℕ) → at ≤ length out
-      → Retypes (oneTyped s xs) out out at (record { state = f .state; taken = f .taken; written = at; more = false })
-  stops t out at l =
-      rw (one-is s xs n e false (told ∙ not-true b t))
-      (record { state = ap (λ (x : Fed). x .state) g; taken = ap (λ (x : Fed). x .taken) g; more = refl; put = none out at l })
+-- the record r, with the account after it
+abbrev one : Account → List ℕ → Retyping
+one after r = record { account = after; taken = length r; text = lineTyped (kindOf r) (valuesOf r); more = true }
 
-  module _ (t : not b ≡ false) where
-    taken : Taken s xs n
-    taken = rw (← e) at (is-taken s xs (rw e at (told ∙ not-false b t)))
+-- none is asked for
+none-asked : (a : Account) (xs : List ℕ) → typedBy 0 a xs ≡ nothingYet a
+unfolding typedBy textTyped accountBehind
+none-asked a xs = rw (le-leb 0 (length (recordsIn (entriesAfter a xs))) (omega arith)) refl
 
-    pub record-typable : {r : List ℕ} → r ≡ take n xs → Typable r
-    record-typable p = rw p (typable (s .account) (take n xs) (taken .whole) (taken .taken))
+-- none is accepted
+none-accepted : (n : ℕ) (a : Account) (xs : List ℕ) → entriesAfter a xs ≡ []
+    → typedBy (suc n) a xs ≡ record { account = nextOf a xs .account; taken = 0; text = []; more = false }
+unfolding typedBy recordsIn textTyped accountBehind
+none-accepted n a xs e = let z : leb (suc n) (length (recordsIn [])) ≡ false = lt-leb (suc n) 0 (omega arith) in rw (e, z) refl
 
-    pub types : (out out′ : List ℕ) (at last : ℕ) {r : List ℕ} → r ≡ take n xs → Put out out′ at (lineTyped (kindOf r) (valuesOf r)) last
-        → Retypes (oneTyped s xs) out out′ at (record { state = f .state; taken = n; written = last; more = true })
+more-of : (n k : ℕ) → leb (suc n) (suc k) ≡ leb n k
+more-of n k =
+    by-test (leb n k)
+    (λ t. rw t (le-leb (suc n) (suc k) (omega (arith, leb-true n k t))))
+    (λ t. rw t (lt-leb (suc n) (suc k) (omega (arith, leb-false n k t))))
+
+-- the first is accepted
+first-accepted : (n : ℕ) (a : Account) (xs r : List ℕ) (k : ℕ) (after : Account) → r ≡ take k xs → k ≤ length xs → after ≡ judge a r .account
+    → entriesAfter a xs ≡ entryOf a r ∷ entriesAfter after (drop k xs)
+    → typedBy (suc n) a xs ≡ andThen (one after r) (typedBy n after (drop k xs))
+unfolding typedBy recordsIn textTyped accountBehind
+first-accepted n a xs r k after p h f e =
+    let rs = take n (recordsIn (entriesAfter after (drop k xs))) in
+    let l : length r ≡ k = ap length p ∙ length-take-le k xs h in
+    let d : drop (length (joined rs)) (drop k xs) ≡ drop (length r + length (joined rs)) xs = rw l (drop-drop (length (joined rs)) k xs) in
+    rw (e, length-append r (joined rs), ← f, d, more-of n (length (recordsIn (entriesAfter after (drop k xs))))) refl
+
+-- ---- the next record
+
+-- t is the next record of the walk
+module _ (a : Account) (xs : List ℕ) (t : Next) (e : t ≡ nextOf a xs) where
+  pub stops : eqb (t .size) 0 || eqb (t .account .stage) 3 ≡ true → (out : List ℕ) (at : ℕ) → at ≤ length out
+      → Retypes (typedBy 1 a xs) out out at (record { account = t .account; taken = 0; written = at; more = false })
+  stops h out at l =
+      rw (none-accepted 0 a xs (entries-end a xs t e h))
+      (record { account = ap (λ (x : Next). x .account) e; taken = refl; more = refl; put = none out at l })
+
+  module _ (h : eqb (t .size) 0 || eqb (t .account .stage) 3 ≡ false) where
+    some : t .size ≡ 0 → ⊥
+    some = eqb-false _ _ (neither (eqb (t .size) 0) (eqb (t .account .stage) 3) h .0)
+
+    still : t .account .stage ≡ 3 → ⊥
+    still = eqb-false _ _ (neither (eqb (t .size) 0) (eqb (t .account .stage) 3) h .1)
+
+    pub record-typable : {r : List ℕ} → r ≡ take (t .size) xs → Typable r
+    record-typable p =
+        let s = stands a xs t e some in
+        rw p (typable a (take (t .size) xs) (record-whole xs (t .size) (s .front) (s .size)) (rw (s .account) at still))
+
+    pub first-typed : (n : ℕ) → typedBy (suc n) a xs ≡ andThen (one (t .account) (take (t .size) xs)) (typedBy n (t .account) (drop (t .size) xs))
+    first-typed n =
+        let s = stands a xs t e some in
+        first-accepted n a xs (take (t .size) xs) (t .size) (t .account) refl (s .inside) (s .account) (entries-next a xs t e some still)
+
+    pub types : (out out′ : List ℕ) (at last : ℕ) {r : List ℕ} → r ≡ take (t .size) xs → Put out out′ at (lineTyped (kindOf r) (valuesOf r)) last
+        → Retypes (typedBy 1 a xs) out out′ at (record { account = t .account; taken = t .size; written = last; more = true })
     types out out′ at last p q =
-        rw (one-is s xs n e true (told ∙ not-false b t))
-        (record { state = ap (λ (x : Fed). x .state) g; taken = refl; more = refl; put = rw p at q })
+        let s = stands a xs t e some in
+        let l = length-take-le (t .size) xs (s .inside) in
+        rw (first-typed 0, none-asked (t .account) (drop (t .size) xs))
+        (record { account = refl; taken = omega (arith, l); more = refl; put = rw append-nil (rw p at q) })
 
 -- ---- one record after the other
 
-pub record Going (s₀ : State) (xs out₀ out : List ℕ) (s : State) (at last left : ℕ) : Type 0 where
+clash : true ≡ false → ⊥
+clash e = let q : _≡_ {A = ℕ} 0 1 = cc in omega (arith, q)
+
+module _ (n : ℕ) (a : Account) (xs : List ℕ) where
+  abbrev t : Next
+  t = nextOf a xs
+
+  abbrev ends : Bool
+  ends = eqb (t .size) 0 || eqb (t .account .stage) 3
+
+  one-none : ends ≡ true → typedBy 1 a xs .more ≡ false
+  one-none h = ap (λ (x : Retyping). x .more) (none-accepted 0 a xs (entries-end a xs t refl h))
+
+  one-is : ends ≡ false → typedBy 1 a xs ≡ one (t .account) (take (t .size) xs)
+  one-is h =
+      first-typed a xs t refl h 0 ∙ ap (andThen (one (t .account) (take (t .size) xs))) (none-asked (t .account) (drop (t .size) xs))
+      ∙ rw (add-zero, append-nil) refl
+
+  -- it is not accepted, and no other is
+  pub one-stops : typedBy 1 a xs .more ≡ false → typedBy (suc n) a xs ≡ typedBy 1 a xs
+  one-stops m =
+      by-test ends
+      (λ h. none-accepted n a xs (entries-end a xs t refl h) ∙ sym (none-accepted 0 a xs (entries-end a xs t refl h)))
+      (λ h. absurd (clash (sym (ap (λ (x : Retyping). x .more) (one-is h)) ∙ m)))
+
+  pub one-more : typedBy 1 a xs .more ≡ true
+      → typedBy (suc n) a xs ≡ andThen (typedBy 1 a xs) (typedBy n (typedBy 1 a xs .account) (drop (typedBy 1 a xs .taken) xs))
+  one-more m =
+      by-test ends
+      (λ h. absurd (clash (sym m ∙ one-none h)))
+      (λ h. let s = stands a xs t refl (some a xs t refl h) in
+      let l = length-take-le (t .size) xs (s .inside) in
+      rw (one-is h, l) (rw l at (first-typed a xs t refl h n)))
+
+pub record Going (n : ℕ) (a₀ : Account) (xs out₀ out : List ℕ) (a : Account) (at last left : ℕ) : Type 0 where
   pub so-far : List ℕ
   pub put : Put out₀ out 0 so-far last
   pub inside : at ≤ length xs
-  pub room : last + 261 * left ≤ 52200
-  pub size : 52200 ≤ length out
+  pub range : AccountInRange a
+  pub room : last + lineMost * left ≤ length out
   pub same : length out ≡ length out₀
-  pub is : retypedBy 200 s₀ xs ≡ andThen (record { state = s; taken = at; text = so-far; more = true }) (retypedBy left s (drop at xs))
+  pub is : typedBy n a₀ xs ≡ andThen (record { account = a; taken = at; text = so-far; more = true }) (typedBy left a (drop at xs))
 
-as-it-is : (s : State) (x : Retyping) → x ≡ andThen (nothingYet s) x
-as-it-is s x = rw zero-add
+as-it-is : (a : Account) (x : Retyping) → x ≡ andThen (nothingYet a) x
+as-it-is a x = rw zero-add
 
-pub going-none : (s : State) (xs out : List ℕ) → 52200 ≤ length out → Going s xs out out s 0 0 200
-going-none s xs out h =
+pub going-none : (n : ℕ) (a : Account) (xs out : List ℕ) → AccountInRange a → lineMost * n ≤ length out → Going n a xs out out a 0 0 n
+going-none n a xs out v h =
     record {
       so-far = [];
       put = none out 0 (omega arith);
       inside = omega arith;
+      range = v;
       room = omega arith;
-      size = h;
       same = refl;
-      is = as-it-is s (retypedBy 200 s xs);
+      is = as-it-is a (typedBy n a xs);
     }
-
-pub one-more : (m : ℕ) (s : State) (xs : List ℕ) → oneTyped s xs .more ≡ true
-    → retypedBy (suc m) s xs ≡ andThen (oneTyped s xs) (retypedBy m (oneTyped s xs .state) (drop (oneTyped s xs .taken) xs))
-unfolding retypedBy
-one-more m s xs t = rw t
-
-pub one-stops : (m : ℕ) (s : State) (xs : List ℕ) → oneTyped s xs .more ≡ false → retypedBy (suc m) s xs ≡ oneTyped s xs
-unfolding retypedBy
-one-stops m s xs t = rw t
 
 grouped : (x y z : Retyping) → andThen x (andThen y z) ≡ andThen (andThen x y) z
 grouped x y z =
     let e : x .taken + (y .taken + z .taken) ≡ x .taken + y .taken + z .taken = omega arith in
     rw (e, append-assoc (x .text) (y .text) (z .text))
 
-none-more : (s : State) (xs : List ℕ) → retypedBy 0 s xs ≡ nothingYet s
-unfolding retypedBy
-none-more s xs = refl
-
-module _ {s₀ : State} {xs out₀ out : List ℕ} {s : State} {at last left : ℕ} (g : Going s₀ xs out₀ out s at last left) where
+module _ {n : ℕ} {a₀ : Account} {xs out₀ out : List ℕ} {a : Account} {at last left : ℕ} (g : Going n a₀ xs out₀ out a at last left) where
   -- what was typed before
   before : Retyping
-  before = record { state = s; taken = at; text = g .so-far; more = true }
+  before = record { account = a; taken = at; text = g .so-far; more = true }
 
-  pub going-end : left ≡ 0 → Retypes (retypedBy 200 s₀ xs) out₀ out 0 (record { state = s; taken = at; written = last; more = true })
+  pub going-end : left ≡ 0 → Retypes (typedBy n a₀ xs) out₀ out 0 (record { account = a; taken = at; written = last; more = true })
   unfolding before
   going-end z =
-      let i : retypedBy left s (drop at xs) ≡ nothingYet s = rw z (none-more s (drop at xs)) in
-      rw (g .is ∙ ap (andThen before) i) (record { state = refl; taken = sym (add-zero at); more = refl; put = rw append-nil (g .put) })
+      let i : typedBy left a (drop at xs) ≡ nothingYet a = rw z (none-asked a (drop at xs)) in
+      rw (g .is ∙ ap (andThen before) i) (record { account = refl; taken = sym (add-zero at); more = refl; put = rw append-nil (g .put) })
 
-  module _ (h : 0 < left) {rest out′ : List ℕ} (p : rest ≡ drop at xs) {r : Retyped} (t : Retypes (oneTyped s rest) out out′ last r) where
+  module _ (h : 0 < left) {rest out′ : List ℕ} (p : rest ≡ drop at xs) {r : Retyped} (t : Retypes (typedBy 1 a rest) out out′ last r) where
     less : left ≡ suc (left - 1)
     less = omega arith
 
     pub going-stop : r .more ≡ false
-        → Retypes (retypedBy 200 s₀ xs) out₀ out′ 0 (record { state = r .state; taken = at + r .taken; written = r .written; more = false })
+        → Retypes (typedBy n a₀ xs) out₀ out′ 0 (record { account = r .account; taken = at + r .taken; written = r .written; more = false })
     unfolding before
     going-stop f =
-        let q : oneTyped s rest .more ≡ false = sym (t .more) ∙ f in
-        let i : retypedBy left s (drop at xs) ≡ oneTyped s rest =
-        rw (← p) (ap (λ (n : ℕ). retypedBy n s rest) less ∙ one-stops (left - 1) s rest q) in
+        let q : typedBy 1 a rest .more ≡ false = sym (t .more) ∙ f in
+        let i : typedBy left a (drop at xs) ≡ typedBy 1 a rest =
+        rw (← p) (ap (λ (m : ℕ). typedBy m a rest) less ∙ one-stops (left - 1) a rest q) in
         rw (g .is ∙ ap (andThen before) i)
-        (record { state = t .state; taken = ap (λ (n : ℕ). at + n) (t .taken); more = sym q; put = and-then (g .put) (t .put) })
+        (record { account = t .account; taken = ap (λ (m : ℕ). at + m) (t .taken); more = sym q; put = and-then (g .put) (t .put) })
 
-    pub going-on : r .more ≡ true → r .written ≤ last + 261 → r .taken ≤ length rest
-        → Going s₀ xs out₀ out′ (r .state) (at + r .taken) (r .written) (left - 1)
+    pub going-on : r .more ≡ true → r .written ≤ last + lineMost → r .taken ≤ length rest → AccountInRange (r .account)
+        → Going n a₀ xs out₀ out′ (r .account) (at + r .taken) (r .written) (left - 1)
     unfolding before
-    going-on f w k =
-        let q : oneTyped s rest .more ≡ true = sym (t .more) ∙ f in
-        let one = oneTyped s rest in
-        let others = retypedBy (left - 1) (one .state) (drop (one .taken) rest) in
-        let i : retypedBy left s (drop at xs) ≡ andThen one others =
-        rw (← p) (ap (λ (n : ℕ). retypedBy n s rest) less ∙ one-more (left - 1) s rest q) in
+    going-on f w k v =
+        let q : typedBy 1 a rest .more ≡ true = sym (t .more) ∙ f in
+        let first = typedBy 1 a rest in
+        let others = typedBy (left - 1) (first .account) (drop (first .taken) rest) in
+        let i : typedBy left a (drop at xs) ≡ andThen first others =
+        rw (← p) (ap (λ (m : ℕ). typedBy m a rest) less ∙ one-more (left - 1) a rest q) in
         let l = ap length p ∙ length-drop at xs in
-        let d : drop (one .taken) rest ≡ drop (at + one .taken) xs = ap (drop (one .taken)) p ∙ drop-drop (one .taken) at xs in
+        let d : drop (first .taken) rest ≡ drop (at + first .taken) xs = ap (drop (first .taken)) p ∙ drop-drop (first .taken) at xs in
         record {
-          so-far = g .so-far ++ one .text;
+          so-far = g .so-far ++ first .text;
           put = and-then (g .put) (t .put);
           inside = omega (arith, l, g .inside);
-          room = omega (arith, g .room);
-          size = omega (arith, g .size, put-length (t .put));
+          range = v;
+          room = omega (arith, g .room, put-length (t .put));
           same = put-length (t .put) ∙ g .same;
-          is = g .is ∙ ap (andThen before) i ∙ grouped before one others ∙ rw (d, t .state, t .taken);
+          is = g .is ∙ ap (andThen before) i ∙ grouped before first others ∙ rw (d, t .account, t .taken);
         }
 
 -- ---- a record's values and its line
@@ -294,7 +252,7 @@ pub record Putting (row : ℕ) (vs out₀ out : List ℕ) (at last i : ℕ) : Ty
   pub so-far : List ℕ
   pub put : Put out₀ out at so-far last
   pub inside : i ≤ length vs
-  pub room : last ≤ at + 21 * i
+  pub room : last ≤ at + valueMost * i
   pub is : valuesTyped row 0 vs ≡ so-far ++ valuesTyped row i (drop i vs)
 
 pub putting-none : (row : ℕ) (vs out : List ℕ) (at : ℕ) → at ≤ length out → Putting row vs out out at at 0
@@ -307,10 +265,10 @@ one-value row i vs h = rw (add-one i, drop-cons vs i 0 h) refl
 
 module _ {row : ℕ} {vs out₀ out : List ℕ} {at last i : ℕ} (g : Putting row vs out₀ out at last i) where
   -- there is room for what is left
-  pub putting-fits : i < length vs → at + 21 * length vs ≤ length out₀ → last + 21 ≤ length out
+  pub putting-fits : i < length vs → at + valueMost * length vs ≤ length out₀ → last + valueMost ≤ length out
   putting-fits h r = omega (arith, g .room, put-length (g .put))
 
-  pub putting-on : i < length vs → at + 21 * length vs ≤ length out₀ → ReadsBack row i (getD vs i 0)
+  pub putting-on : i < length vs → at + valueMost * length vs ≤ length out₀ → ReadsBack row i (getD vs i 0)
       → {o1 o2 : List ℕ} {a1 a2 : ℕ} → Put out o1 last (32 ∷ []) a1 → Said o1 o2 a1 (valueText row i (getD vs i 0)) a2
       → Putting row vs out₀ o2 at a2 (i + 1)
   putting-on h r b q s =
@@ -339,7 +297,7 @@ module _ (r : List ℕ) (t : Typable r) {kind : ℕ} (b : kind ≡ kindOf r) whe
   values-there = rw b (t .most, omega (arith, t .long))
 
   -- its name is put whole
-  pub name-put : {out out′ : List ℕ} {at last : ℕ} → at + 261 ≤ length out → Said out out′ at (kindName kind) last
+  pub name-put : {out out′ : List ℕ} {at last : ℕ} → at + lineMost ≤ length out → Said out out′ at (kindName kind) last
       → Put out out′ at (kindName (kindOf r)) last
   name-put {out} {out′} {at} h s =
       whole-put (kindName (kindOf r)) (omega (arith, name-short (kindOf r) (t .least) (t .most))) (rw kind-byte at s)
@@ -374,12 +332,12 @@ module _ (r : List ℕ) (t : Typable r) {kind : ℕ} (b : kind ≡ kindOf r) whe
 pub fits : {xs ys : List ℕ} {at r : ℕ} {s : List ℕ} → Said xs ys at s r → r ≤ length ys
 fits e = omega (arith, e .put .room, e .long)
 
-three-is : (a b c : ℕ) → decimal a ++ (32 ∷ (decimal b ++ (32 ∷ decimal c))) ≡ joined (a ∷ b ∷ c ∷ [])
-unfolding joined spaced
+three-is : (a b c : ℕ) → decimal a ++ (32 ∷ (decimal b ++ (32 ∷ decimal c))) ≡ printing.joined (a ∷ b ∷ c ∷ [])
+unfolding printing.joined spaced
 three-is a b c = rw (append-nil (decimal c))
 
 pub three-said : {xs ys : List ℕ} {at r : ℕ} (a b c : ℕ) → Said xs ys at (decimal a ++ (32 ∷ (decimal b ++ (32 ∷ decimal c)))) r
-    → Said xs ys at (joined (a ∷ b ∷ c ∷ [])) r
+    → Said xs ys at (printing.joined (a ∷ b ∷ c ∷ [])) r
 three-said a b c e = rw (three-is a b c) at e
 
 module _ (a : Account) (behind : Bool) where

@@ -17,7 +17,7 @@ use Rattle.typed_words.specs.Words.{nthPart, nthWord, leadingOf, sameText, lowe
 use Rattle.typed_words.specs.Amounts.{aWhole, numberFrom, amountOf}
 use Rattle.names.specs.Names.{kindTable, kindName, choiceTable, isChoice, choiceWord, decimalsTable, decimalsAt}
 use Rattle.codec.specs.Table.{table, fields, fieldAt, rowKind, lastRow}
-use Rattle.typed_line.specs.Line.{namedFrom, kindOf}
+use Rattle.writer.specs.Line.{namedFrom, kindOf}
 use Rattle.retype.proofs.Words.{Word}
 
 -- each number from 1 to n passes the test

@@ -20,8 +20,8 @@ use Rattle.codec.proofs.Within.{Within, ranges}
 use Rattle.printing.specs.Decimal.{pointed}
 use Rattle.names.specs.Names.{isChoice, choiceWord, decimalsAt, valueText}
 use Rattle.names.proofs.TypedBack.{pointed-back, number-length, choice-least, choice-back}
-use Rattle.typed_line.specs.Line.{hasField, byChoice, valueAt}
-use Rattle.typed_line.proofs.Lines.{number-value, choice-value}
+use Rattle.writer.specs.Line.{hasField, byChoice, valueAt}
+use Rattle.writer.proofs.TypedLines.{number-value, choice-value}
 use Rattle.retype.specs.Typed.{valuesTyped}
 use Rattle.retype.proofs.Words.{Word, first-is, past-is, first-blank, past-blank, none-in-word}
 use Rattle.retype.proofs.Decimals.{pointed-word, pointed-some}

@@ -3,9 +3,8 @@ use account::Account;
 use account::Refusal;
 use base::first_of;
 use base::rest_of;
-use book::Fed;
-use book::State;
-use codec::numbers::be16;
+use book::walk::next_record;
+use line_bytes::LINES_MOST;
 use names::say_kind;
 use names::say_sentence;
 use names::say_value;
@@ -13,22 +12,27 @@ use printing::put_byte;
 use printing::say;
 use printing::say_number;
 ghost use mathlib.Core.Path.{_≡_};
-ghost use Prim.Native.Nat.{_+_, _*_, _≤_};
-ghost use lib.ListN.{length, take, drop};
+ghost use Prim.Native.Nat.{_+_, _*_, _/_, _≤_};
+ghost use lib.ListN.{length};
 ghost use mathlib.Core.List.{_∷_, []};
 ghost use Rattle.printing.specs.Decimal.{joined, Put};
 ghost use Rattle.printing.specs.Said.{Said};
 ghost use Rattle.codec.specs.Table.{fields, Of};
 ghost use Rattle.codec.specs.Codec.{firstBad};
 ghost use Rattle.account.specs.Judge.{kindOf, valuesOf};
-ghost use Rattle.book.specs.Call.{fedOf};
+ghost use Rattle.account.specs.Range.{AccountInRange};
 ghost use Rattle.retype.specs.Typed.{valuesTyped, lineTyped};
-ghost use Rattle.retype.specs.Book.{wholeLength, readOf, isReady, accepts, oneTyped, retypedBy, Retypes, Typable};
+ghost use Rattle.retype.specs.Book.{typedBy, retypedBy, Retypes, Typable, valueMost, lineMost};
 ghost use Rattle.retype.specs.Book.{refusedText, endText, statusByte};
 
-// The state behind some records of a book, the bytes taken, the end of the text in the buffer, and whether all of them were accepted.
+// A value has at most 20 bytes, and a blank before it.
+const VALUE_MOST: usize = 21;
+// A line has at most a name of 7 bytes, 12 values and the line feed.
+const LINE_MOST: usize = 7 + 12 * VALUE_MOST + 1;
+
+// The account after some records of a book, the bytes taken, the end of the text in the buffer, and whether there may be more.
 pub struct Retyped {
-    pub state: State,
+    pub account: Account,
     pub taken: usize,
     pub written: usize,
     pub more: bool,
@@ -43,13 +47,13 @@ fn row_at(bytes: &[u8]) -> u64
     row as u64
 }
 
-// The values of a row, each as a person types it, with a blank before it: at most 21 bytes a value.
+// The values of a row, each as a person types it, with a blank before it.
 fn put_values(out: &mut [u8], at: usize, row: u64, values: &[u64]) -> usize
     requires { ⌜ Of row (now values) ⌝ }
     requires { ⌜ firstBad (fields row) (now values) 0 ≡ 0 ⌝ }
-    requires { ⌜ at + 21 * length (now values) ≤ length (now out) ⌝ }
+    requires { ⌜ at + valueMost * length (now values) ≤ length (now out) ⌝ }
     ensures { λ r. ⌜ Put (now (out .entry)) (now (out .exit)) at (valuesTyped row 0 (now (values .entry))) r ⌝ }
-    ensures { λ r. ⌜ r ≤ at + 21 * length (now (values .entry)) ⌝ }
+    ensures { λ r. ⌜ r ≤ at + valueMost * length (now (values .entry)) ⌝ }
 {
     let mut end = at;
     let mut i = 0;
@@ -64,111 +68,62 @@ fn put_values(out: &mut [u8], at: usize, row: u64, values: &[u64]) -> usize
 // The line that a person types for a record: its kind's name, its values, and the line feed.
 fn put_record(out: &mut [u8], at: usize, bytes: &[u8]) -> usize
     requires { ⌜ Typable (now bytes) ⌝ }
-    requires { ⌜ at + 261 ≤ length (now out) ⌝ }
+    requires { ⌜ at + lineMost ≤ length (now out) ⌝ }
     ensures { λ r. ⌜ Put (now (out .entry)) (now (out .exit)) at (lineTyped (kindOf (now (bytes .entry))) (valuesOf (now (bytes .entry)))) r ⌝ }
-    ensures { λ r. ⌜ r ≤ at + 261 ⌝ }
+    ensures { λ r. ⌜ r ≤ at + lineMost ⌝ }
 {
-    let kind = row_at(bytes);
-    let values = codec::by_row::read(kind, bytes, 4);
-    let n = codec::kinds::values_of(kind);
-    let name = say_kind(out, at, kind);
-    let end = put_values(out, name, kind, &values[..n]);
+    let row = row_at(bytes);
+    let values = codec::by_row::read(row, bytes, 4);
+    let n = codec::kinds::values_of(row);
+    let name = say_kind(out, at, row);
+    let end = put_values(out, name, row, &values[..n]);
     put_byte(out, end, b'\n')
 }
 
-// The bytes of the record that lies whole at the front; 0 where none does.
-fn record_length(book: &[u8]) -> usize
-    ensures { λ n. ⌜ n ≡ wholeLength (now (book .entry)) ⌝ }
+// The line of the next record of book after an account, where it is accepted, from index at on.
+fn type_next(a: Account, book: &[u8], out: &mut [u8], at: usize) -> Retyped
+    requires { ⌜ AccountInRange a × (at + lineMost ≤ length (now out)) ⌝ }
+    ensures { λ r. ⌜ Retypes (typedBy 1 a (now (book .entry))) (now (out .entry)) (now (out .exit)) at r ⌝ }
+    ensures { λ r. ⌜ (r .written ≤ at + lineMost) × (r .taken ≤ length (now (book .entry))) × AccountInRange (r .account) ⌝ }
 {
-    if book.len() < 2 {
-        return 0;
-    }
-    let length = be16(book, 0);
-    if length < 4 {
-        return 0;
-    }
-    if 26 < length {
-        return 0;
-    }
-    let n = (length as usize) + 2;
-    if book.len() < n {
-        return 0;
-    }
-    n
-}
-
-// The reader's call on the first n bytes, or on all where n is 0.
-fn read_piece(state: State, book: &[u8], n: usize) -> Fed
-    requires { ⌜ n ≤ length (now book) ⌝ }
-    ensures { λ r. ⌜ r ≡ fedOf (readOf state n (now (book .entry))) ⌝ }
-    ensures { λ r. ⌜ r .taken ≤ length (now (book .entry)) ⌝ }
-{
-    let mut lines = [0u8; 116];
-    if n == 0 {
-        return state.feed(book, &mut lines);
-    }
-    state.feed(first_of(book, n), &mut lines)
-}
-
-fn is_ready(state: State) -> bool
-    ensures { λ r. ⌜ r ≡ isReady state ⌝ }
-{
-    let a = state.account;
-    state.in_range() & ((a.stage < 2) & (state.count == 0))
-}
-
-// Whether the n bytes of a record were accepted, after which the next state comes.
-fn accepted(state: State, n: usize, next: State) -> bool
-    ensures { λ r. ⌜ r ≡ accepts state n next ⌝ }
-{
-    let a = next.account;
-    is_ready(state) & ((n != 0) & (a.stage != 3))
-}
-
-// The line of the first record of book, where it is accepted, from index at on.
-fn next_record(state: State, book: &[u8], out: &mut [u8], at: usize) -> Retyped
-    requires { ⌜ at + 261 ≤ length (now out) ⌝ }
-    ensures { λ r. ⌜ Retypes (oneTyped state (now (book .entry))) (now (out .entry)) (now (out .exit)) at r ⌝ }
-    ensures { λ r. ⌜ (r .written ≤ at + 261) × (r .taken ≤ length (now (book .entry))) ⌝ }
-{
-    let n = record_length(book);
-    let fed = read_piece(state, book, n);
-    let next = fed.state;
-    if !accepted(state, n, next) {
+    let mut lines = [0u8; LINES_MOST];
+    let t = next_record(a, book, &mut lines);
+    let after = t.account;
+    if (t.size == 0) | (after.stage == 3) {
         return Retyped {
-            state: next,
-            taken: fed.taken,
+            account: after,
+            taken: 0,
             written: at,
             more: false,
         };
     }
-    let end = put_record(out, at, first_of(book, n));
+    let end = put_record(out, at, first_of(book, t.size));
     Retyped {
-        state: next,
-        taken: n,
+        account: after,
+        taken: t.size,
         written: end,
         more: true,
     }
 }
 
-// The typed lines of the first 200 records of book, from the start of out, up to one that is not accepted.
-pub fn retype(from: State, book: &[u8], out: &mut [u8]) -> Retyped
-    requires { ⌜ 52200 ≤ length (now out) ⌝ }
-    ensures { λ r. ⌜ Retypes (retypedBy 200 from (now (book .entry))) (now (out .entry)) (now (out .exit)) 0 r ⌝ }
+// The same after an account in its ranges.
+fn type_records(from: Account, book: &[u8], out: &mut [u8]) -> Retyped
+    requires { ⌜ AccountInRange from ⌝ }
+    ensures { λ r. ⌜ Retypes (typedBy (length (now (out .entry)) / lineMost) from (now (book .entry))) (now (out .entry)) (now (out .exit)) 0 r ⌝ }
     ensures { λ r. ⌜ r .taken ≤ length (now (book .entry)) ⌝ }
 {
-    let mut state = from;
+    let mut a = from;
     let mut at = 0;
     let mut end = 0;
-    let mut left: usize = 200;
+    let mut left = out.len() / LINE_MOST;
     while left > 0 {
-        let t = next_record(state, rest_of(book, at), out, end);
-        state = t.state;
+        let t = type_next(a, rest_of(book, at), out, end);
+        a = t.account;
         at += t.taken;
         end = t.written;
         if !t.more {
             return Retyped {
-                state: state,
+                account: a,
                 taken: at,
                 written: end,
                 more: false,
@@ -177,11 +132,28 @@ pub fn retype(from: State, book: &[u8], out: &mut [u8]) -> Retyped
         left -= 1;
     }
     Retyped {
-        state: state,
+        account: a,
         taken: at,
         written: end,
         more: true,
     }
+}
+
+// The lines of the next records of book after an account, as many as the buffer has room for, from its start, up to a record that is not
+// accepted. An account outside its ranges is that of no book: nothing is typed.
+pub fn retype(from: Account, book: &[u8], out: &mut [u8]) -> Retyped
+    ensures { λ r. ⌜ Retypes (retypedBy (length (now (out .entry)) / lineMost) from (now (book .entry))) (now (out .entry)) (now (out .exit)) 0 r ⌝ }
+    ensures { λ r. ⌜ r .taken ≤ length (now (book .entry)) ⌝ }
+{
+    if !from.in_range() {
+        return Retyped {
+            account: from,
+            taken: 0,
+            written: 0,
+            more: false,
+        };
+    }
+    type_records(from, book, out)
 }
 
 // Three numbers with one blank between.
@@ -206,7 +178,7 @@ fn say_refusal(out: &mut [u8], r: Refusal) -> usize
     say(out, end, b"\n")
 }
 
-// The last word, from the start of out: none where the book is closed and nothing stands behind its close.
+// The last word, from the start of out: none where the book is closed and nothing stands after its close.
 pub fn say_end(out: &mut [u8], account: Account, behind: bool) -> usize
     ensures { λ r. ⌜ Said (now (out .entry)) (now (out .exit)) 0 (endText account behind) r ⌝ }
 {
@@ -224,7 +196,7 @@ pub fn say_end(out: &mut [u8], account: Account, behind: bool) -> usize
     say(out, end, b"\n")
 }
 
-// The status byte: 0 only where the book is closed with nothing behind it, all of it was read, and everything was written.
+// The status byte: 0 only where the book is closed with nothing after it, all of it was read, and everything was written.
 pub fn status(account: Account, behind: bool, read: bool, written: bool) -> u8
     ensures { λ r. ⌜ r ≡ statusByte account behind read written ⌝ }
 {

@@ -1,5 +1,5 @@
 // Reads a book on standard input and prints it as typed lines, one for each accepted record. The last word goes to standard error.
-use book::State;
+use account::Account;
 use libc::STDIN_FILENO;
 use names::hints::look;
 use names::hints::say_hint;
@@ -7,12 +7,11 @@ use program::Input;
 use program::report;
 use program::send;
 ghost use mathlib.Core.Path.{_≡_};
-ghost use Prim.Native.Nat.{_≤_};
 ghost use lib.ListN.{length};
 
-// The state after the records that were typed, the bytes taken, whether no write failed, and whether more may come.
+// The account after the records that were typed, the bytes taken, whether no write failed, and whether more may come.
 struct Work {
-    state: State,
+    account: Account,
     at: usize,
     written: bool,
     more: bool,
@@ -26,20 +25,17 @@ fn book_buffer() -> [u8; 131072]
 }
 
 // The lines of some records, with one write.
-fn turn(mut w: Work, book: &[u8], text: &mut [u8]) -> Work
-    requires { ⌜ 65536 ≤ length (now text) ⌝ }
-    ensures { λ r. ⌜ 65536 ≤ length (now (text .exit)) ⌝ }
-{
+fn turn(mut w: Work, book: &[u8], text: &mut [u8]) -> Work {
     let at = w.at;
     if book.len() < at {
         w.more = false;
         return w;
     }
-    let state = w.state;
-    let r = retype::retype(state, &book[at..], text);
-    let next = r.state;
+    let account = w.account;
+    let r = retype::retype(account, &book[at..], text);
+    let next = r.account;
     let n = r.written;
-    w.state = next;
+    w.account = next;
     w.at = at + r.taken;
     w.more = r.more;
     if !send(&text[..n]) {
@@ -50,9 +46,7 @@ fn turn(mut w: Work, book: &[u8], text: &mut [u8]) -> Work
 }
 
 // Each turn takes a record, so that there are fewer of them than bytes.
-fn run(from: Work, book: &[u8], text: &mut [u8]) -> Work
-    requires { ⌜ 65536 ≤ length (now text) ⌝ }
-{
+fn run(from: Work, book: &[u8], text: &mut [u8]) -> Work {
     let mut w = from;
     let mut turns: usize = 131072;
     while turns > 0 {
@@ -74,8 +68,7 @@ fn end(w: Work, input: Input, book: &[u8]) {
         return;
     }
     let mut text = [0u8; 512];
-    let state = w.state;
-    let n = retype::say_end(&mut text, state.account, w.at < input.len);
+    let n = retype::say_end(&mut text, w.account, w.at < input.len);
     report(&text[..n]);
     tell_hint(book);
 }
@@ -88,14 +81,13 @@ fn tell_hint(book: &[u8]) {
 }
 
 fn tell_status(w: Work, input: Input) {
-    let state = w.state;
-    program::tell_status(retype::status(state.account, w.at < input.len, input.good, w.written));
+    program::tell_status(retype::status(w.account, w.at < input.len, input.good, w.written));
 }
 
 fn answer(book: &[u8], input: Input) {
     let mut text = io::large_buffer();
     let start = Work {
-        state: State::new(),
+        account: Account::new(),
         at: 0,
         written: true,
         more: true,

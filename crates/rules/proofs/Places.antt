@@ -10,6 +10,7 @@ use lib.Dec.{leb, ltb, eqb}
 use Rattle.base.proofs.Tests.{and-l, true-or-false}
 use Rattle.account.specs.declared.Account.{Account}
 use Rattle.account.specs.Range.{AccountInRange, Headed, Unheaded}
+use Rattle.account.specs.Sorts.{sortOf}
 use Rattle.account.specs.Judge.{inPlace}
 
 module _ (a : Account) (f : AccountInRange a) where
@@ -30,7 +31,7 @@ module _ (a : Account) (f : AccountInRange a) where
 
   -- kinds 3, 4 and 10
   pub cattle-place : (b : Bool) → b ≡ (leb 1 (a .heading .class) && leb (a .heading .class) 3) → b ≡ inPlace a 3
-  unfolding inPlace
+  unfolding inPlace sortOf
   cattle-place b e = e ∙ with-begun _ (λ t. leb-true _ _ (and-l (leb 1 (a .heading .class)) (leb (a .heading .class) 3) t))
 
   -- kind 5: no class is above 4
@@ -48,5 +49,5 @@ module _ (a : Account) (f : AccountInRange a) where
       (true-or-false (ltb 3 (a .heading .class)))
 
   pub pig-place : (b : Bool) → b ≡ ltb 3 (a .heading .class) → b ≡ inPlace a 5
-  unfolding inPlace
+  unfolding inPlace sortOf
   pig-place b e = e ∙ is-pig ∙ with-begun _ (λ t. let four : a .heading .class ≡ 4 = eqb-true _ _ t in omega arith)

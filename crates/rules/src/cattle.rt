@@ -7,6 +7,7 @@ use crate::refusals::stopped;
 use crate::refusals::wrong;
 use account::Account;
 use account::Judged;
+use codec::kinds::CATTLE;
 use grams::cattle::CattleNitrogen;
 use grams::cattle::CattleRation;
 ghost use mathlib.Core.Path.{_≡_};
@@ -61,7 +62,7 @@ pub fn weigh(a: Account, v: [u64; 9], room: usize) -> Judged
         CattleNitrogen::BelowZero => wrong(a, 11, 0),
         CattleNitrogen::Given(m) => {
             let f = cattle_figures(m);
-            grouped_detail(a, 4, h.group, used, f, room)
+            grouped_detail(a, CATTLE as u8, h.group, used, f, room)
         }
     }
 }

@@ -52,7 +52,7 @@ fn totalled(a: Account, room: usize) -> Judged
     let len = closing_length(h.group);
     let line = Line {
         given: len,
-        kind: 16,
+        kind: line_bytes::SUBTOTAL,
         group: h.group,
         figures: f,
         co2e: co2e,

@@ -7,6 +7,7 @@ use crate::refusals::stopped;
 use crate::refusals::wrong;
 use account::Account;
 use account::Judged;
+use codec::kinds::ENTERIC;
 ghost use Prim.Native.Nat.{_<_};
 ghost use Rattle.account.specs.Range.{AccountInRange};
 ghost use Rattle.account.specs.Judge.{weigh};
@@ -30,5 +31,5 @@ pub fn weigh(a: Account, v: [u64; 3], room: usize) -> Judged
     used.enteric = sum as u32;
     let ch4 = grams::cattle::enteric(v[1], v[2], h.head as u64, v[0]);
     let f = ch4_alone(ch4);
-    grouped_detail(a, 3, h.group, used, f, room)
+    grouped_detail(a, ENTERIC as u8, h.group, used, f, room)
 }

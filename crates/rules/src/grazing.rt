@@ -7,6 +7,7 @@ use crate::refusals::stopped;
 use crate::refusals::wrong;
 use account::Account;
 use account::Judged;
+use codec::kinds::GRAZING;
 ghost use Prim.Native.Nat.{_<_};
 ghost use Rattle.account.specs.Range.{AccountInRange};
 ghost use Rattle.account.specs.Judge.{weigh};
@@ -30,5 +31,5 @@ pub fn weigh(a: Account, v: [u64; 4], room: usize) -> Judged
     let f = grazing_alone(co2e);
     let mut used = a.used;
     used.grazed = sum as u32;
-    grouped_detail(a, 10, h.group, used, f, room)
+    grouped_detail(a, GRAZING as u8, h.group, used, f, room)
 }

@@ -18,6 +18,17 @@ mod refusals; // refusals.rt: what all kinds share
 use account::Account;
 use account::Judged;
 use codec::LAST_KIND;
+use codec::kinds::CATTLE;
+use codec::kinds::CLOSE;
+use codec::kinds::ENERGY;
+use codec::kinds::ENTERIC;
+use codec::kinds::FARM;
+use codec::kinds::FARM_FACTORS;
+use codec::kinds::GRAZING;
+use codec::kinds::HEADING;
+use codec::kinds::PIG;
+use codec::kinds::SOIL;
+use codec::kinds::TILLAGE;
 use codec::kinds::bytes_of;
 use refusals::wrong;
 ghost use mathlib.Core.Path.{_≡_};
@@ -27,23 +38,23 @@ ghost use Rattle.account.specs.Judge.{WholeRecord, versionOf, kindOf, judge};
 ghost use Rattle.account.specs.Told.{TellsIn};
 ghost use Rattle.rules.specs.Right.{Right};
 
-// What the values of a record do that is as long as its kind: a function of its own, else the compiler keeps copies of the account. No kind is left
-// for the last arm; with it the compiler sees that the number needs no further test.
-fn by_kind(a: Account, kind: u8, r: &[u8], room: usize) -> Judged
-    requires { ⌜ AccountInRange a × (a .stage < 2) × Right (now r) × (kind ≡ kindOf (now r)) ⌝ }
+// What the values of a record do that is as long as its row says: a function of its own, else the compiler keeps copies of the account. No kind is
+// left for the last arm; with it the compiler sees that the row needs no further test.
+fn by_kind(a: Account, row: u64, r: &[u8], room: usize) -> Judged
+    requires { ⌜ AccountInRange a × (a .stage < 2) × Right (now r) × (row ≡ kindOf (now r)) ⌝ }
     ensures { λ j. ⌜ TellsIn room a (judge a (now (r .entry))) j ⌝ }
 {
-    match kind {
-        1 => farm::weigh(a, codec::farm::read(r, 4), room),
-        2 => heading::weigh(a, codec::heading::read(r, 4), room),
-        3 => enteric::weigh(a, codec::enteric::read(r, 4), room),
-        4 => cattle::weigh(a, codec::cattle::read(r, 4), room),
-        5 => pig::weigh(a, codec::pig::read(r, 4), room),
-        6 => energy::weigh(a, codec::energy::read(r, 4), room),
-        7 => soil::weigh(a, codec::soil::read(r, 4), room),
-        8 => close::weigh(a, codec::close::read(r, 4), room),
-        9 => tillage::weigh(a, codec::tillage::read(r, 4), room),
-        10 => grazing::weigh(a, codec::grazing::read(r, 4), room),
+    match row {
+        FARM => farm::weigh(a, codec::farm::read(r, 4), room),
+        HEADING => heading::weigh(a, codec::heading::read(r, 4), room),
+        ENTERIC => enteric::weigh(a, codec::enteric::read(r, 4), room),
+        CATTLE => cattle::weigh(a, codec::cattle::read(r, 4), room),
+        PIG => pig::weigh(a, codec::pig::read(r, 4), room),
+        ENERGY => energy::weigh(a, codec::energy::read(r, 4), room),
+        SOIL => soil::weigh(a, codec::soil::read(r, 4), room),
+        CLOSE => close::weigh(a, codec::close::read(r, 4), room),
+        TILLAGE => tillage::weigh(a, codec::tillage::read(r, 4), room),
+        GRAZING => grazing::weigh(a, codec::grazing::read(r, 4), room),
         _ => wrong(a, 3, 0),
     }
 }
@@ -55,10 +66,10 @@ fn by_version(a: Account, r: &[u8], room: usize) -> Judged
 {
     let version = r[2];
     let kind = r[3];
-    if (version != 2) | (kind != 1) {
+    if (version != 2) | (kind != FARM as u8) {
         return wrong(a, 2, 0);
     }
-    if r.len() != 14 {
+    if r.len() != bytes_of(FARM_FACTORS) {
         return wrong(a, 4, 0);
     }
     farm::weigh_factors(a, codec::farm_factors::read(r, 4), room)
@@ -77,8 +88,9 @@ pub fn judge(a: Account, r: &[u8], room: usize) -> Judged
     if (kind < 1) | ((LAST_KIND as u8) < kind) {
         return wrong(a, 3, 0);
     }
-    if r.len() != bytes_of(kind as u64) {
+    let row = kind as u64;
+    if r.len() != bytes_of(row) {
         return wrong(a, 4, 0);
     }
-    by_kind(a, kind, r, room)
+    by_kind(a, row, r, room)
 }

@@ -104,7 +104,7 @@ pub(crate) fn group_line(group: u16, s: Subtotal) -> Line
     let f = group_figures(s);
     Line {
         given: line_bytes::LINE_SIZE,
-        kind: 16,
+        kind: line_bytes::SUBTOTAL,
         group: group,
         figures: f,
         co2e: NO_CO2,

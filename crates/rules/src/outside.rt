@@ -1,8 +1,13 @@
 // A record of any row with a value out of its range: 5, 6 or 7 refuses it, and no kind's own function is asked.
 use crate::refusals::barred;
+use crate::refusals::cattle_placed;
 use crate::refusals::stopped;
 use account::Account;
 use account::Judged;
+use account::sort::is_of_group;
+use codec::kinds::FARM;
+use codec::kinds::FARM_FACTORS;
+use codec::kinds::PIG;
 ghost use mathlib.Core.Path.{_≡_};
 ghost use mathlib.Core.List.{List};
 ghost use Prim.Native.Nat.{ℕ};
@@ -15,13 +20,13 @@ ghost use Rattle.account.specs.Told.{Tells};
 fn serves(class: u8, row: u64) -> bool
     ensures { λ r. ⌜ r ≡ headingServes class row ⌝ }
 {
-    if (row == 3) | ((row == 4) | (row == 10)) {
-        return (1 <= class) & (class <= 3);
+    if !is_of_group(row) {
+        return true;
     }
-    if row == 5 {
+    if row == PIG {
         return class == 4;
     }
-    true
+    cattle_placed(class)
 }
 
 // A record of the row stands in its place.
@@ -29,7 +34,7 @@ fn placed(a: Account, row: u64) -> bool
     ensures { λ r. ⌜ r ≡ inPlace a row ⌝ }
 {
     let h = a.heading;
-    if (row == 1) | (row == codec::LAST_ROW) {
+    if (row == FARM) | (row == FARM_FACTORS) {
         return a.records == 0;
     }
     serves(h.class, row) & !(a.records == 0)

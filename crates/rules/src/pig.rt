@@ -6,6 +6,7 @@ use crate::refusals::stopped;
 use crate::refusals::wrong;
 use account::Account;
 use account::Judged;
+use codec::kinds::PIG;
 use grams::pig::PigRation;
 ghost use mathlib.Core.Path.{_≡_};
 ghost use Prim.Native.Nat.{_<_};
@@ -63,5 +64,5 @@ pub fn weigh(a: Account, v: [u64; 12], room: usize) -> Judged
     used.pig = sum as u32;
     let m = grams::pig::manure(pig_ration(v), h.head as u64);
     let f = pig_figures(m);
-    grouped_detail(a, 5, h.group, used, f, room)
+    grouped_detail(a, PIG as u8, h.group, used, f, room)
 }

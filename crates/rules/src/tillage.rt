@@ -6,6 +6,7 @@ use crate::refusals::begun;
 use crate::refusals::stopped;
 use account::Account;
 use account::Judged;
+use codec::kinds::TILLAGE;
 ghost use Prim.Native.Nat.{_<_};
 ghost use Rattle.account.specs.Range.{AccountInRange};
 ghost use Rattle.account.specs.Judge.{weigh};
@@ -24,5 +25,5 @@ pub fn weigh(a: Account, v: [u64; 5], room: usize) -> Judged
     let f = co2_alone(co2);
     let used = a.used;
     let subtotal = a.subtotal;
-    detailed(a, 9, 0, used, subtotal, f, room)
+    detailed(a, TILLAGE as u8, 0, used, subtotal, f, room)
 }

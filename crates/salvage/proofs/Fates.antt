@@ -15,16 +15,17 @@ use Rattle.codec.specs.Table.{lengthOf}
 use Rattle.codec.specs.Codec.{valAt}
 use Rattle.account.specs.declared.Account.{Account}
 use Rattle.account.specs.Range.{AccountInRange}
-use Rattle.account.specs.Sorts.{opens, heads, ofGroup, ofFarm, closes, isFarm, sortOf}
+use Rattle.account.specs.declared.sort.Sort.the-variants.{Opens, Heads, OfGroup, OfFarm, Closes}
+use Rattle.account.specs.Sorts.{isFarm, sortOf, isOfGroup}
 use Rattle.account.specs.Account.{closed}
 use Rattle.account.specs.Judge.{versionOf, kindByte, kindOf, valuesOf, headingServes, inPlace, first, refusals, Step, accepted, judge}
 use Rattle.account.proofs.Sorts.{by-sort}
 use Rattle.account.proofs.Refusals.{not-refused}
 use Rattle.account.proofs.Keeps.{in-range-judge}
 use Rattle.salvage.specs.declared.Reading.{Reading}
-use Rattle.salvage.specs.Salvage.{wouldGet, oneOf, ofGroupKind, drops, droppedBy, ends, after}
+use Rattle.salvage.specs.Salvage.{wouldGet, oneOf, drops, droppedBy, ends, after}
 use Rattle.salvage.specs.Inner.{Open}
-use Rattle.salvage.proofs.GroupKinds.{row-eight, farm-row}
+use Rattle.salvage.proofs.KindRows.{row-eight, farm-row}
 
 -- ---- the number that a record would get
 
@@ -35,11 +36,11 @@ pub record Grown (a : Account) (k : ℕ) (j : Step) : Type 0 where
   pub early : (k ≡ 8 → ⊥) → a .stage < 2 → j .account .stage < 2
 
 -- only kind 8 closes
-closes-eight : (k : ℕ) → sortOf k ≡ closes → k ≡ 8
+closes-eight : (k : ℕ) → sortOf k ≡ Closes → k ≡ 8
 unfolding sortOf
 closes-eight k e = go (isFarm k) (eqb k 2) (eqb k 3 || (eqb k 4 || (eqb k 5 || eqb k 10))) (eqb k 8) refl e
   where
-    go : (a b c d : Bool) → eqb k 8 ≡ d → pick a opens (pick b heads (pick c ofGroup (pick d closes ofFarm))) ≡ closes → k ≡ 8
+    go : (a b c d : Bool) → eqb k 8 ≡ d → pick a Opens (pick b Heads (pick c OfGroup (pick d Closes OfFarm))) ≡ Closes → k ≡ 8
     go true b c d q e = let z : _≡_ {A = ℕ} 0 1 = cc in absurd (omega arith)
     go false true c d q e = let z : _≡_ {A = ℕ} 0 1 = cc in absurd (omega arith)
     go false false true d q e = let z : _≡_ {A = ℕ} 0 1 = cc in absurd (omega arith)
@@ -133,7 +134,7 @@ Dropping c = (c ≡ 0) ⊎ (oneOf 2 4 c || oneOf 6 11 c ≡ true)
 none-drops : (c k : ℕ) (lost : Bool) → Dropping c → first (drops c k lost) ≡ 0 → c ≡ 0
 unfolding first
 none-drops c k lost (inl z) e = z
-none-drops c k lost (inr z) e = go (oneOf 2 4 c) (lost && ofGroupKind k) (oneOf 6 11 c) z e
+none-drops c k lost (inr z) e = go (oneOf 2 4 c) (lost && isOfGroup k) (oneOf 6 11 c) z e
   where
     go : (b b′ b″ : Bool) → b || b″ ≡ true → pick b c (pick b′ 6 (pick b″ c 0)) ≡ 0 → c ≡ 0
     go true b′ b″ p e = e

@@ -12,7 +12,7 @@ use lib.Seq.{take-append-seam, drop-append-seam}
 use Rattle.base.specs.Choice.{pick}
 use Rattle.base.proofs.Tests.{and-l, no-bool}
 use Rattle.codec.specs.Codec.{recordBytes}
-use Rattle.account.specs.Sorts.{sortOf}
+use Rattle.account.specs.Sorts.{sortOf, isOfGroup}
 use Rattle.account.specs.Judge.{WholeRecord, versionOf, kindByte, first}
 use Rattle.account.specs.Line.{joined}
 use Rattle.book.specs.Front.{whole, need}
@@ -22,9 +22,9 @@ use Rattle.book.proofs.WholeRecords.{records-whole}
 use Rattle.salvage.specs.declared.Reading.{Reading}
 use Rattle.salvage.specs.declared.Lengths.{Lengths}
 use Rattle.salvage.specs.declared.Salvaged.the-variants.{Saved}
-use Rattle.salvage.specs.Salvage.{wouldGet, oneOf, ofGroupKind, drops, droppedBy, after, start, Found, found, bookOf, salvageOf, foundIn}
+use Rattle.salvage.specs.Salvage.{wouldGet, oneOf, drops, droppedBy, after, start, Found, found, bookOf, salvageOf, foundIn}
 use Rattle.salvage.specs.Promised.{readBy, unlisted, Under, underHeadings, details}
-use Rattle.salvage.proofs.GroupKinds.{row-eight}
+use Rattle.salvage.proofs.KindRows.{row-eight}
 use Rattle.salvage.proofs.OneTurn.{by-records}
 use Rattle.salvage.proofs.Closes.{close-kind}
 use Rattle.salvage.proofs.SalvagedAccepted.{AllWhole, all-whole, record-front, saved-so}
@@ -33,7 +33,7 @@ use Rattle.salvage.proofs.KeptOrListed.{From, from-less, unlisted-kept,
 -- ---- the heading of a kept detail
 
 -- a kept detail does not stand under a dropped heading
-none-lost : (c k : ℕ) (lost : Bool) → first (drops c k lost) ≡ 0 → ofGroupKind k ≡ true → lost ≡ false
+none-lost : (c k : ℕ) (lost : Bool) → first (drops c k lost) ≡ 0 → isOfGroup k ≡ true → lost ≡ false
 unfolding first
 none-lost c k lost e d = go lost (oneOf 2 4 c) refl (oneOf 6 11 c) (rw d at e)
   where
@@ -42,7 +42,7 @@ none-lost c k lost e d = go lost (oneOf 2 4 c) refl (oneOf 6 11 c) (rw d at e)
     go true true p b″ e = let h = leb-true 2 c (and-l (leb 2 c) (leb c 4) p) in absurd (omega arith)
     go true false p b″ e = absurd (omega arith)
 
-not-lost : (s : Reading) (r : List ℕ) → droppedBy s r ≡ 0 → ofGroupKind (kindByte r) ≡ true → s .lost ≡ false
+not-lost : (s : Reading) (r : List ℕ) → droppedBy s r ≡ 0 → isOfGroup (kindByte r) ≡ true → s .lost ≡ false
 unfolding droppedBy
 not-lost s r = none-lost (wouldGet (s .account) r) (kindByte r) (s .lost)
 
@@ -71,7 +71,7 @@ module _ (s : Reading) (r : List ℕ) (rs : List (List ℕ)) (f : Found) (ih : K
         same = λ h h′ p.
             let others = underHeadings (pick (eqb (kindByte r) 2) r h) (take (readBy f) rs) in
             rw (m, unlisted-kept (record { detail = r; heading = h }) others (s .number) (f .dropped) (ih .from))
-            (same-details (ofGroupKind (kindByte r)) (record { detail = r; heading = h′ }) (record { detail = r; heading = h }) _ _
+            (same-details (isOfGroup (kindByte r)) (record { detail = r; heading = h′ }) (record { detail = r; heading = h }) _ _
             (λ k. ap (λ (x : List ℕ). record { detail = r; heading = x }) (sym (p (not-lost s r d k))))
             (ih .same (pick (eqb (kindByte r) 2) r h) (pick (eqb (kindByte r) 2) r h′) (next h h′ p (eqb (kindByte r) 2))));
       }
@@ -122,7 +122,7 @@ unfolding recordsOf recordsBy
 records-none = rw front-none
 
 -- a record behind them that is no detail adds none
-details-last : (rs : List (List ℕ)) (h c : List ℕ) → ofGroupKind (kindByte c) ≡ false
+details-last : (rs : List (List ℕ)) (h c : List ℕ) → isOfGroup (kindByte c) ≡ false
     → details (underHeadings h (rs ++ (c ∷ []))) ≡ details (underHeadings h rs)
 unfolding underHeadings details
 details-last [] h c e = rw e

@@ -11,11 +11,12 @@ use lib.Dec.{eqb}
 use lib.ListN.{length, take}
 use Rattle.base.specs.Choice.{pick}
 use Rattle.base.proofs.Tests.{and-l, and-r, or-left}
+use Rattle.account.specs.Sorts.{isOfGroup}
 use Rattle.account.specs.Account.{noRecord}
 use Rattle.account.specs.Judge.{kindByte, first}
 use Rattle.book.specs.WholeRecords.{recordsOf}
 use Rattle.salvage.specs.declared.Reading.{Reading}
-use Rattle.salvage.specs.Salvage.{wouldGet, oneOf, ofGroupKind, droppedBy, ends, after, start, Entry, Found, found, foundIn}
+use Rattle.salvage.specs.Salvage.{wouldGet, oneOf, droppedBy, ends, after, start, Entry, Found, found, foundIn}
 use Rattle.salvage.specs.Promised.{readBy, unlisted, Reason, Reasons}
 use Rattle.salvage.proofs.Fates.{kept-account, dropped-account}
 use Rattle.salvage.proofs.OneTurn.{by-records}
@@ -78,13 +79,13 @@ reason : (s : Reading) (r : List ℕ) → (droppedBy s r ≡ 0 → ⊥) → Reas
 unfolding droppedBy first
 reason s r n =
     let c = wouldGet (s .account) r in
-    go c (oneOf 2 4 c) refl (s .lost && ofGroupKind (kindByte r)) refl (oneOf 6 11 c) refl n
+    go c (oneOf 2 4 c) refl (s .lost && isOfGroup (kindByte r)) refl (oneOf 6 11 c) refl n
   where
-    go : (c : ℕ) (b : Bool) → oneOf 2 4 c ≡ b → (b′ : Bool) → s .lost && ofGroupKind (kindByte r) ≡ b′ → (b″ : Bool) → oneOf 6 11 c ≡ b″
+    go : (c : ℕ) (b : Bool) → oneOf 2 4 c ≡ b → (b′ : Bool) → s .lost && isOfGroup (kindByte r) ≡ b′ → (b″ : Bool) → oneOf 6 11 c ≡ b″
         → (pick b c (pick b′ 6 (pick b″ c 0)) ≡ 0 → ⊥)
         → ((c ≡ pick b c (pick b′ 6 (pick b″ c 0)))
         × (oneOf 2 4 (pick b c (pick b′ 6 (pick b″ c 0))) || oneOf 6 11 (pick b c (pick b′ 6 (pick b″ c 0))) ≡ true))
-        ⊎ ((pick b c (pick b′ 6 (pick b″ c 0)) ≡ 6) × (s .lost ≡ true) × (ofGroupKind (kindByte r) ≡ true))
+        ⊎ ((pick b c (pick b′ 6 (pick b″ c 0)) ≡ 6) × (s .lost ≡ true) × (isOfGroup (kindByte r) ≡ true))
     go c true p b′ p′ b″ p″ n = inl (refl, rw p)
     go c false p true p′ b″ p″ n = inr (refl, and-l (s .lost) _ p′, and-r (s .lost) _ p′)
     go c false p false p′ true p″ n = inl (refl, or-left (oneOf 2 4 c) _ (λ z. p″))

@@ -1,4 +1,4 @@
-pub mod GroupKinds
+pub mod KindRows
 pub mod Fates
 pub mod OneTurn
 pub mod OnePass

@@ -11,16 +11,13 @@ use lib.ListN.{take, drop}
 use lib.Dec.{leb, eqb}
 use Rattle.base.specs.Choice.{pick}
 use Rattle.base.proofs.Tests.{or-left, or-right, lt-or-ge}
-use Rattle.line_bytes.specs.Lines.{linesMost}
 use Rattle.account.specs.declared.Account.{Account}
-use Rattle.account.specs.declared.Judged.{Judged}
-use Rattle.account.specs.Judge.{Step, kindByte, first, judge}
-use Rattle.account.specs.Told.{TellsIn}
-use Rattle.account.proofs.Told.{tells-fit, lines-short}
-use Rattle.book.specs.Front.{Front, unfinished, badLength, whole, front}
+use Rattle.account.specs.Judge.{kindByte, first, judge}
+use Rattle.book.specs.Front.{whole, front}
 use Rattle.book.proofs.Fronts.{meaning}
-use Rattle.book.specs.WholeRecords.{recordsBy, recordsOf}
+use Rattle.book.specs.WholeRecords.{recordsOf}
 use Rattle.book.proofs.WholeRecords.{records-whole}
+use Rattle.book.proofs.Walks.{records-none}
 use Rattle.salvage.specs.declared.Reading.{Reading}
 use Rattle.salvage.specs.declared.turns.Turn.{Turn}
 use Rattle.book.specs.WholeRecords.{Ready}
@@ -30,15 +27,11 @@ use Rattle.salvage.proofs.Fates.{code-is, open-after, records-after}
 
 -- ---- the number and the reading behind a record, as they are computed
 
--- any record's lines fit in linesMost bytes
-pub told-account : {a : Account} {s : Step} {j : Judged} → TellsIn linesMost a s j → j .account ≡ s .account
-told-account t = tells-fit t (lines-short t) .account
-
 module _ (s : Reading) (r : List ℕ) (code kind : ℕ) (k : kind ≡ kindByte r) where
-  pub code-told : (j : Judged) → Open s → TellsIn linesMost (s .account) (judge (s .account) r) j
-      → code ≡ first (drops (j .account .refusal .code) kind (s .lost)) → code ≡ droppedBy s r
+  pub code-told : (b : Account) → Open s → b ≡ judge (s .account) r .account
+      → code ≡ first (drops (b .refusal .code) kind (s .lost)) → code ≡ droppedBy s r
   unfolding droppedBy
-  code-told j o t e = e ∙ rw (told-account t, code-is (s .account) r (o .range) (o .early), k)
+  code-told b o t e = e ∙ rw (t, code-is (s .account) r (o .range) (o .early), k)
 
   module _ (d : code ≡ droppedBy s r) where
     pub close-ends : eqb kind 8 && eqb code 0 ≡ true → ends s r ≡ true
@@ -90,15 +83,6 @@ by-records P ended kept dropped s (r ∷ rs) = go (ends s r) refl (by-records P 
     go false e ih = behind e (eqb (droppedBy s r) 0) refl ih
 
 -- ---- the same over bytes
-
-pub records-none : (xs : List ℕ) → (front xs ≡ whole → ⊥) → recordsOf xs ≡ []
-unfolding recordsOf recordsBy
-records-none xs n = go (front xs) refl
-  where
-    go : (f : Front) → front xs ≡ f → recordsOf xs ≡ []
-    go unfinished e = rw e
-    go badLength e = rw e
-    go whole e = absurd (n e)
 
 pub none-found : (s : Reading) (xs : List ℕ) → (front xs ≡ whole → ⊥) → foundIn s xs ≡ nothing
 unfolding found

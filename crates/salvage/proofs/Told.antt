@@ -21,6 +21,7 @@ use Rattle.names.specs.Names.{sentenceTable, sentence}
 use Rattle.codec.specs.Table.{table, size}
 use Rattle.codec.specs.Codec.{bytesHold, valAt, be, bytesOf, recordBytes, Bytes}
 use Rattle.codec.proofs.BigEndian.{valAt-lt, valAt-be, be-length}
+use Rattle.account.specs.Sorts.{isOfGroup}
 use Rattle.account.specs.declared.Account.{Account}
 use Rattle.account.specs.Judge.{kindByte, first}
 use Rattle.account.specs.Line.{joined}
@@ -31,7 +32,7 @@ use Rattle.book.proofs.Fronts.{meaning}
 use Rattle.salvage.specs.declared.Reading.{Reading}
 use Rattle.salvage.specs.declared.Lengths.{Lengths}
 use Rattle.salvage.specs.declared.Salvaged.the-variants.{Saved}
-use Rattle.salvage.specs.Salvage.{oneOf, ofGroupKind, wouldGet, drops, droppedBy, start, Entry, found, foundIn}
+use Rattle.salvage.specs.Salvage.{oneOf, wouldGet, drops, droppedBy, start, Entry, found, foundIn}
 use Rattle.salvage.specs.Salvage.{entryBytes, listOf, salvageOf}
 use Rattle.salvage.specs.Remarks.{droppedText, listTextBy, listText, entriesText, keptIn, savedText, endText}
 use Rattle.salvage.proofs.Fates.{few, kept-records, dropped-account}
@@ -57,7 +58,7 @@ drops-most : (c k : ℕ) (lost : Bool) → c ≤ 12 → first (drops c k lost) <
 unfolding first
 drops-most c k lost h =
     of-choice (λ (n : ℕ). n < 256) (oneOf 2 4 c) (λ e. omega arith)
-    (λ e. of-choice (λ (n : ℕ). n < 256) (lost && ofGroupKind k) (λ e. omega arith)
+    (λ e. of-choice (λ (n : ℕ). n < 256) (lost && isOfGroup k) (λ e. omega arith)
     (λ e. of-choice (λ (n : ℕ). n < 256) (oneOf 6 11 c) (λ e. omega arith) (λ e. omega arith)))
 
 dropped-most : (s : Reading) (r : List ℕ) → droppedBy s r < 256

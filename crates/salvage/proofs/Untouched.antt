@@ -33,7 +33,7 @@ use Rattle.salvage.specs.declared.Reading.{Reading}
 use Rattle.salvage.specs.Salvage.{Found, nothing, with, wouldGet, droppedBy, ends, after, start, bookOf, listOf, farmAmong, saving}
 use Rattle.salvage.specs.Salvage.{answering, salvageOf, foundIn}
 use Rattle.salvage.specs.Inner.{Open, bookFrom}
-use Rattle.salvage.proofs.GroupKinds.{row-eight, eight-row}
+use Rattle.salvage.proofs.KindRows.{row-eight, eight-row}
 use Rattle.salvage.proofs.Fates.{grows, refuses, closes-book, below-4096, first-farm, right-count, right-version, right-size, right-kept}
 use Rattle.salvage.proofs.Fates.{open-after, records-after}
 use Rattle.salvage.proofs.OneTurn.{found-ends, found-goes}

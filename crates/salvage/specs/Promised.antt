@@ -8,9 +8,10 @@ use mathlib.Core.Logic.{_⊎_}
 use lib.ListN.{length}
 use lib.Dec.{eqb}
 use Rattle.base.specs.Choice.{pick}
+use Rattle.account.specs.Sorts.{isOfGroup}
 use Rattle.account.specs.declared.Account.{Account}
 use Rattle.account.specs.Judge.{kindByte, judge}
-use Rattle.salvage.specs.Salvage.{wouldGet, oneOf, ofGroupKind, Entry, Found}
+use Rattle.salvage.specs.Salvage.{wouldGet, oneOf, Entry, Found}
 
 -- ---- kept or listed
 
@@ -28,7 +29,7 @@ unlisted (e ∷ es) n (x ∷ xs) = pick (eqb (e .number) n) (unlisted es (n + 1)
 -- a record of kind byte 3, 4, 5 or 10, and the last record of kind byte 2 before it is listed
 abbrev pub Reason : Account → Bool → List ℕ → ℕ → Type 0
 Reason a lost r c =
-    ((wouldGet a r ≡ c) × (oneOf 2 4 c || oneOf 6 11 c ≡ true)) ⊎ ((c ≡ 6) × (lost ≡ true) × (ofGroupKind (kindByte r) ≡ true))
+    ((wouldGet a r ≡ c) × (oneOf 2 4 c || oneOf 6 11 c ≡ true)) ⊎ ((c ≡ 6) × (lost ≡ true) × (isOfGroup (kindByte r) ≡ true))
 
 -- each entry of the list has its reason: the records rs, numbered from n, are gone through; one that is listed has a reason, any other is
 -- accepted into the account; lost: the last record of kind byte 2 is listed. A number with no record has none.
@@ -54,4 +55,4 @@ underHeadings h (r ∷ rs) = record { detail = r; heading = h } ∷ underHeading
 -- those of kinds 3 to 5 and 10
 unfoldable pub details : List Under → List Under
 details [] = []
-details (u ∷ us) = pick (ofGroupKind (kindByte (u .detail))) (u ∷ details us) (details us)
+details (u ∷ us) = pick (isOfGroup (kindByte (u .detail))) (u ∷ details us) (details us)

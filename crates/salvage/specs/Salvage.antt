@@ -9,7 +9,7 @@ use lib.Dec.{ltb, leb, eqb}
 use Rattle.base.specs.Choice.{pick}
 use Rattle.codec.specs.Codec.{be, recordBytes}
 use Rattle.account.specs.declared.Account.{Account}
-use Rattle.account.specs.Sorts.{sortOf, bySort}
+use Rattle.account.specs.Sorts.{isOfGroup}
 use Rattle.account.specs.Account.{noRecord}
 use Rattle.account.specs.Judge.{kindByte, first, refusals, judge}
 use Rattle.account.specs.Line.{joined}
@@ -28,18 +28,14 @@ wouldGet a r = first (refusals a r)
 abbrev pub oneOf : ℕ → ℕ → ℕ → Bool
 oneOf lowest highest n = leb lowest n && leb n highest
 
--- "kind 3, 4 and 5", and kind 10 (W10: "It needs a cattle heading, with which W5 drops it."): the kinds that are details of a group
-abbrev pub ofGroupKind : ℕ → Bool
-ofGroupKind k = bySort (sortOf k) false false true false false
-
 -- why a record of kind byte k that would get the number c is dropped, in the order it is tried; lost: the last record of kind byte 2 was dropped
 abbrev pub drops : ℕ → ℕ → Bool → List (Bool × ℕ)
 drops c k lost =
     -- "A record that would get any of 2 to 4 .."
     (oneOf 2 4 c, c)
     -- "If a record of kind byte 2 is dropped, so is every kind 3, 4 and 5 record up to the next kept heading, listed with 6 unless 2 to 4 comes
-    -- first."
-    ∷ (lost && ofGroupKind k, 6)
+    -- first.", and kind 10 (W10: "It needs a cattle heading, with which W5 drops it."): the details of a group
+    ∷ (lost && isOfGroup k, 6)
     -- ".. or 6 to 11, read after the kept ones, is dropped."
     ∷ (oneOf 6 11 c, c)
     ∷ []

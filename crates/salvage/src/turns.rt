@@ -1,30 +1,26 @@
 // One record of a damaged book: it is kept, it is dropped, or the reading ends before it.
 use crate::Reading;
+use account::sort::is_of_group;
 use base::first_of;
-use book::front::ready;
-use line_bytes::LINES_MOST;
-use rules::judge;
+use book::walk::next_alone;
 ghost use mathlib.Core.Path.{_≡_};
 ghost use mathlib.Core.Bool.{not};
 ghost use Prim.Native.Nat.{_<_};
 ghost use lib.Dec.{eqb};
 ghost use Rattle.base.specs.Choice.{pick};
+ghost use Rattle.account.specs.Sorts.{isOfGroup};
 ghost use Rattle.account.specs.Judge.{first};
-ghost use Rattle.salvage.specs.Salvage.{ofGroupKind, drops};
+ghost use Rattle.salvage.specs.Salvage.{drops};
 ghost use Rattle.salvage.specs.Inner.{Open, Turned};
+
+// So many kept records end the reading: with its close a clean book has as many as a book can have.
+const KEPT_MOST: u16 = 4095;
 
 // What becomes of one record: its bytes, the number that drops it (0 where it is kept), and the reading behind it. No bytes: the reading ends.
 pub(crate) struct Turn {
     pub n: usize,
     pub code: u8,
     pub next: Reading,
-}
-
-// A detail of the group, by the kind byte.
-fn of_group(kind: u8) -> bool
-    ensures { λ r. ⌜ r ≡ ofGroupKind kind ⌝ }
-{
-    ((3 <= kind) & (kind <= 5)) | (kind == 10)
 }
 
 // The number that drops a record of a kind byte that would get a code; 0 where it is not dropped.
@@ -34,7 +30,7 @@ fn dropped_by(code: u8, kind: u8, lost: bool) -> u8
     if (2 <= code) & (code <= 4) {
         return code;
     }
-    if lost & of_group(kind) {
+    if lost & is_of_group(kind as u64) {
         return 6;
     }
     if (6 <= code) & (code <= 11) {
@@ -68,14 +64,14 @@ impl Reading {
         ensures { λ t. ⌜ Turned self (now (xs .entry)) t ⌝ }
     {
         let a = self.account;
-        let n = ready(xs);
-        if (n == 0) | (4095 <= a.records) {
+        let t = next_alone(a, xs);
+        let n = t.size;
+        if (n == 0) | (KEPT_MOST <= a.records) {
             return self.ended();
         }
         let r = first_of(xs, n);
         let kind = r[3];
-        let j = judge(a, r, LINES_MOST);
-        let after = j.account;
+        let after = t.account;
         let code = dropped_by(after.refusal.code, kind, self.lost);
         if (kind == 8) & (code == 0) {
             return self.ended();

@@ -12,9 +12,10 @@ use Rattle.codec.specs.Codec.{bytesHold}
 use Rattle.printing.specs.Decimal.{decimal}
 use Rattle.printing.proofs.Digits.{signed-small, signed-below}
 use Rattle.sheet.specs.declared.rows.Column.{Column}
-use Rattle.sheet.specs.Numbers.{half, full, signedText, first, Number, positive, unsigned, Cell, unsignedCell}
+use Rattle.sheet.specs.Numbers.{half, full, first, Number, positive, unsigned, Cell, unsignedCell}
 use Rattle.sheet.specs.Numbers.{signedCell}
-use Rattle.sheet.specs.Rows.{ending, cellText, startsWith, readCell, readColumn}
+use Rattle.sheet.specs.Rows.{columnEnd, startsWith, readCell, readColumn}
+use Rattle.sheet.proofs.AsColumns.{signedText, cellText}
 use Rattle.base.proofs.Tests.{of-choice, by-test, no-bool, and-l, and-r}
 use Rattle.sheet.proofs.Numerals.{front, positive-above, positive-text, positive-back, unsigned-first, unsigned-text, unsigned-back}
 
@@ -122,16 +123,16 @@ unfolding startsWith
 starts-back [] q = refl
 starts-back (x ∷ e) q = rw (eq-eqb x x refl) (starts-back e q)
 
-ending-first : (l : Bool) (q : List ℕ) → first (ending l ++ q) < 48
+ending-first : (l : Bool) (q : List ℕ) → first (columnEnd l ++ q) < 48
 ending-first true q = omega arith
 ending-first false q = omega arith
 
 module _ (c : Column) (o : Sound c) where
   pub column-reads : (s : List ℕ) → readColumn c s .good ≡ true → readColumn c s .fits ≡ true
-      → Reads s (readColumn c s) (λ v. cellText c v ++ ending (c .last)) (bytesHold (c .width))
+      → Reads s (readColumn c s) (λ v. cellText c v ++ columnEnd (c .last)) (bytesHold (c .width))
   column-reads s g f =
       let k = readCell c s in
-      let e = ending (c .last) in
+      let e = columnEnd (c .last) in
       let r = cell-reads c s o f in
       let behind : k .rest ≡ e ++ drop (length e) (k .rest) = starts-text e (k .rest) (and-r (k .good) _ g) in
       record {
@@ -140,7 +141,7 @@ module _ (c : Column) (o : Sound c) where
         small = r .small;
       }
 
-  pub column-back : (v : ℕ) (q : List ℕ) → v < bytesHold (c .width) → readColumn c (cellText c v ++ (ending (c .last) ++ q)) ≡ right v q
+  pub column-back : (v : ℕ) (q : List ℕ) → v < bytesHold (c .width) → readColumn c (cellText c v ++ (columnEnd (c .last) ++ q)) ≡ right v q
   column-back v q h =
-      let e = ending (c .last) in
+      let e = columnEnd (c .last) in
       rw (cell-back c v (e ++ q) o h (ending-first (c .last) q), starts-back e q, drop-append-seam e q)

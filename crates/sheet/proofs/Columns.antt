@@ -11,7 +11,8 @@ use Rattle.codec.specs.Codec.{Bytes}
 use Rattle.codec.proofs.BigEndian.{valAt-lt, be-length, valAt-be, be-valAt}
 use Rattle.sheet.specs.declared.rows.Column.{Column}
 use Rattle.sheet.specs.Numbers.{Cell}
-use Rattle.sheet.specs.Rows.{bytes, values, ending, cellText, rowText, readColumn, Row, andThen, readRow}
+use Rattle.sheet.specs.Rows.{columnEnd, readColumn, Row, andThen, readRow}
+use Rattle.sheet.proofs.AsColumns.{bytes, values, cellText, rowText}
 use Rattle.base.proofs.Tests.{and-l, and-r}
 use Rattle.sheet.proofs.Cells.{right, Sound, column-reads, column-back}
 
@@ -90,7 +91,7 @@ row-reads (c ∷ cs) s o g f =
     let one = column-reads c (o .0) s (and-l _ _ g) (and-l _ _ f) in
     let all = row-reads cs (k .rest) (o .1) (and-r (k .good) _ g) (and-r (k .fits) _ f) in
     let t = cellText c (k .value) in
-    let e = ending (c .last) in
+    let e = columnEnd (c .last) in
     let u = rowText cs (r .values) in
     record {
       text = one .text ∙ ap (λ (l : List ℕ). (t ++ e) ++ l) (all .text) ∙ simp append-assoc;
@@ -107,7 +108,7 @@ row-back [] (v ∷ vs) q o i e = absurd (omega arith)
 row-back (c ∷ cs) [] q o i e = absurd (omega arith)
 row-back (c ∷ cs) (v ∷ vs) q o i e =
     let t = cellText c v in
-    let d = ending (c .last) in
+    let d = columnEnd (c .last) in
     let u = rowText cs vs in
     let a : (t ++ (d ++ u)) ++ q ≡ t ++ (d ++ (u ++ q)) = simp append-assoc in
     ap (readRow (c ∷ cs)) a

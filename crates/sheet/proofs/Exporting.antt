@@ -1,7 +1,6 @@
 -- Lines written as rows: what the code finds of each line, and how the rows go on behind each other.
 use Prim.Native.Nat.{ℕ, suc, _+_, _<_, _≤_}
 use native.Mathlib.Omega.{arith}
-use native.Mathlib.Nat.{zero-add}
 use mathlib.Core.Bool.{true, false}
 use mathlib.Core.Path.{_≡_, refl, ap, _∙_}
 use mathlib.Core.List.{List, _++_}
@@ -13,20 +12,27 @@ use Rattle.printing.proofs.Puts.{and-then}
 use Rattle.sheet.specs.declared.Answer.{Answer}
 use Rattle.sheet.specs.declared.Answer.the-variants.{Refused}
 use Rattle.sheet.specs.declared.lines.Total.{Total}
-use Rattle.sheet.specs.Rows.{columns, lengthOf, values, kindAt, isLine, rowText, lineRow}
-use Rattle.sheet.specs.Sheets.{Item, item, wrong, Made, made, refused, before, each, lineItem, header, noRow, rowsOf, exportOf, answer}
+use Rattle.line_bytes.specs.Lines.{lineSize, totalSize, isTotal, frontSize, isLine}
+use Rattle.line_rows.specs.declared.Form.the-variants.{Sheet}
+use Rattle.line_rows.specs.Rows.{lineRow, header}
+use Rattle.line_rows.proofs.Texts.{size-least}
+use Rattle.sheet.specs.Sheets.{Item, item, wrong, Made, made, refused, before, each, lineItem, noRow, rowsOf, exportOf, answer}
 use Rattle.sheet.specs.Code.{totalOf, answerAfter, madeOf}
 use Rattle.sheet.proofs.Runs.{not-made}
 use Rattle.sheet.proofs.RoundTrip.{other, is-line}
-use Rattle.sheet.proofs.Fields.{length-least}
 use Rattle.sheet.proofs.Plans.{sized, Planned, plan-wrong, plan-more, Promised}
 use Rattle.sheet.proofs.Writing.{Run, writes-all}
 
 -- ---- one line
 
-pub row-of : (s : List ℕ) (k : ℕ) (vs : List ℕ) → k ≡ kindAt s → vs ≡ values (columns k) (drop 3 s) → rowText (columns k) vs ≡ lineRow s
-unfolding lineRow
-row-of s k vs e f = rw (f, e)
+pub front-there : (s : List ℕ) → isLine s ≡ true → frontSize s ≤ length s
+front-there s e = is-line s e .long
+
+pub long-enough : (s : List ℕ) → isLine s ≡ true → lineSize ≤ length s
+long-enough s e = omega (arith, front-there s e, size-least s)
+
+pub front-most : (s : List ℕ) → frontSize s ≤ totalSize
+front-most s = of-choice (λ (n : ℕ). n ≤ totalSize) (isTotal s) (λ e. omega arith) (λ e. omega arith)
 
 pub no-line : (s : List ℕ) → isLine s ≡ false → lineItem s ≡ wrong 23
 unfolding lineItem
@@ -35,8 +41,8 @@ no-line s e = rw e
 -- what a line is, where it is one
 pub record Is (s p r : List ℕ) : Type 0 where
   pub line : isLine s ≡ true
-  pub row : lineRow s ≡ p
-  pub rest : drop (2 + lengthOf (kindAt s)) s ≡ r
+  pub row : lineRow Sheet s ≡ p
+  pub rest : drop (frontSize s) s ≡ r
 
 pub line-is : (s p r : List ℕ) → lineItem s ≡ item p r → Is s p r
 unfolding lineItem
@@ -46,18 +52,18 @@ line-is s p r =
     (λ f e. other e)
 
 -- the line that the lines go on with at index i, of n bytes
-module _ (lines : List ℕ) (i : ℕ) (s : List ℕ) (n : ℕ) (e : s ≡ drop i lines) (t : isLine s ≡ true) (o : n ≡ 2 + lengthOf (kindAt s)) where
-  pub line-next : lineItem (drop i lines) ≡ item (lineRow s) (drop (i + n) lines)
+module _ (lines : List ℕ) (i : ℕ) (s : List ℕ) (n : ℕ) (e : s ≡ drop i lines) (t : isLine s ≡ true) (o : n ≡ frontSize s) where
+  pub line-next : lineItem (drop i lines) ≡ item (lineRow Sheet s) (drop (i + n) lines)
   unfolding lineItem
   line-next =
-      let d : drop (2 + lengthOf (kindAt s)) s ≡ drop (i + n) lines = rw (← o) (ap (drop n) e ∙ drop-drop n i lines) in
+      let d : drop (frontSize s) s ≡ drop (i + n) lines = rw (← o) (ap (drop n) e ∙ drop-drop n i lines) in
       rw (← e, t, d)
 
   pub line-ahead : i ≤ length lines → i + n ≤ length lines
   line-ahead h = omega (arith, is-line s t .long, o, ap length e, length-drop i lines)
 
   pub line-more : i < i + n
-  line-more = omega (arith, o, length-least (kindAt s))
+  line-more = omega (arith, o, size-least s)
 
 -- ---- the answer
 
@@ -92,33 +98,28 @@ module _ (lines : List ℕ) (i : ℕ) {whole : Answer} {room : ℕ} {total : Tot
   pub going-wrong : (s : List ℕ) → s ≡ drop i lines → isLine s ≡ false → whole ≡ Refused 23 0
   going-wrong s e f = plan-wrong (g .plan) 23 some (rw (← e) (no-line s f))
 
-  pub going-on : (s : List ℕ) (n size : ℕ) (t : Total) → s ≡ drop i lines → isLine s ≡ true → n ≡ 2 + lengthOf (kindAt s) → size ≡ length (lineRow s)
+  pub going-on : (s : List ℕ) (n size : ℕ) (t : Total) → s ≡ drop i lines → isLine s ≡ true → n ≡ frontSize s → size ≡ length (lineRow Sheet s)
       → ((k : ℕ) → total ≡ totalOf room k → t ≡ totalOf room (k + size)) → Going whole room t (drop (i + n) lines)
   going-on s n size t e l o z add =
       let p = g .plan in
       let ahead = line-ahead lines i s n e l o (omega arith) in
       let fewer : length (drop (i + n) lines) < length (drop i lines) = omega
       (arith, length-drop i lines, length-drop (i + n) lines, line-more lines i s n e l o) in
-      let sum : t ≡ totalOf room (p .sum + length (lineRow s)) = add (p .sum) (p .holds) ∙ ap (λ (m : ℕ). totalOf room (p .sum + m)) z in
+      let sum : t ≡ totalOf room (p .sum + length (lineRow Sheet s)) = add (p .sum) (p .holds) ∙ ap (λ (m : ℕ). totalOf room (p .sum + m)) z in
       record {
         row = g .row + 1;
-        plan = plan-more p (lineRow s) (drop (i + n) lines) t (g .row + 1) some
+        plan = plan-more p (lineRow Sheet s) (drop (i + n) lines) t (g .row + 1) some
             (line-next lines i s n e l o) fewer sum refl;
       }
 
--- nothing, or the header, comes before the rows
-pub after-none : (m : Made) (room : ℕ) → answerAfter 0 m room ≡ answer m room
+-- the header comes before the rows
+header-after : (m : Made) (room : ℕ) → answerAfter (length (header Sheet)) m room ≡ answer (before (header Sheet) m) room
 unfolding answer
-after-none (made t) room = rw (zero-add (length t))
-after-none (refused c r) room = refl
-
-header-after : (m : Made) (room : ℕ) → answerAfter (length header) m room ≡ answer (before header m) room
-unfolding answer
-header-after (made t) room = rw (length-append header t)
+header-after (made t) room = rw (length-append (header Sheet) t)
 header-after (refused c r) room = refl
 
-pub after-header : (lines : List ℕ) (room : ℕ) → answerAfter 51 (rowsOf lines) room ≡ answer (exportOf lines) room
-unfolding exportOf header
+pub after-header : (lines : List ℕ) (room : ℕ) → answerAfter (length (header Sheet)) (rowsOf lines) room ≡ answer (exportOf lines) room
+unfolding exportOf
 after-header lines room = header-after (rowsOf lines) room
 
 -- ---- the rows
@@ -136,7 +137,7 @@ rows-start lines out from e h =
 
 -- ---- the header and the rows
 
-before-all : (m : Made) → before header m ≡ made (madeOf (before header m)) → m ≡ made (madeOf m)
+before-all : (m : Made) → before (header Sheet) m ≡ made (madeOf (before (header Sheet) m)) → m ≡ made (madeOf m)
 before-all (made t) e = refl
 before-all (refused c r) e = not-made e
 
@@ -149,14 +150,13 @@ module _ (lines : List ℕ) (room : ℕ) (p : Promised (exportOf lines) room) wh
   unfolding exportOf
   rows-all = before-all (rowsOf lines) (p .all)
 
-  whole : madeOf (exportOf lines) ≡ header ++ madeOf (rowsOf lines)
+  whole : madeOf (exportOf lines) ≡ header Sheet ++ madeOf (rowsOf lines)
   unfolding exportOf
-  whole = before-made header (rowsOf lines) rows-all
+  whole = before-made (header Sheet) (rowsOf lines) rows-all
 
-  pub rows-fit : 51 + length (madeOf (rowsOf lines)) ≤ room
-  unfolding header
-  rows-fit = omega (arith, p .fits, ap length whole, length-append header (madeOf (rowsOf lines)))
+  pub rows-fit : length (header Sheet) + length (madeOf (rowsOf lines)) ≤ room
+  rows-fit = omega (arith, p .fits, ap length whole, length-append (header Sheet) (madeOf (rowsOf lines)))
 
-  pub sheet-put : {xs ys zs : List ℕ} {q r : ℕ} → Put xs ys 0 header q → Put ys zs q (madeOf (rowsOf lines)) r
+  pub sheet-put : {xs ys zs : List ℕ} {q r : ℕ} → Put xs ys 0 (header Sheet) q → Put ys zs q (madeOf (rowsOf lines)) r
       → Put xs zs 0 (madeOf (exportOf lines)) r
   sheet-put a b = rw whole (and-then a b)

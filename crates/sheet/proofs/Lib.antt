@@ -1,3 +1,5 @@
+pub mod AsColumns
+pub mod ByFields
 pub mod Numerals
 pub mod Cells
 pub mod Columns
@@ -8,9 +10,7 @@ pub mod Reading
 pub mod Plans
 pub mod Items
 pub mod Writing
-pub mod Fields
 pub mod Exporting
 pub mod Refusals
-pub mod CodecLines
 pub mod OneAnswer
 pub mod Examples

@@ -3,19 +3,21 @@ use Prim.Native.Nat.{ℕ, zero, suc, _+_, _-_, _<_, _≤_}
 use native.Mathlib.Omega.{arith}
 use native.Mathlib.Numerals.{add-one}
 use native.Mathlib.Nat.{zero-add}
-use mathlib.Core.Bool.{true, false}
+use mathlib.Core.Bool.{Bool, true, false}
 use mathlib.Core.Path.{_≡_, refl, sym, ap, _∙_}
 use mathlib.Core.List.{List, [], _++_}
 use lib.ListN.{length, drop, length-append}
 use lib.Dec.{leb, ltb}
 use borrow.Author.Tests.{leb-true, ltb-true, ltb-false, lt-ltb, le-ltb, le-leb, lt-leb}
 use Rattle.base.specs.Choice.{pick}
+use Rattle.line_rows.specs.declared.Form.the-variants.{Sheet}
+use Rattle.line_rows.specs.Rows.{rowMost, header}
 use Rattle.printing.specs.Decimal.{Put}
 use Rattle.sheet.specs.declared.Answer.{Answer}
 use Rattle.sheet.specs.declared.Answer.the-variants.{Written, Refused}
 use Rattle.sheet.specs.declared.lines.Total.{Total}
 use Rattle.sheet.specs.Rows.{startsWith}
-use Rattle.sheet.specs.Sheets.{Item, item, wrong, Made, made, refused, before, goesOn, eachBy, each, header, rowItem, importOf, answer, buffer}
+use Rattle.sheet.specs.Sheets.{Item, item, wrong, Made, made, refused, before, goesOn, eachBy, each, rowItem, importOf, answer, buffer}
 use Rattle.sheet.specs.Code.{totalOf, madeOf}
 use Rattle.base.proofs.Tests.{of-choice, by-test}
 use Rattle.sheet.proofs.Cells.{starts-text}
@@ -160,17 +162,51 @@ module _ (m : Made) (out ys : List ℕ) (q : ℕ) (p : Promised m (length out)) 
 
 -- ---- a text with its header
 
-pub no-header : (text : List ℕ) → startsWith header text ≡ false → importOf text ≡ refused 20 1
-unfolding importOf
-no-header text e = rw e
-
-pub behind-header : (text : List ℕ) → startsWith header text ≡ true → importOf text ≡ each rowItem 2 (drop 51 text)
-unfolding importOf header
-behind-header text e = rw e
-
 starts-long : (e s : List ℕ) → startsWith e s ≡ true → length e ≤ length s
 starts-long e s h = omega (arith, ap length (starts-text e s h), length-append e (drop (length e) s))
 
-pub header-long : (text : List ℕ) → startsWith header text ≡ true → 51 ≤ length text
+header-some : 2 ≤ length (header Sheet)
 unfolding header
-header-long text e = starts-long header text e
+header-some = omega arith
+
+pub header-fits : length (header Sheet) ≤ rowMost
+unfolding header
+header-fits = omega arith
+
+-- whether the text begins with it
+module _ (text word : List ℕ) where
+  begins-with : (b : Bool) → word ≡ header Sheet → b ≡ startsWith word text → b ≡ startsWith (header Sheet) text
+  begins-with b e s = s ∙ ap (λ (w : List ℕ). startsWith w text) e
+
+  pub header-there : (n : ℕ) (b : Bool) → word ≡ header Sheet → b ≡ startsWith word text → b ≡ true → n ≡ length (header Sheet)
+      → n ≡ pick (startsWith (header Sheet) text) (length (header Sheet)) 0
+  header-there n b e s t l = let x : startsWith (header Sheet) text ≡ true = sym (begins-with b e s) ∙ t in l ∙ rw x refl
+
+  pub header-missing : (b : Bool) → word ≡ header Sheet → b ≡ startsWith word text → b ≡ false
+      → 0 ≡ pick (startsWith (header Sheet) text) (length (header Sheet)) 0
+  header-missing b e s f = let x : startsWith (header Sheet) text ≡ false = sym (begins-with b e s) ∙ f in rw x refl
+
+-- the index after the header, or 0
+module _ (text : List ℕ) (from : ℕ) (e : from ≡ pick (startsWith (header Sheet) text) (length (header Sheet)) 0) where
+  begins : (from ≡ 0 → ⊥) → startsWith (header Sheet) text ≡ true
+  begins n = by-test (startsWith (header Sheet) text) (λ t. t) (λ f. absurd (n (e ∙ rw f refl)))
+
+  length-is : (from ≡ 0 → ⊥) → from ≡ length (header Sheet)
+  length-is n = e ∙ rw (begins n) refl
+
+  pub no-header : from ≡ 0 → importOf text ≡ refused 20 1
+  unfolding importOf
+  no-header z =
+      by-test (startsWith (header Sheet) text)
+      (λ t. let l : from ≡ length (header Sheet) = e ∙ rw t refl in absurd (omega (arith, header-some)))
+      (λ f. rw f)
+
+  pub after-header : (from ≡ 0 → ⊥) → importOf text ≡ each rowItem 2 (drop from text)
+  unfolding importOf
+  after-header n = rw (begins n, length-is n)
+
+  pub header-least : (from ≡ 0 → ⊥) → 2 ≤ from
+  header-least n = omega (arith, length-is n, header-some)
+
+  pub header-inside : (from ≡ 0 → ⊥) → from ≤ length text
+  header-inside n = omega (arith, length-is n, starts-long (header Sheet) text (begins n))

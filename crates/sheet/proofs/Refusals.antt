@@ -9,16 +9,20 @@ use lib.ListN.{length, drop, length-append, length-drop}
 use lib.Dec.{leb}
 use borrow.Author.Tests.{leb-false}
 use Rattle.base.proofs.Tests.{of-choice, by-test, and-l}
+use Rattle.line_bytes.specs.Lines.{frontSize, isLineKind, isLine}
+use Rattle.line_rows.specs.declared.Form.the-variants.{Sheet}
+use Rattle.line_rows.specs.Rows.{header}
+use Rattle.line_rows.proofs.Texts.{size-least}
 use Rattle.sheet.specs.declared.Answer.{Answer}
 use Rattle.sheet.specs.declared.Answer.the-variants.{Written, Refused}
-use Rattle.sheet.specs.Rows.{columns, isKind, lengthOf, kindAt, isLine, rowText, startsWith, kindIn, rowIn}
-use Rattle.sheet.specs.Sheets.{Item, item, wrong, Made, made, refused, before, goesOn, eachBy, each, lineItem, header, noRow, rowsOf, exportOf}
+use Rattle.sheet.specs.Rows.{columns, startsWith, kindIn, rowIn}
+use Rattle.sheet.specs.Sheets.{Item, item, wrong, Made, made, refused, before, goesOn, eachBy, each, lineItem, noRow, rowsOf, exportOf}
 use Rattle.sheet.specs.Sheets.{rowItem, importOf, answer, buffer}
 use Rattle.sheet.specs.Refusals.{isRight, past, Right, behind, FirstWrong, NoRoom}
+use Rattle.sheet.proofs.AsColumns.{rowText}
 use Rattle.sheet.proofs.Columns.{row-reads}
 use Rattle.sheet.proofs.Runs.{not-made}
 use Rattle.sheet.proofs.RoundTrip.{sounds, row-some, other, is-line}
-use Rattle.sheet.proofs.Fields.{length-least}
 
 -- ---- the first wrong item
 
@@ -69,18 +73,18 @@ module _ (f : List ℕ → Item) (shrinks : (s p r : List ℕ) → f s ≡ item 
 
 -- 20 before 21: a row with 20 is not of the form; one with 21 is, and a number of it is outside its field
 pub wrong-row : (s : List ℕ) (code : ℕ) → rowItem s ≡ wrong code
-    → ((code ≡ 20) × (rowIn s .good ≡ false)) ⊎ ((code ≡ 21) × (rowIn s .good ≡ true) × ((rowIn s .fits && isKind (kindIn s)) ≡ false))
+    → ((code ≡ 20) × (rowIn s .good ≡ false)) ⊎ ((code ≡ 21) × (rowIn s .good ≡ true) × ((rowIn s .fits && isLineKind (kindIn s)) ≡ false))
 unfolding rowItem
 wrong-row s code =
     of-choice
     (λ (x : Item). x ≡ wrong code → ((code ≡ 20) × (rowIn s .good ≡ false))
-    ⊎ ((code ≡ 21) × (rowIn s .good ≡ true) × ((rowIn s .fits && isKind (kindIn s)) ≡ false)))
+    ⊎ ((code ≡ 21) × (rowIn s .good ≡ true) × ((rowIn s .fits && isLineKind (kindIn s)) ≡ false)))
     (rowIn s .good)
     (λ g.
     of-choice
     (λ (x : Item). x ≡ wrong code → ((code ≡ 20) × (rowIn s .good ≡ false))
-    ⊎ ((code ≡ 21) × (rowIn s .good ≡ true) × ((rowIn s .fits && isKind (kindIn s)) ≡ false)))
-    (rowIn s .fits && isKind (kindIn s))
+    ⊎ ((code ≡ 21) × (rowIn s .good ≡ true) × ((rowIn s .fits && isLineKind (kindIn s)) ≡ false)))
+    (rowIn s .fits && isLineKind (kindIn s))
     (λ f e. other (sym e))
     (λ f e. inr (cc, g, f)))
     (λ g e. inl (cc, g))
@@ -92,7 +96,7 @@ row-shrinks s l r =
     let w = rowIn s in
     of-choice (λ (x : Item). x ≡ item l r → length r < length s) (w .good)
     (λ g.
-    of-choice (λ (x : Item). x ≡ item l r → length r < length s) (w .fits && isKind k)
+    of-choice (λ (x : Item). x ≡ item l r → length r < length s) (w .fits && isLineKind k)
     (λ f e.
     let o = row-reads (columns k) s (sounds k) g (and-l _ _ f) in
     let rest : w .rest ≡ r = cc in
@@ -104,15 +108,15 @@ row-shrinks s l r =
 
 -- a refused text has no header, or a first row that is wrong: the rows before it are right, and it has the row's number, the header's being 1
 pub import-refused : (text : List ℕ) (code row : ℕ) → importOf text ≡ refused code row
-    → ((startsWith header text ≡ false) × (code ≡ 20) × (row ≡ 1))
-    ⊎ ((startsWith header text ≡ true) × ((k : ℕ) × (row ≡ 2 + k) × FirstWrong rowItem (drop (length header) text) k code))
+    → ((startsWith (header Sheet) text ≡ false) × (code ≡ 20) × (row ≡ 1))
+    ⊎ ((startsWith (header Sheet) text ≡ true) × ((k : ℕ) × (row ≡ 2 + k) × FirstWrong rowItem (drop (length (header Sheet)) text) k code))
 unfolding importOf
 import-refused text code row =
     of-choice
-    (λ (m : Made). m ≡ refused code row → ((startsWith header text ≡ false) × (code ≡ 20) × (row ≡ 1))
-    ⊎ ((startsWith header text ≡ true) × ((k : ℕ) × (row ≡ 2 + k) × FirstWrong rowItem (drop (length header) text) k code)))
-    (startsWith header text)
-    (λ t e. let u = drop (length header) text in let w = first-wrong rowItem row-shrinks (suc (length u)) 2 u code row (omega arith) e in
+    (λ (m : Made). m ≡ refused code row → ((startsWith (header Sheet) text ≡ false) × (code ≡ 20) × (row ≡ 1))
+    ⊎ ((startsWith (header Sheet) text ≡ true) × ((k : ℕ) × (row ≡ 2 + k) × FirstWrong rowItem (drop (length (header Sheet)) text) k code)))
+    (startsWith (header Sheet) text)
+    (λ t e. let u = drop (length (header Sheet)) text in let w = first-wrong rowItem row-shrinks (suc (length u)) 2 u code row (omega arith) e in
     inr (t, (w .place, w .counted, w .stops)))
     (λ f e. inl (f, cc, cc))
 
@@ -123,15 +127,15 @@ unfolding lineItem
 line-shrinks s t r =
     of-choice (λ (x : Item). x ≡ item t r → length r < length s) (isLine s)
     (λ g e.
-    let rest : drop (2 + lengthOf (kindAt s)) s ≡ r = cc in
-    omega (arith, ap length rest, length-drop (2 + lengthOf (kindAt s)) s, length-least (kindAt s), is-line s g .long))
+    let rest : drop (frontSize s) s ≡ r = cc in
+    omega (arith, ap length rest, length-drop (frontSize s) s, size-least s, is-line s g .long))
     (λ g e. other e)
 
 wrong-line : (s : List ℕ) (code : ℕ) → lineItem s ≡ wrong code → code ≡ 23
 unfolding lineItem
 wrong-line s code = of-choice (λ (x : Item). x ≡ wrong code → code ≡ 23) (isLine s) (λ g e. other (sym e)) (λ g e. cc)
 
-unnumbered : (m : Made) (code row : ℕ) → before header (noRow m) ≡ refused code row → (row ≡ 0) × ((r : ℕ) × (m ≡ refused code r))
+unnumbered : (m : Made) (code row : ℕ) → before (header Sheet) (noRow m) ≡ refused code row → (row ≡ 0) × ((r : ℕ) × (m ≡ refused code r))
 unnumbered (made t) code row e = not-made (sym e)
 unnumbered (refused c r) code row e = (cc, (r, cc))
 

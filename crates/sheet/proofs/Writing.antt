@@ -1,21 +1,13 @@
 -- Texts and bytes written piece by piece: of the whole, what is left still fits, and putting it makes the whole.
 use Prim.Native.Nat.{ℕ, zero, suc, _+_, _-_, _<_, _≤_}
 use native.Mathlib.Omega.{arith}
-use native.Mathlib.Numerals.{add-one}
 use mathlib.Core.Path.{_≡_, refl, sym, ap, _∙_}
-use mathlib.Core.List.{List, [], _∷_, _++_, append-assoc}
-use lib.ListN.{length, getD, drop, length-append, drop-of-length-le}
-use lib.Seq.{drop-cons}
-use Rattle.codec.specs.Codec.{be}
-use Rattle.codec.proofs.BigEndian.{be-length}
+use mathlib.Core.List.{List, [], _++_}
+use lib.ListN.{length, length-append}
 use Rattle.printing.specs.Decimal.{Put}
 use Rattle.printing.proofs.Puts.{none, and-then, put-length}
-use Rattle.sheet.specs.declared.rows.Column.{Column}
-use Rattle.sheet.specs.Rows.{empty, columns, bytes, ending, cellText, rowText}
 use Rattle.sheet.specs.Sheets.{Item, made, eachBy}
 use Rattle.sheet.proofs.Runs.{not-made, Goes, goes, each-some}
-use Rattle.sheet.proofs.Held.{first-at, past-first}
-use Rattle.sheet.proofs.Reading.{count}
 
 pub record Writing (out₀ : List ℕ) (at : ℕ) (whole : List ℕ) (out : List ℕ) (end : ℕ) (left : List ℕ) : Type 0 where
   pub same : length out ≡ length out₀
@@ -39,45 +31,6 @@ module _ {out₀ out : List ℕ} {at end : ℕ} {whole left : List ℕ} (w : Wri
 
   pub written : left ≡ [] → Put out₀ out at whole end
   written e = w .rest out end (rw e (none out end (omega (arith, w .room))))
-
--- ---- the columns from the jth on
-
-module _ (kind : ℕ) (vs : List ℕ) (j : ℕ) (c : Column) (e : c ≡ getD (columns kind) j empty) (h : j < 9) where
-  pub from-jth : drop j (columns kind) ≡ c ∷ drop (j + 1) (columns kind)
-  from-jth = rw (add-one j, e) (drop-cons (columns kind) j empty (omega (arith, count kind)))
-
-  pub bytes-at : bytes (drop j (columns kind)) (drop j vs) ≡ be (c .width) (getD vs j 0) ++ bytes (drop (j + 1) (columns kind)) (drop (j + 1) vs)
-  unfolding bytes
-  bytes-at = rw (from-jth, first-at vs j, past-first vs j)
-
-  pub value-room : {out₀ out : List ℕ} {at end : ℕ} {whole : List ℕ} → Writing out₀ at whole out end (bytes (drop j (columns kind)) (drop j vs))
-      → end + c .width ≤ length out
-  value-room w =
-      omega (
-        arith,
-        piece-room w (be (c .width) (getD vs j 0)) (bytes (drop (j + 1) (columns kind)) (drop (j + 1) vs)) bytes-at,
-        be-length (c .width)
-            (getD vs j 0),
-      )
-
-  pub row-at : rowText (drop j (columns kind)) (drop j vs) ≡ (cellText c (getD vs j 0) ++ ending (c .last)) ++ rowText (drop (j + 1) (columns kind))
-      (drop (j + 1) vs)
-  unfolding rowText
-  row-at =
-      rw (from-jth, first-at vs j, past-first vs j)
-      (sym (append-assoc (cellText c (getD vs j 0)) (ending (c .last)) (rowText (drop (j + 1) (columns kind)) (drop (j + 1) vs))))
-
-module _ (kind : ℕ) (vs : List ℕ) (j : ℕ) (h : 9 ≤ j) where
-  pub no-more : drop j (columns kind) ≡ []
-  no-more = drop-of-length-le (columns kind) {i = j} (omega (arith, count kind))
-
-  pub bytes-end : bytes (drop j (columns kind)) (drop j vs) ≡ []
-  unfolding bytes
-  bytes-end = rw no-more
-
-  pub row-end : rowText (drop j (columns kind)) (drop j vs) ≡ []
-  unfolding rowText
-  row-end = rw no-more
 
 -- ---- a run of items
 

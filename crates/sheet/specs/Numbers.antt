@@ -6,10 +6,8 @@ use mathlib.Core.List.{List, [], _∷_}
 use lib.ListN.{getD, drop}
 use lib.Dec.{leb, eqb}
 use Rattle.base.specs.Choice.{pick}
-use Rattle.base.specs.Signed.{signedOf}
-use Rattle.printing.specs.Decimal.{signed}
 
--- ---- a number as text
+-- ---- the words of eight bytes
 
 -- 2^63: how many signed numbers of eight bytes are below zero
 abbrev pub half : ℕ
@@ -19,17 +17,13 @@ half = 9223372036854775808
 abbrev pub full : ℕ
 full = 18446744073709551616
 
--- the number that a word of a line stands for
-abbrev pub signedText : ℕ → List ℕ
-signedText w = signed (signedOf w)
-
 -- ---- a number read off the front of a text
 
 -- the first byte; 0, which is in no number, where there is none
 abbrev pub first : List ℕ → ℕ
 first s = getD s 0 0
 
--- the text begins with a number; its value; what stands behind it
+-- the text begins with a number; its value; what stands after it
 pub record Number : Type 0 where
   pub good : Bool
   pub value : ℕ
@@ -56,7 +50,7 @@ unsigned s = pick (eqb (first s) 48) (found 0 (drop 1 s)) (positive s)
 
 -- ---- a number in its field
 
--- the text begins with a number; that is inside its field; its value there, else 0; what stands behind it
+-- the text begins with a number; that is inside its field; its value there, else 0; what stands after it
 pub record Cell : Type 0 where
   pub good : Bool
   pub fits : Bool
@@ -76,7 +70,7 @@ inField n highest v = record {
 unfoldable pub unsignedCell : ℕ → List ℕ → Cell
 unsignedCell highest s = inField (unsigned s) highest (unsigned s .value)
 
--- a number above zero behind a minus sign, which goes one further, or a number without
+-- a number above zero after a minus sign, which goes one further, or a number without
 unfoldable pub signedCell : ℕ → List ℕ → Cell
 signedCell highest s =
     pick (eqb (first s) 45) (inField (positive (drop 1 s)) (highest + 1) (full - positive (drop 1 s) .value))

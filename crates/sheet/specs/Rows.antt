@@ -1,98 +1,54 @@
--- Document 02, W13: a line record, and its row of the sheet. "Export a run of lines as comma-separated text after RFC 4180, CRLF after every
--- row, no quotes, header `kind,group,ch4,n2o,co2,excreted,land,grazing,co2e`, the last column empty but on kind 8. A line's kind is 3 to 10 or 16."
-use Prim.Native.Nat.{ℕ, _+_}
-use mathlib.Core.Bool.{Bool, true, false, _&&_, _||_}
+-- Document 02, W13: a row of the sheet, read off a text. "Export a run of lines as comma-separated text after RFC 4180, CRLF after every
+-- row, no quotes, header `kind,group,ch4,n2o,co2,excreted,land,grazing,co2e`, the last column empty but on kind 8." How a row is written stands in
+-- line_rows.
+use Prim.Native.Nat.{ℕ, suc, _+_, _-_}
+use mathlib.Core.Bool.{Bool, true, false, _&&_}
 use mathlib.Core.List.{List, [], _∷_, _++_}
-use lib.ListN.{length, getD, drop}
-use lib.Dec.{leb, eqb}
+use lib.ListN.{length, drop}
+use lib.Dec.{eqb}
 use Rattle.base.specs.Choice.{pick}
-use Rattle.codec.specs.Table.{lastKind}
-use Rattle.codec.specs.Codec.{valAt, be}
-use Rattle.line_bytes.specs.Lines.{subtotalKind}
-use Rattle.printing.specs.Decimal.{decimal}
+use Rattle.codec.specs.declared.Field.{Field}
+use Rattle.codec.specs.Codec.{bytesHold}
+use Rattle.line_bytes.specs.Lines.{figure, figureCount, lineFields}
+use Rattle.line_rows.specs.Rows.{isSigned}
 use Rattle.sheet.specs.declared.rows.Column.{Column}
-use Rattle.sheet.specs.Numbers.{signedText, Cell, unsignedCell, signedCell, emptyCell}
+use Rattle.sheet.specs.Numbers.{half, Cell, unsignedCell, signedCell, emptyCell}
 
 -- ---- the columns
 
 abbrev pub column : ℕ → ℕ → Bool → Bool → Column
 column width highest signed last = record { width = width; highest = highest; signed = signed; last = last }
 
--- a figure of eight bytes: grams
-abbrev pub figure : Column
-figure = column 8 18446744073709551615 false false
+-- the highest number of a column: that of its bytes; a signed one goes half as far
+unfoldable pub highestOf : Bool → ℕ → ℕ
+highestOf signed width = pick signed (half - 1) (bytesHold width - 1)
 
--- and a signed one
-abbrev pub signedFigure : Bool → Column
-signedFigure last = column 8 9223372036854775807 true last
+-- how many there are: kind, group, the figures and CO2e
+abbrev pub columnCount : ℕ
+columnCount = 3 + figureCount
+
+-- the column of a field of a line, by its place
+abbrev pub columnOf : ℕ → Field → Column
+columnOf j f = column (f .0) (highestOf (isSigned j) (f .0)) (isSigned j) (eqb j (columnCount - 1))
+
+abbrev pub columnsFrom : ℕ → List Field → List Column
+columnsFrom j [] = []
+columnsFrom j (f ∷ fs) = columnOf j f ∷ columnsFrom (suc j) fs
 
 -- no number
 abbrev pub empty : Column
 empty = column 0 0 false true
 
--- kind, group, CH4, N2O, CO2, excreted N, land N, grazing, CO2e; the last is empty but on kind 8
+-- kind, group and the figures of a line, and CO2e, which is empty but on kind 8
 unfoldable pub columns : ℕ → List Column
-columns kind =
-    column 1 255 false false
-    ∷ column 2 65535 false false
-    ∷ figure
-    ∷ figure
-    ∷ signedFigure false
-    ∷ figure
-    ∷ figure
-    ∷ figure
-    ∷ pick (eqb kind 8) (signedFigure true) empty
-    ∷ []
+columns kind = columnsFrom 0 (drop 2 lineFields) ++ (pick (eqb kind 8) (columnOf (columnCount - 1) figure) empty ∷ [])
 
--- the kinds that a line has
-abbrev pub isKind : ℕ → Bool
-isKind k = (leb 3 k && leb k lastKind) || eqb k subtotalKind
+-- a comma after a column, CRLF after the last
+abbrev pub columnEnd : Bool → List ℕ
+columnEnd true = 13 ∷ 10 ∷ []
+columnEnd false = 44 ∷ []
 
--- ---- a line record
-
--- the bytes of the columns' values, one behind the other
-unfoldable pub bytes : List Column → List ℕ → List ℕ
-bytes [] vs = []
-bytes (c ∷ cs) vs = be (c .width) (getD vs 0 0) ++ bytes cs (drop 1 vs)
-
--- and the values that stand so in s
-unfoldable pub values : List Column → List ℕ → List ℕ
-values [] s = []
-values (c ∷ cs) s = valAt s 0 (c .width) ∷ values cs (drop (c .width) s)
-
--- a line's length, which counts what follows it
-abbrev pub lengthOf : ℕ → ℕ
-lengthOf kind = pick (eqb kind 8) 60 52
-
--- length, version 1, then the columns' values
-unfoldable pub lineOf : ℕ → List ℕ → List ℕ
-lineOf kind vs = be 2 (lengthOf kind) ++ (1 ∷ bytes (columns kind) vs)
-
--- the kind of the line that s begins with
-abbrev pub kindAt : List ℕ → ℕ
-kindAt s = getD s 3 0
-
--- s begins with a whole line
-unfoldable pub isLine : List ℕ → Bool
-isLine s = ((leb (2 + lengthOf (kindAt s)) (length s) && eqb (valAt s 0 2) (lengthOf (kindAt s))) && eqb (getD s 2 0) 1) && isKind (kindAt s)
-
--- ---- its row
-
--- a comma behind a column, CRLF behind the last
-abbrev pub ending : Bool → List ℕ
-ending true = 13 ∷ 10 ∷ []
-ending false = 44 ∷ []
-
-unfoldable pub cellText : Column → ℕ → List ℕ
-cellText c v = pick (eqb (c .width) 0) [] (pick (c .signed) (signedText v) (decimal v))
-
-unfoldable pub rowText : List Column → List ℕ → List ℕ
-rowText [] vs = []
-rowText (c ∷ cs) vs = cellText c (getD vs 0 0) ++ (ending (c .last) ++ rowText cs (drop 1 vs))
-
--- the row of the line that s begins with
-unfoldable pub lineRow : List ℕ → List ℕ
-lineRow s = rowText (columns (kindAt s)) (values (columns (kindAt s)) (drop 3 s))
+-- ---- a row read
 
 -- s begins with the text e
 unfoldable pub startsWith : List ℕ → List ℕ → Bool
@@ -104,14 +60,14 @@ startsWith (x ∷ e) (b ∷ s) = eqb x b && startsWith e s
 unfoldable pub readCell : Column → List ℕ → Cell
 readCell c s = pick (eqb (c .width) 0) (emptyCell s) (pick (c .signed) (signedCell (c .highest) s) (unsignedCell (c .highest) s))
 
--- and what stands behind it
+-- and what stands after it
 abbrev pub ended : List ℕ → Cell → Cell
 ended e k = record { good = k .good && startsWith e (k .rest); fits = k .fits; value = k .value; rest = drop (length e) (k .rest) }
 
 abbrev pub readColumn : Column → List ℕ → Cell
-readColumn c s = ended (ending (c .last)) (readCell c s)
+readColumn c s = ended (columnEnd (c .last)) (readCell c s)
 
--- the columns are all of the form; their numbers are all inside their fields; the values; what stands behind the row
+-- the columns are all of the form; their numbers are all inside their fields; the values; what stands after the row
 pub record Row : Type 0 where
   pub good : Bool
   pub fits : Bool

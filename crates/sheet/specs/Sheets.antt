@@ -1,18 +1,21 @@
 -- Document 02, W13: whole sheets. "Refusals: 20, text not of this form, with the row, header 1; 21, a number outside its field; 23, bytes to
 -- export that are no run of whole lines; 16, no room. Reading goes by row, 20 before 21, and 16 is last. Each writes nothing."
-use Prim.Native.Nat.{ℕ, zero, suc, _+_}
+use Prim.Native.Nat.{ℕ, zero, suc}
 use mathlib.Core.Bool.{_&&_}
 use mathlib.Core.List.{List, [], _∷_, _++_}
 use lib.ListN.{length, drop}
 use lib.Dec.{leb}
 use Rattle.base.specs.Choice.{pick}
+use Rattle.line_bytes.specs.Lines.{frontSize, isLineKind, numbersBytes, isLine}
+use Rattle.line_rows.specs.declared.Form.the-variants.{Sheet}
+use Rattle.line_rows.specs.Rows.{lineRow, header}
 use Rattle.sheet.specs.declared.Answer.{Answer}
 use Rattle.sheet.specs.declared.Answer.the-variants.{Written, Refused}
-use Rattle.sheet.specs.Rows.{isKind, lengthOf, lineOf, kindAt, isLine, lineRow, startsWith, Row, kindIn, rowIn}
+use Rattle.sheet.specs.Rows.{startsWith, Row, kindIn, rowIn}
 
 -- ---- one after the other, in either direction
 
--- what the front of some bytes becomes, and what stands behind it; or the number of the refusal
+-- what the front of some bytes becomes, and what stands after it; or the number of the refusal
 pub data Item : Type 0 where
   item : List ℕ → List ℕ → Item
   wrong : ℕ → Item
@@ -27,7 +30,7 @@ abbrev pub before : List ℕ → Made → Made
 before p (made t) = made (p ++ t)
 before p (refused code row) = refused code row
 
--- an item, then what is made of the bytes behind it
+-- an item, then what is made of the bytes after it
 abbrev pub goesOn : Item → ℕ → (List ℕ → Made) → Made
 goesOn (item p r) row next = before p (next r)
 goesOn (wrong code) row next = refused code row
@@ -46,21 +49,7 @@ each f row s = eachBy f (suc (length s)) row s
 
 -- a line as its row
 unfoldable pub lineItem : List ℕ → Item
-lineItem s = pick (isLine s) (item (lineRow s) (drop (2 + lengthOf (kindAt s)) s)) (wrong 23)
-
--- kind,group,ch4,n2o,co2,excreted,land,grazing,co2e
-unfoldable pub header : List ℕ
-header =
-    107 ∷ 105 ∷ 110 ∷ 100
-    ∷ 44 ∷ 103 ∷ 114 ∷ 111 ∷ 117 ∷ 112
-    ∷ 44 ∷ 99 ∷ 104 ∷ 52
-    ∷ 44 ∷ 110 ∷ 50 ∷ 111
-    ∷ 44 ∷ 99 ∷ 111 ∷ 50
-    ∷ 44 ∷ 101 ∷ 120 ∷ 99 ∷ 114 ∷ 101 ∷ 116 ∷ 101 ∷ 100
-    ∷ 44 ∷ 108 ∷ 97 ∷ 110 ∷ 100
-    ∷ 44 ∷ 103 ∷ 114 ∷ 97 ∷ 122 ∷ 105 ∷ 110 ∷ 103
-    ∷ 44 ∷ 99 ∷ 111 ∷ 50 ∷ 101
-    ∷ 13 ∷ 10 ∷ []
+lineItem s = pick (isLine s) (item (lineRow Sheet s) (drop (frontSize s) s)) (wrong 23)
 
 -- 23 has no row
 abbrev pub noRow : Made → Made
@@ -72,19 +61,19 @@ unfoldable pub rowsOf : List ℕ → Made
 rowsOf lines = noRow (each lineItem 0 lines)
 
 unfoldable pub exportOf : List ℕ → Made
-exportOf lines = before header (rowsOf lines)
+exportOf lines = before (header Sheet) (rowsOf lines)
 
 -- ---- text to lines
 
 -- the row that s begins with as a line
 abbrev pub rowAs : ℕ → Row → Item
-rowAs kind r = pick (r .good) (pick (r .fits && isKind kind) (item (lineOf kind (r .values)) (r .rest)) (wrong 21)) (wrong 20)
+rowAs kind r = pick (r .good) (pick (r .fits && isLineKind kind) (item (numbersBytes kind (r .values)) (r .rest)) (wrong 21)) (wrong 20)
 
 unfoldable pub rowItem : List ℕ → Item
 rowItem s = rowAs (kindIn s) (rowIn s)
 
 unfoldable pub importOf : List ℕ → Made
-importOf text = pick (startsWith header text) (each rowItem 2 (drop (length header) text)) (refused 20 1)
+importOf text = pick (startsWith (header Sheet) text) (each rowItem 2 (drop (length (header Sheet)) text)) (refused 20 1)
 
 -- ---- into a buffer
 

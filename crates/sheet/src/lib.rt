@@ -1,28 +1,34 @@
 // Sheets for the spreadsheet: a run of line records as comma-separated text, and such text as line records.
 pub mod numbers; // numbers.rt: numbers read off a text
 pub mod rows; // rows.rt: a row of columns read off a text
-pub mod lines; // lines.rt: a line record from its values
-pub mod texts; // texts.rt: its row as text
+pub mod lines; // lines.rt: a line record from its values, its row as text, and the bytes of several
 pub mod remarks; // remarks.rt: what is told of a sheet that is read
 
+use base::first_of;
 use base::rest_of;
+use line_bytes::front_size;
+use line_bytes::is_line;
+use line_bytes::is_line_kind;
+use line_bytes::size_of_kind;
+use line_rows::Form;
+use line_rows::ROW_MOST;
+use line_rows::put_header;
 use lines::Total;
 use lines::add;
-use lines::is_kind;
-use lines::line_size;
 use lines::put_line;
-use printing::put_text;
+use lines::put_row;
+use lines::row_size;
 use rows::read_row;
 use rows::starts;
-use texts::front_size;
-use texts::is_line;
-use texts::put_line_row;
-use texts::row_size;
 ghost use mathlib.Core.Path.{_≡_};
 ghost use Prim.Native.Nat.{ℕ, _+_, _≤_};
 ghost use lib.ListN.{length, drop};
+ghost use Rattle.base.specs.Choice.{pick};
+ghost use Rattle.line_rows.specs.declared.Form.the-variants.{Sheet};
+ghost use Rattle.line_rows.specs.Rows.{header};
 ghost use Rattle.printing.specs.Decimal.{Put};
-ghost use Rattle.sheet.specs.Sheets.{made, each, header, lineItem, rowsOf, exportOf, rowItem, importOf, answer, buffer};
+ghost use Rattle.sheet.specs.Rows.{startsWith};
+ghost use Rattle.sheet.specs.Sheets.{made, each, rowsOf, exportOf, rowItem, importOf, answer, buffer};
 ghost use Rattle.sheet.specs.Code.{totalOf, answerAfter, madeOf};
 
 // What an export or an import answers: the bytes written, or a refusal with its row (0: none).
@@ -33,7 +39,7 @@ pub enum Answer {
 
 // The answer to the rows of a text from an index on, with so much room for their lines.
 fn plan_rows(text: &[u8], from: usize, room: usize) -> Answer
-    requires { ⌜ (51 ≤ from) × (from ≤ length (now text)) ⌝ }
+    requires { ⌜ (2 ≤ from) × (from ≤ length (now text)) ⌝ }
     ensures { λ r. ⌜ r ≡ answer (each rowItem 2 (drop from (now (text .entry)))) room ⌝ }
 {
     let mut total = Total {
@@ -47,10 +53,10 @@ fn plan_rows(text: &[u8], from: usize, room: usize) -> Answer
         if !r.good {
             return Answer::Refused(20, row);
         }
-        if !(r.fits & is_kind(r.kind)) {
+        if !(r.fits & is_line_kind(r.kind)) {
             return Answer::Refused(21, row);
         }
-        total = add(total, line_size(r.kind), room);
+        total = add(total, size_of_kind(r.kind), room);
         i = r.end;
         row += 1;
     }
@@ -78,22 +84,38 @@ fn write_rows(text: &[u8], from: usize, lines: &mut [u8]) -> usize
     at
 }
 
+fn header_size() -> usize
+    ensures { λ r. ⌜ r ≡ length (header Sheet) ⌝ }
+{
+    let mut head = [0u8; ROW_MOST];
+    put_header(&mut head, 0, Form::Sheet)
+}
+
+// The index after the header, where the text begins with it; else 0.
+fn after_header(text: &[u8]) -> usize
+    ensures { λ r. ⌜ r ≡ pick (startsWith (header Sheet) (now (text .entry))) (length (header Sheet)) 0 ⌝ }
+{
+    let mut head = [0u8; ROW_MOST];
+    let n = put_header(&mut head, 0, Form::Sheet);
+    if starts(text, 0, first_of(&head, n)) {
+        return n;
+    }
+    0
+}
+
 pub fn import(text: &[u8], lines: &mut [u8]) -> Answer
     ensures { λ r. ⌜ r ≡ answer (importOf (now (text .entry))) (length (now (lines .entry))) ⌝ }
     ensures { λ r. ⌜ now (lines .exit) ≡ buffer (importOf (now (text .entry))) (now (lines .entry)) ⌝ }
 {
-    if !starts(
-        text,
-        0,
-        b"kind,group,ch4,n2o,co2,excreted,land,grazing,co2e\r\n",
-    ) {
+    let from = after_header(text);
+    if from == 0 {
         return Answer::Refused(20, 1);
     }
-    let plan = plan_rows(text, 51, lines.len());
+    let plan = plan_rows(text, from, lines.len());
     let Answer::Written(n) = plan else {
         return plan;
     };
-    Answer::Written(write_rows(text, 51, lines))
+    Answer::Written(write_rows(text, from, lines))
 }
 
 // The answer to the rows of some lines, with so much room, a part of which is taken.
@@ -126,26 +148,10 @@ fn write_lines(lines: &[u8], text: &mut [u8], from: usize) -> usize
     let mut at = from;
     while i < lines.len() {
         let rest = rest_of(lines, i);
-        at = put_line_row(text, at, rest);
+        at = put_row(text, at, rest);
         i += front_size(rest);
     }
     at
-}
-
-// A row for each line, without the header: for a sheet that is written in parts.
-pub fn rows_of(lines: &[u8], text: &mut [u8]) -> Answer
-    ensures { λ r. ⌜ r ≡ answer (rowsOf (now (lines .entry))) (length (now (text .entry))) ⌝ }
-    ensures { λ r. ⌜ now (text .exit) ≡ buffer (rowsOf (now (lines .entry))) (now (text .entry)) ⌝ }
-{
-    let none = Total {
-        over: false,
-        sum: 0,
-    };
-    let plan = plan_lines(lines, none, text.len());
-    let Answer::Written(n) = plan else {
-        return plan;
-    };
-    Answer::Written(write_lines(lines, text, 0))
 }
 
 // The header, then a row for each line.
@@ -157,15 +163,11 @@ pub fn export(lines: &[u8], text: &mut [u8]) -> Answer
         over: false,
         sum: 0,
     };
-    let start = add(none, 51, text.len());
+    let start = add(none, header_size(), text.len());
     let plan = plan_lines(lines, start, text.len());
     let Answer::Written(n) = plan else {
         return plan;
     };
-    let at = put_text(
-        text,
-        0,
-        b"kind,group,ch4,n2o,co2,excreted,land,grazing,co2e\r\n",
-    );
+    let at = put_header(text, 0, Form::Sheet);
     Answer::Written(write_lines(lines, text, at))
 }

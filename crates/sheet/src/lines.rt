@@ -1,12 +1,19 @@
-// A line record from its values, and the bytes of several.
-use crate::rows::column_of;
-use printing::put_byte;
+// A line record from the numbers of its row, its row as text, and the bytes of several.
+use base::first_of;
+use line_bytes::TOTAL_NUMBERS;
+use line_bytes::put_numbers;
+use line_bytes::size_of_kind;
+use line_rows::Form;
+use line_rows::ROW_MOST;
+use printing::put_text;
 ghost use mathlib.Core.Path.{_≡_};
+ghost use mathlib.Core.Bool.{true};
 ghost use Prim.Native.Nat.{ℕ, _+_, _≤_};
 ghost use lib.ListN.{length};
-ghost use Rattle.codec.specs.Codec.{be};
+ghost use Rattle.line_bytes.specs.Lines.{numbersBytes, isLine};
+ghost use Rattle.line_rows.specs.declared.Form.the-variants.{Sheet};
+ghost use Rattle.line_rows.specs.Rows.{lineRow};
 ghost use Rattle.printing.specs.Decimal.{Put};
-ghost use Rattle.sheet.specs.Rows.{columns, isKind, lengthOf, bytes, lineOf};
 ghost use Rattle.sheet.specs.Code.{totalOf};
 
 // A count of bytes up to some room, or past it.
@@ -33,52 +40,30 @@ pub fn add(t: Total, size: usize, room: usize) -> Total
     }
 }
 
-pub fn is_kind(kind: u64) -> bool
-    ensures { λ r. ⌜ r ≡ isKind kind ⌝ }
+// A line from the numbers of its row.
+pub fn put_line(out: &mut [u8], at: usize, kind: u64, values: &[u64; TOTAL_NUMBERS]) -> usize
+    requires { ⌜ at + length (numbersBytes kind (now values)) ≤ length (now out) ⌝ }
+    ensures { λ r. ⌜ Put (now (out .entry)) (now (out .exit)) at (numbersBytes kind (now (values .entry))) r ⌝ }
 {
-    (3 <= kind) & (kind <= codec::LAST_KIND) | (kind == 16)
+    put_numbers(out, at, kind, values);
+    at + size_of_kind(kind)
 }
 
-pub fn line_size(kind: u64) -> usize
-    ensures { λ r. ⌜ r ≡ 2 + lengthOf kind ⌝ }
+pub fn row_size(s: &[u8]) -> usize
+    requires { ⌜ isLine (now s) ≡ true ⌝ }
+    ensures { λ r. ⌜ r ≡ length (lineRow Sheet (now (s .entry))) ⌝ }
 {
-    if kind == 8 { 62 } else { 54 }
+    let mut row = [0u8; ROW_MOST];
+    line_rows::put_line(&mut row, 0, Form::Sheet, s)
 }
 
-// The w bytes of v, big-endian.
-fn put_be(out: &mut [u8], at: usize, w: usize, v: u64) -> usize
-    requires { ⌜ at + w ≤ length (now out) ⌝ }
-    ensures { λ r. ⌜ Put (now (out .entry)) (now (out .exit)) at (be w v) r ⌝ }
-    ensures { λ r. ⌜ r ≡ at + w ⌝ }
+// The row of the line that s begins with, where there is room for just it.
+pub fn put_row(out: &mut [u8], at: usize, s: &[u8]) -> usize
+    requires { ⌜ isLine (now s) ≡ true ⌝ }
+    requires { ⌜ at + length (lineRow Sheet (now s)) ≤ length (now out) ⌝ }
+    ensures { λ r. ⌜ Put (now (out .entry)) (now (out .exit)) at (lineRow Sheet (now (s .entry))) r ⌝ }
 {
-    if w == 0 {
-        return at;
-    }
-    let end = put_be(out, at, w - 1, v / 256);
-    put_byte(out, end, (v % 256) as u8)
-}
-
-// The values of the columns.
-fn put_values(out: &mut [u8], at: usize, kind: u64, values: &[u64; 9]) -> usize
-    requires { ⌜ at + length (bytes (columns kind) (now values)) ≤ length (now out) ⌝ }
-    ensures { λ r. ⌜ Put (now (out .entry)) (now (out .exit)) at (bytes (columns kind) (now (values .entry))) r ⌝ }
-{
-    let mut end = at;
-    let mut j = 0;
-    while j < 9 {
-        let c = column_of(kind, j);
-        end = put_be(out, end, c.width, values[j]);
-        j += 1;
-    }
-    end
-}
-
-pub fn put_line(out: &mut [u8], at: usize, kind: u64, values: &[u64; 9]) -> usize
-    requires { ⌜ at + length (lineOf kind (now values)) ≤ length (now out) ⌝ }
-    ensures { λ r. ⌜ Put (now (out .entry)) (now (out .exit)) at (lineOf kind (now (values .entry))) r ⌝ }
-{
-    let size = line_size(kind);
-    let start = put_be(out, at, 2, size as u64 - 2);
-    let end = put_byte(out, start, 1);
-    put_values(out, end, kind, values)
+    let mut row = [0u8; ROW_MOST];
+    let n = line_rows::put_line(&mut row, 0, Form::Sheet, s);
+    put_text(out, at, first_of(&row, n))
 }

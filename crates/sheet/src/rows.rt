@@ -2,11 +2,16 @@
 use crate::numbers::Read;
 use crate::numbers::signed_cell;
 use crate::numbers::unsigned_cell;
+use line_bytes::LINE_NUMBERS;
+use line_bytes::TOTAL_NUMBERS;
+use line_bytes::number_width;
+use line_rows::is_signed;
 ghost use mathlib.Core.Path.{_≡_};
-ghost use Prim.Native.Nat.{_≤_, _<_};
+ghost use Prim.Native.Nat.{_-_, _≤_, _<_};
 ghost use lib.ListN.{length, getD, drop};
 ghost use Rattle.sheet.specs.Numbers.{Cell};
-ghost use Rattle.sheet.specs.Rows.{empty, columns, startsWith, readCell, ended, readColumn, kindIn, rowIn};
+ghost use Rattle.codec.specs.Codec.{bytesHold};
+ghost use Rattle.sheet.specs.Rows.{highestOf, empty, columnCount, columns, startsWith, readCell, ended, readColumn, kindIn, rowIn};
 ghost use Rattle.sheet.specs.Code.{IsRead, IsRow, Fair};
 
 // A column of a row: the bytes of its number in a line (none: the column is empty), the highest number, whether it is signed, whether the
@@ -23,61 +28,57 @@ pub struct RowRead {
     pub good: bool,
     pub fits: bool,
     pub kind: u64,
-    pub values: [u64; 9],
+    pub values: [u64; TOTAL_NUMBERS],
     pub end: usize,
+}
+
+// The highest number of so many bytes.
+fn highest_in(width: usize) -> u64
+    requires { ⌜ width ≤ 8 ⌝ }
+    ensures { λ r. ⌜ r ≡ bytesHold width - 1 ⌝ }
+{
+    let mut highest: u64 = 0;
+    let mut i = 0;
+    while i < width {
+        highest = highest * 256 + 255;
+        i += 1;
+    }
+    highest
+}
+
+// A signed number goes half as far.
+fn highest_of(signed: bool, width: usize) -> u64
+    requires { ⌜ width ≤ 8 ⌝ }
+    ensures { λ r. ⌜ r ≡ highestOf signed width ⌝ }
+{
+    if signed {
+        return 9_223_372_036_854_775_807;
+    }
+    highest_in(width)
 }
 
 // The jth column of a row or line of a kind.
 pub fn column_of(kind: u64, j: usize) -> Column
-    requires { ⌜ j < 9 ⌝ }
+    requires { ⌜ j < columnCount ⌝ }
     ensures { λ r. ⌜ r ≡ getD (columns kind) j empty ⌝ }
     ensures { λ r. ⌜ Fair r ⌝ }
 {
-    if j == 0 {
+    let last = j == LINE_NUMBERS;
+    if last & (kind != 8) {
         return Column {
-            width: 1,
-            highest: 255,
+            width: 0,
+            highest: 0,
             signed: false,
-            last: false,
+            last,
         };
     }
-    if j == 1 {
-        return Column {
-            width: 2,
-            highest: 65_535,
-            signed: false,
-            last: false,
-        };
-    }
-    if j == 4 {
-        return Column {
-            width: 8,
-            highest: 9_223_372_036_854_775_807,
-            signed: true,
-            last: false,
-        };
-    }
-    if j < 8 {
-        return Column {
-            width: 8,
-            highest: 18_446_744_073_709_551_615,
-            signed: false,
-            last: false,
-        };
-    }
-    if kind == 8 {
-        return Column {
-            width: 8,
-            highest: 9_223_372_036_854_775_807,
-            signed: true,
-            last: true,
-        };
-    }
+    let signed = is_signed(j);
+    let width = number_width(j);
     Column {
-        width: 0,
-        highest: 0,
-        signed: false,
-        last: true,
+        width,
+        highest: highest_of(signed, width),
+        signed,
+        last,
     }
 }
 
@@ -161,10 +162,10 @@ pub fn read_row(text: &[u8], at: usize) -> RowRead
     let kind = first.value;
     let mut good = true;
     let mut fits = true;
-    let mut values = [0u64; 9];
+    let mut values = [0u64; TOTAL_NUMBERS];
     let mut end = at;
     let mut j = 0;
-    while j < 9 {
+    while j < TOTAL_NUMBERS {
         let c = column_of(kind, j);
         let k = read_column(text, end, c);
         good = good & k.good;

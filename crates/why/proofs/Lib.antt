@@ -1,5 +1,4 @@
 pub mod Faults
-mod GroupKinds
 pub mod ValuesFound
 pub mod RecordLists
 pub mod Ways

@@ -6,7 +6,7 @@ use mathlib.Core.Bool.{Bool, true, false, _&&_, _||_, not}
 use lib.Dec.{ltb, eqb}
 use Rattle.base.specs.Choice.{pick}
 use Rattle.codec.specs.Table.{isKind, lastRow}
-use Rattle.account.specs.Sorts.{sortOf, bySort}
+use Rattle.account.specs.Sorts.{isOfGroup}
 use Rattle.printing.specs.Ascii.{ascii}
 use Rattle.printing.specs.Decimal.{decimal, pointed}
 use Rattle.typed_words.specs.Words.{nthPart}
@@ -44,13 +44,9 @@ machineText (Refused w) = refusedText w
 
 -- ---- the line for people
 
--- a kind whose records are details of a group
-abbrev pub ofGroupKind : ℕ → Bool
-ofGroupKind kind = bySort (sortOf kind) false false true false false
-
 -- the group of a detail, where a heading stands before it
 abbrev pub groupText : ℕ → ℕ → List ℕ
-groupText kind group = pick (ofGroupKind kind && not (eqb group 0)) (ascii ", group " ++ decimal group) []
+groupText kind group = pick (isOfGroup kind && not (eqb group 0)) (ascii ", group " ++ decimal group) []
 
 -- the kind's name and the group, where the book has the kind
 abbrev pub nameText : ℕ → ℕ → List ℕ

@@ -8,12 +8,11 @@ use crate::compared::outside;
 use account::Account;
 use base::first_of;
 use base::rest_of;
-use book::front::ready;
+use book::front::bad_length;
+use book::walk::next_alone;
 use codec::LENGTH_MOST;
 use codec::kinds::row_of;
 use codec::numbers::be16;
-use line_bytes::LINES_MOST;
-use rules::judge;
 ghost use mathlib.Core.Path.{_≡_};
 ghost use Prim.Native.Nat.{_+_, _≤_};
 ghost use lib.ListN.{length, take};
@@ -81,7 +80,7 @@ fn unread(a: Account, at: usize, rest: &[u8]) -> Verdict
         return Verdict::NextLength;
     }
     let n = be16(rest, 0);
-    if (n < 4) | (LENGTH_MOST < n) {
+    if bad_length(n) {
         return Verdict::Refused(broken_length(a, at, rest));
     }
     Verdict::Missing(n as usize + 2 - rest.len())
@@ -133,14 +132,14 @@ pub fn why(book: &[u8]) -> Verdict
     let mut at = 0;
     while at < book.len() {
         let rest = rest_of(book, at);
-        let n = ready(rest);
+        let t = next_alone(a, rest);
+        let n = t.size;
         if n == 0 {
             return unread(a, at, rest);
         }
-        let r = first_of(rest, n);
-        let j = judge(a, r, LINES_MOST);
-        let next = j.account;
+        let next = t.account;
         if 2 <= next.stage {
+            let r = first_of(rest, n);
             return ended(a, at, r, next, book.len());
         }
         a = next;

@@ -1,6 +1,7 @@
 // What is told of a book: a line for machines, a line for people, and the status.
 use crate::Reason;
 use crate::Verdict;
+use account::sort::is_of_group;
 use codec::LAST_KIND;
 use names::decimals;
 use names::say_field;
@@ -16,7 +17,7 @@ ghost use Prim.Native.Nat.{_-_, _≤_};
 ghost use lib.ListN.{length};
 ghost use Rattle.printing.specs.Said.{Said};
 ghost use Rattle.why.specs.Remarks.{placeText, positionText, numbersText, refusedText, missingText, machineText};
-ghost use Rattle.why.specs.Remarks.{ofGroupKind, groupText, nameText, whereText, subjectLine, subjectText, measuredBy, amountText};
+ghost use Rattle.why.specs.Remarks.{groupText, nameText, whereText, subjectLine, subjectText, measuredBy, amountText};
 ghost use Rattle.why.specs.Remarks.{measuredText, exactly, relationText, comparedText, faultText, reasonText, lackText, afterText};
 ghost use Rattle.why.specs.Remarks.{closedText, peopleText};
 ghost use Rattle.why.specs.Remarks.{isAccepted, statusByte};
@@ -88,19 +89,12 @@ pub fn say_first(out: &mut [u8], v: Verdict) -> usize
     }
 }
 
-// A detail of the group, by the kind byte.
-fn of_group(kind: u64) -> bool
-    ensures { λ r. ⌜ r ≡ ofGroupKind kind ⌝ }
-{
-    (kind == 3) | (kind == 4) | (kind == 5) | (kind == 10)
-}
-
 // The group of a detail, where a heading stands before it.
 fn say_group(out: &mut [u8], at: usize, kind: u64, group: u64) -> usize
     requires { ⌜ at ≤ length (now out) ⌝ }
     ensures { λ r. ⌜ Said (now (out .entry)) (now (out .exit)) at (groupText kind group) r ⌝ }
 {
-    if of_group(kind) & (group != 0) {
+    if is_of_group(kind) & (group != 0) {
         let a = say(out, at, b", group ");
         return say_number(out, a, group);
     }

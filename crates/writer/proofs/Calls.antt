@@ -15,8 +15,8 @@ use Rattle.writer.specs.declared.Typist.{Typist}
 use Rattle.writer.specs.declared.Typing.{Typing}
 use Rattle.writer.specs.declared.Entered.{Entered}
 use Rattle.writer.specs.declared.Lined.{Lined}
-use Rattle.typed_line.specs.declared.Line.{Line}
-use Rattle.typed_line.specs.Line.{lineOf}
+use Rattle.writer.specs.declared.typed_line.Line.{Line}
+use Rattle.writer.specs.Line.{lineOf}
 use Rattle.writer.specs.Typist.{Turn, bySaid, turn, endTurn, enteredOf, laid}
 use Rattle.writer.specs.Remarks.{remarkText, endRemark}
 use Rattle.writer.proofs.Fates.{said-turn}

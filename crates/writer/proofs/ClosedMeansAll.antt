@@ -15,8 +15,8 @@ use Rattle.base.proofs.Tests.{and-l, and-r, of-choice, by-test}
 use Rattle.codec.specs.Table.{table, fields, recordMost}
 use Rattle.account.specs.declared.Account.{Account}
 use Rattle.account.specs.Judge.{Step, inPlace, accepted, weigh}
-use Rattle.account.specs.Sorts.{isFarm, Sort, opens, heads, ofGroup, ofFarm, closes, sortOf}
-use Rattle.account.proofs.Sorts.{by-sort}
+use Rattle.account.specs.Sorts.{sortOf}
+use Rattle.account.proofs.Sorts.{by-sort, closes-eight}
 use Rattle.account.proofs.Refusals.{passed, weighed-none, weighed-passes}
 use Rattle.book.specs.declared.State.{State}
 use Rattle.book.specs.State.{noRecordYet}
@@ -26,10 +26,10 @@ use Rattle.make_record.specs.Write as writer
 use Rattle.make_record.proofs.Answers.{Written-so, written-so}
 use Rattle.text_lines.specs.Lines.{most, firstCut}
 use Rattle.text_lines.specs.Parts.{Numbered, numbered, together}
-use Rattle.typed_line.specs.declared.Entry.{Entry}
-use Rattle.typed_line.specs.declared.Said.{Said}
-use Rattle.typed_line.specs.declared.Said.the-variants as said
-use Rattle.typed_line.specs.Line.{lineOf, entry, completedOf, valuesIn, writeEntry}
+use Rattle.writer.specs.declared.typed_line.Entry.{Entry}
+use Rattle.writer.specs.declared.typed_line.Said.{Said}
+use Rattle.writer.specs.declared.typed_line.Said.the-variants as said
+use Rattle.writer.specs.Line.{lineOf, entry, completedOf, valuesIn, writeEntry}
 use Rattle.writer.specs.declared.Typist.{Typist}
 use Rattle.writer.specs.Typist.{firstFailed, beginning, hears, early, runEnded, withheld, headless, Turn, byAnswer, byWrite, closeBy}
 use Rattle.writer.specs.Typist.{judgedTurn, recordTurn, bySaid, turn, ownClose, endBy, closingTurn, endTurn}
@@ -42,17 +42,6 @@ use Rattle.writer.proofs.HeadingTyped.{Kept, completed-kind, ended-stat
 use Rattle.writer.proofs.InParts.{whole-in-parts, bytes-typed, typist-typed}
 
 -- ---- a record that is written
-
-closes-eight : (k : ℕ) → sortOf k ≡ closes → k ≡ 8
-unfolding sortOf
-closes-eight k e = go (isFarm k) (eqb k 2) (eqb k 3 || (eqb k 4 || (eqb k 5 || eqb k 10))) (eqb k 8) refl e
-  where
-    go : (a b c d : Bool) → eqb k 8 ≡ d → pick a opens (pick b heads (pick c ofGroup (pick d closes ofFarm))) ≡ closes → k ≡ 8
-    go true b c d q e = let z : _≡_ {A = ℕ} 0 1 = cc in absurd (omega arith)
-    go false true c d q e = let z : _≡_ {A = ℕ} 0 1 = cc in absurd (omega arith)
-    go false false true d q e = let z : _≡_ {A = ℕ} 0 1 = cc in absurd (omega arith)
-    go false false false true q e = eqb-true _ _ q
-    go false false false false q e = let z : _≡_ {A = ℕ} 0 1 = cc in absurd (omega arith)
 
 -- any record but a close leaves the book open
 stage-after : (a : Account) (k : ℕ) (v : List ℕ) → (weigh a k v .account .stage ≡ 3 → ⊥) → (k ≡ 8 → ⊥) → a .stage < 2
@@ -85,7 +74,7 @@ module _ (s : State) (v : List ℕ) (room : ℕ) (so : Written-so s 8 8 v room) 
       only (x ∷ y ∷ v) l e = absurd (omega arith)
 
   is-open : s .account .stage ≡ 1
-  unfolding inPlace
+  unfolding inPlace sortOf
   is-open =
       let place = passed (s .account) 8 v (weighed-passes (s .account) 8 v (so .still)) .place in
       let some = eqb-false (s .account .records) 0 (not-true _ place) in

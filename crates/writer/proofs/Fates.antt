@@ -8,21 +8,22 @@ use lib.ListN.{length}
 use lib.Dec.{eqb}
 use Rattle.codec.specs.Table.{recordMost}
 use borrow.Author.Tests.{ne-eqb}
+use Rattle.account.specs.Sorts.{isOfGroup}
 use Rattle.account.specs.declared.Refusal.{Refusal}
 use Rattle.book.specs.declared.State.{State}
 use Rattle.make_record.specs.declared.Answer.{Answer}
 use Rattle.make_record.specs.declared.Answer.the-variants as answers
 use Rattle.make_record.specs.declared.Written.{Written}
 use Rattle.make_record.specs.Write as writer
-use Rattle.typed_line.specs.declared.Entry.{Entry}
-use Rattle.typed_line.specs.declared.Line.{Line}
-use Rattle.typed_line.specs.declared.Said.{Said}
-use Rattle.typed_line.specs.declared.Said.the-variants as said
-use Rattle.typed_line.specs.Line.{lineOf, writeEntry}
+use Rattle.writer.specs.declared.typed_line.Entry.{Entry}
+use Rattle.writer.specs.declared.typed_line.Line.{Line}
+use Rattle.writer.specs.declared.typed_line.Said.{Said}
+use Rattle.writer.specs.declared.typed_line.Said.the-variants as said
+use Rattle.writer.specs.Line.{lineOf, writeEntry}
 use Rattle.writer.specs.declared.Typist.{Typist}
 use Rattle.writer.specs.declared.Fate.the-variants.{Nothing, Unread, Withheld, Waits, Without, Refused, Wrote}
 use Rattle.writer.specs.declared.Entered.{Entered}
-use Rattle.writer.specs.Typist.{inGroup, hears, early, runEnded, notRead, withholding, waits, unheaded, refusedAt, writtenAs, Turn, byAnswer}
+use Rattle.writer.specs.Typist.{hears, early, runEnded, notRead, withholding, waits, unheaded, refusedAt, writtenAs, Turn, byAnswer}
 use Rattle.writer.specs.Typist.{byWrite, closeBy, withheld, headless, judgedTurn, recordTurn, bySaid, turn, ownClose, endBy, closingTurn, endTurn}
 use Rattle.writer.specs.Typist.{enteredOf, enteredBy, laid}
 
@@ -141,11 +142,11 @@ module _ (t : Typist) (n : ℕ) (e : Entry) (room : ℕ) where
   gives-close h k g out =
       gives-same _ _ out (is-close t n e room h k) (g, close-waits (writeEntry (t .state) e recordMost .answer) t n e out)
 
-  pub gives-headless : {b : Bool} → b ≡ inGroup (e .kind) → b && not (eqb (t .lost .line) 0) ≡ true → {x : Typist} → x ≡ unheaded t n → (out : List ℕ)
+  pub gives-headless : {b : Bool} → b ≡ isOfGroup (e .kind) → b && not (eqb (t .lost .line) 0) ≡ true → {x : Typist} → x ≡ unheaded t n → (out : List ℕ)
       → Gives (recordTurn t n e room) out (record { typist = x; fate = Without; written = 0 }) out
   gives-headless i f g out = gives-same _ _ out (is-headless t n e room (rw i at f)) (rw g refl, refl)
 
-  pub gives-on : {b : Bool} → b ≡ inGroup (e .kind) → b && not (eqb (t .lost .line) 0) ≡ false → {u : Typist} → u ≡ runEnded t → (out : List ℕ)
+  pub gives-on : {b : Bool} → b ≡ isOfGroup (e .kind) → b && not (eqb (t .lost .line) 0) ≡ false → {u : Typist} → u ≡ runEnded t → (out : List ℕ)
       {r : Entered} {out′ : List ℕ} → Gives (judgedTurn u n e room) out r out′ → Gives (recordTurn t n e room) out r out′
   gives-on i f g out p = gives-same _ _ out (not-headless t n e room (rw i at f)) (rw g at p)
 

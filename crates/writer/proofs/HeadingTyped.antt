@@ -14,8 +14,8 @@ use Rattle.base.proofs.Tests.{and-l, and-r, of-choice, or-l, or-r, or-cases}
 use Rattle.codec.specs.Table.{lastKind, lastRow}
 use Rattle.account.specs.declared.Account.{Account}
 use Rattle.account.specs.Judge.{Step, headingServes, inPlace, accepted, weigh}
-use Rattle.account.specs.Sorts.{sortOf}
-use Rattle.account.proofs.Sorts.{by-sort, heads-two}
+use Rattle.account.specs.Sorts.{sortOf, isOfGroup}
+use Rattle.account.proofs.Sorts.{by-sort, heads-two, group-kinds}
 use Rattle.account.specs.declared.Refusal.{Refusal}
 use Rattle.account.specs.Account.{noRecord}
 use Rattle.account.proofs.Keeps.{in-range-none}
@@ -28,16 +28,16 @@ use Rattle.make_record.specs.declared.Answer.the-variants as answers
 use Rattle.make_record.specs.Write as writer
 use Rattle.make_record.proofs.Answers.{Written-so, written-so}
 use Rattle.make_record.proofs.AsReader.{stays-in-range}
-use Rattle.typed_line.specs.declared.Entry.{Entry}
-use Rattle.typed_line.specs.declared.Said.{Said}
-use Rattle.typed_line.specs.declared.Said.the-variants as said
-use Rattle.typed_line.specs.Line.{lineOf, entry, completedOf, valuesIn, writeEntry}
+use Rattle.writer.specs.declared.typed_line.Entry.{Entry}
+use Rattle.writer.specs.declared.typed_line.Said.{Said}
+use Rattle.writer.specs.declared.typed_line.Said.the-variants as said
+use Rattle.writer.specs.Line.{lineOf, entry, completedOf, valuesIn, writeEntry}
 use Rattle.text_lines.specs.Parts.{Numbered, numbered}
 use Rattle.writer.specs.declared.Typist.{Typist}
 use Rattle.writer.specs.declared.Fate.{Fate}
 use Rattle.writer.specs.declared.Fate.the-variants.{Nothing, Refused, Wrote}
 use Rattle.writer.specs.declared.Lost.{Lost}
-use Rattle.writer.specs.Typist.{inGroup, mayHead, notLost, lostBy, beginning, hears, early, runEnded, refusedAt, writtenAs, withheld, headless}
+use Rattle.writer.specs.Typist.{mayHead, notLost, lostBy, beginning, hears, early, runEnded, refusedAt, writtenAs, withheld, headless}
 use Rattle.writer.specs.Typist.{Turn, byAnswer, byWrite, closeBy, judgedTurn, recordTurn, bySaid, turn}
 use Rattle.writer.specs.Remarks.{kindWritten}
 use Rattle.writer.specs.Text.{lineTurn, typedBy}
@@ -45,20 +45,10 @@ use Rattle.writer.specs.Headings.{Mark, none, unknown, heading, markSaid
 
 -- ---- kinds
 
--- 3 to 5, or 10
-grouped-kinds : (k : ℕ) → inGroup k ≡ true → ((3 ≤ k) × (k ≤ 5)) ⊎ (k ≡ 10)
-grouped-kinds k g =
-    ⊎-elim (λ (t : leb 3 k && leb k 5 ≡ true). inl (leb-true 3 k (and-l (leb 3 k) (leb k 5) t), leb-true k 5 (and-r (leb 3 k) (leb k 5) t)))
-    (λ (t : eqb k 10 ≡ true). inr (eqb-true k 10 t)) (or-cases (leb 3 k && leb k 5) (eqb k 10) g)
-
-grouped-most : (k : ℕ) → inGroup k ≡ true → (3 ≤ k) × (k ≤ lastKind)
-grouped-most k g =
-    ⊎-elim (λ (b : (3 ≤ k) × (k ≤ 5)). (omega (arith, b .0), omega (arith, b .1))) (λ (e : k ≡ 10). (omega arith, omega arith)) (grouped-kinds k g)
-
-group-no-head : (k : ℕ) → inGroup k ≡ true → (eqb k 2 ≡ false) × (mayHead k ≡ false)
+group-no-head : (k : ℕ) → isOfGroup k ≡ true → (eqb k 2 ≡ false) × (mayHead k ≡ false)
 group-no-head k g =
-    let low : 3 ≤ k = grouped-most k g .0 in
-    let high : k ≤ lastKind = grouped-most k g .1 in
+    let low : 3 ≤ k = group-kinds k g .0 in
+    let high : k ≤ lastKind = group-kinds k g .1 in
     let two : eqb k 2 ≡ false = ne-eqb k 2 (λ (e : k ≡ 2). omega arith) in
     (two, rw (two, le-ltb k 1 (omega arith), le-ltb lastKind k (omega arith)))
 
@@ -73,36 +63,22 @@ heading-after a k v h n =
     (λ _. refl))
 
 -- a detail of the group is written under a heading only
-needs-class : (a : Account) (k : ℕ) (v : List ℕ) → (weigh a k v .account .stage ≡ 3 → ⊥) → inGroup k ≡ true → a .heading .class ≡ 0 → ⊥
+needs-class : (a : Account) (k : ℕ) (v : List ℕ) → (weigh a k v .account .stage ≡ 3 → ⊥) → isOfGroup k ≡ true → a .heading .class ≡ 0 → ⊥
 unfolding inPlace
 needs-class a k v h g z =
     let place = passed a k v (weighed-passes a k v h) .place in
-    let low : 3 ≤ k = grouped-most k g .0 in
+    let low : 3 ≤ k = group-kinds k g .0 in
     let one : eqb k 1 ≡ false = ne-eqb k 1 (λ (e : k ≡ 1). omega arith) in
-    let other : eqb k lastRow ≡ false = ne-eqb k lastRow (λ (e : k ≡ lastRow). omega (arith, grouped-most k g .1)) in
+    let other : eqb k lastRow ≡ false = ne-eqb k lastRow (λ (e : k ≡ lastRow). omega (arith, group-kinds k g .1)) in
     let serves = and-l (headingServes (a .heading .class) k) _ (rw (one, other) at place) in
-    no-class k (grouped-kinds k g) (rw z at serves)
+    no-class (eqb k 5) (rw (g, z) at serves)
   where
     zero-one : false ≡ true → ⊥
     zero-one q = let z : _≡_ {A = ℕ} 0 1 = cc in omega arith
 
-    by-tests : (b c : Bool) → (b ≡ false → c ≡ true) → pick b (leb 1 0 && leb 0 3) (pick c (eqb 0 4) true) ≡ true → ⊥
-    by-tests true c f q = zero-one q
-    by-tests false true f q = zero-one q
-    by-tests false false f q = zero-one (f refl)
-
-    no-class : (k : ℕ) → ((3 ≤ k) × (k ≤ 5)) ⊎ (k ≡ 10) → headingServes 0 k ≡ true → ⊥
-    no-class k b q =
-        by-tests (eqb k 3 || (eqb k 4 || eqb k 10)) (eqb k 5)
-        (λ f.
-        let rest = or-r (eqb k 3) (eqb k 4 || eqb k 10) f in
-        let three = eqb-false k 3 (or-l (eqb k 3) (eqb k 4 || eqb k 10) f) in
-        let four = eqb-false k 4 (or-l (eqb k 4) (eqb k 10) rest) in
-        eq-eqb k 5 (only k three four (eqb-false k 10 (or-r (eqb k 4) (eqb k 10) rest)) b)) q
-      where
-        only : (k : ℕ) → (k ≡ 3 → ⊥) → (k ≡ 4 → ⊥) → (k ≡ 10 → ⊥) → ((3 ≤ k) × (k ≤ 5)) ⊎ (k ≡ 10) → k ≡ 5
-        only k three four ten (inl b) = omega (arith, b .0, b .1)
-        only k three four ten (inr e) = absurd (ten e)
+    no-class : (b : Bool) → pick b (eqb 0 4) (leb 1 0 && leb 0 3) ≡ true → ⊥
+    no-class true q = zero-one q
+    no-class false q = zero-one q
 
 -- the row of some values of a kind: a heading's for headings alone, and the kind itself but for farm records
 no-head : (k count : ℕ) → (k ≡ 2 → ⊥) → writer.rowFor k count ≡ 2 → ⊥
@@ -191,7 +167,7 @@ module _ (m : Mark) (h : List ℕ) (t : Typist) (k : Kept m h t) (e : Entry) whe
 
   headless-keeps : headless t e ≡ true → (x : Typist) → x .state ≡ t .state → x .lost ≡ t .lost → Kept (markSaid said.Record e m) h x
   headless-keeps g x a b =
-      let p = group-no-head (e .kind) (and-l (inGroup (e .kind)) (not (eqb (t .lost .line) 0)) g) in
+      let p = group-no-head (e .kind) (and-l (isOfGroup (e .kind)) (not (eqb (t .lost .line) 0)) g) in
       stays (p .0) (p .1) x a b
 
   -- refused by the number code, which is 3 for a kind that the book has not
@@ -385,7 +361,7 @@ as-before t kind k j =
     record {
       entry = j .entry;
       kind = j .kind;
-      kept = ap (λ (l : Lost). inGroup (j .entry .kind) && not (eqb (l .line) 0)) (sym (early-lost u)) ∙ j .kept;
+      kept = ap (λ (l : Lost). isOfGroup (j .entry .kind) && not (eqb (l .line) 0)) (sym (early-lost u)) ∙ j .kept;
       wrote = ap (λ (s : State). writeEntry s (j .entry) 28 .answer) (sym (early-state u)) ∙ j .wrote;
     }
 
@@ -399,15 +375,15 @@ unfolding turn
 line-judged t l k q = said-judged (lineOf (textOf l) .said) t (l .number) (lineOf (textOf l) .entry) k q
 
 -- where the heading is kept, a written detail stands under it
-under-it : (m : Mark) (h : List ℕ) (t : Typist) → Kept m h t → (k : ℕ) → inGroup k ≡ true → Judged t k → Under m h
+under-it : (m : Mark) (h : List ℕ) (t : Typist) → Kept m h t → (k : ℕ) → isOfGroup k ≡ true → Judged t k → Under m h
 under-it m h t kept k g j =
     let so = written-so (t .state) _ _ _ 28 (j .wrote) in
     let same = completed-kind (j .entry) (t .state .account .records) ∙ j .kind in
     let kind = completedOf (j .entry) (t .state .account .records) .kind in
     let count = length (valuesIn (completedOf (j .entry) (t .state .account .records))) in
-    let grouped : inGroup kind ≡ true = rw same g in
-    let row : inGroup (writer.rowFor kind count) ≡ true = rw (own-row kind count (grouped-most kind grouped .0)) grouped in
-    let found : t .lost .line ≡ 0 = not-lost (inGroup (j .entry .kind)) (rw (j .kind) g) (j .kept) in
+    let grouped : isOfGroup kind ≡ true = rw same g in
+    let row : isOfGroup (writer.rowFor kind count) ≡ true = rw (own-row kind count (group-kinds kind grouped .0)) grouped in
+    let found : t .lost .line ≡ 0 = not-lost (isOfGroup (j .entry .kind)) (rw (j .kind) g) (j .kept) in
     ⊎-elim (λ z. absurd (needs-class (t .state .account) _ _ (so .still) row z)) (λ u. u) (kept .under found (so .ready .early))
   where
     not-lost : (b : Bool) → b ≡ true → b && not (eqb (t .lost .line) 0) ≡ false → t .lost .line ≡ 0
@@ -417,7 +393,7 @@ under-it m h t kept k g j =
 -- Every written detail of a typed book stands under the heading of the last line before it whose kind is a heading or none of the book's: that line
 -- says a heading, and its record is the last heading record written. The lines before it are any, with their numbers from 1 on.
 pub heading-typed : (lines : List (List ℕ)) (l : Numbered) (k : ℕ)
-    → lineTurn (typedBy (beginning noRecordYet) (numbered 1 lines) .typist) l .fate ≡ Wrote k → inGroup k ≡ true
+    → lineTurn (typedBy (beginning noRecordYet) (numbered 1 lines) .typist) l .fate ≡ Wrote k → isOfGroup k ≡ true
     → Under (lastMark none (numbered 1 lines)) (lastHeading [] (typedBy (beginning noRecordYet) (numbered 1 lines) .turns))
 heading-typed lines l k q g =
     under-it _ _ _ (lines-keep lines 1 (omega arith) none [] (beginning noRecordYet) kept-first) k g (line-judged _ l k q)

@@ -1,3 +1,6 @@
+pub mod TypedLines
+mod LineExamples
+pub mod OneLine
 pub mod Calls
 mod Commas
 pub mod ClosedMeansAll

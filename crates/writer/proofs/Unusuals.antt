@@ -6,7 +6,7 @@ use native.Mathlib.Omega.{arith}
 use mathlib.Core.Path.{_≡_, refl}
 use mathlib.Core.List.{List, [], _++_}
 use Rattle.base.specs.Choice.{pick, oneMore}
-use Rattle.typed_line.specs.declared.Entry.{Entry}
+use Rattle.writer.specs.declared.typed_line.Entry.{Entry}
 use Rattle.writer.specs.Unusual.{isUnusual, unusualFrom, oneRemark, remarksFrom}
 
 module _ (n i who : ℕ) (e : Entry) (count : ℕ) where

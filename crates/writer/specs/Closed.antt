@@ -6,10 +6,10 @@ use lib.ListN.{length}
 use Rattle.codec.specs.Codec.{recordBytes}
 use Rattle.make_record.specs.Write.{rowFor}
 use Rattle.text_lines.specs.Parts.{Numbered}
-use Rattle.typed_line.specs.declared.Entry.{Entry}
-use Rattle.typed_line.specs.declared.Said.{Said}
-use Rattle.typed_line.specs.declared.Said.the-variants as said
-use Rattle.typed_line.specs.Line.{lineOf, completedOf, valuesIn}
+use Rattle.writer.specs.declared.typed_line.Entry.{Entry}
+use Rattle.writer.specs.declared.typed_line.Said.{Said}
+use Rattle.writer.specs.declared.typed_line.Said.the-variants as said
+use Rattle.writer.specs.Line.{lineOf, completedOf, valuesIn}
 use Rattle.writer.specs.Headings.{textOf}
 
 -- the record that an entry says after n others: its kind and its values as they are typed; a close without its count counts those n

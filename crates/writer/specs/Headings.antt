@@ -8,10 +8,10 @@ use Rattle.base.specs.Choice.{pick}
 use Rattle.codec.specs.Codec.{recordBytes}
 use Rattle.text_lines.specs.Lines.{unmarked}
 use Rattle.text_lines.specs.Parts.{Numbered}
-use Rattle.typed_line.specs.declared.Entry.{Entry}
-use Rattle.typed_line.specs.declared.Said.{Said}
-use Rattle.typed_line.specs.declared.Said.the-variants as said
-use Rattle.typed_line.specs.Line.{lineOf, valuesIn}
+use Rattle.writer.specs.declared.typed_line.Entry.{Entry}
+use Rattle.writer.specs.declared.typed_line.Said.{Said}
+use Rattle.writer.specs.declared.typed_line.Said.the-variants as said
+use Rattle.writer.specs.Line.{lineOf, valuesIn}
 use Rattle.writer.specs.Typist.{mayHead, Turn}
 use Rattle.writer.specs.Remarks.{kindWritten}
 

@@ -1,3 +1,4 @@
+pub mod Line
 pub mod Closed
 pub mod Headings
 pub mod Parts

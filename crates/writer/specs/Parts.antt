@@ -9,7 +9,7 @@ use Rattle.text_lines.specs.declared.Cut.{Cut}
 use Rattle.text_lines.specs.declared.Cutting.{Cutting}
 use Rattle.text_lines.specs.Lines.{nextOf, cuttingOf, cutIn, unmarked}
 use Rattle.text_lines.specs.Parts.{Numbered, Cutter}
-use Rattle.typed_line.specs.Line.{lineOf}
+use Rattle.writer.specs.Line.{lineOf}
 use Rattle.writer.specs.declared.Typist.{Typist}
 use Rattle.writer.specs.declared.Typing.{Typing}
 use Rattle.writer.specs.Typist.{Turn, turn, endTurn}

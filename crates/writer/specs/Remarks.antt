@@ -14,8 +14,8 @@ use Rattle.typed_words.specs.Amounts.{amountOf}
 use Rattle.codec.specs.Table.{fields, lastRow}
 use Rattle.grams.specs.Round.{roundDiv}
 use Rattle.names.specs.Names.{kindName, kindNames, fieldName, fieldNames, isChoice, choicesOf, expected, decimalsAt, className, sentence, shown}
-use Rattle.typed_line.specs.declared.Entry.{Entry}
-use Rattle.typed_line.specs.Line.{rowOfLine, hasField}
+use Rattle.writer.specs.declared.typed_line.Entry.{Entry}
+use Rattle.writer.specs.Line.{rowOfLine, hasField}
 use Rattle.account.specs.declared.Account.{Account}
 use Rattle.account.specs.declared.Used.{Used}
 use Rattle.account.specs.declared.Refusal.{Refusal}

@@ -10,14 +10,15 @@ use lib.ListN.{length, getD, drop}
 use lib.Dec.{eqb, leb, ltb}
 use Rattle.base.specs.Choice.{pick, oneMore}
 use Rattle.codec.specs.Table.{lastKind, recordMost}
+use Rattle.account.specs.Sorts.{isOfGroup}
 use Rattle.book.specs.declared.State.{State}
 use Rattle.make_record.specs.declared.Answer.{Answer}
 use Rattle.make_record.specs.declared.Answer.the-variants as answers
 use Rattle.make_record.specs.Write.{Write}
-use Rattle.typed_line.specs.declared.Entry.{Entry}
-use Rattle.typed_line.specs.declared.Said.{Said}
-use Rattle.typed_line.specs.declared.Said.the-variants as said
-use Rattle.typed_line.specs.Line.{lineOf, entry, valuesIn, writeEntry}
+use Rattle.writer.specs.declared.typed_line.Entry.{Entry}
+use Rattle.writer.specs.declared.typed_line.Said.{Said}
+use Rattle.writer.specs.declared.typed_line.Said.the-variants as said
+use Rattle.writer.specs.Line.{lineOf, entry, valuesIn, writeEntry}
 use Rattle.writer.specs.Unusual.{unusualAfter}
 use Rattle.writer.specs.declared.Typist.{Typist}
 use Rattle.writer.specs.declared.Lost.{Lost}
@@ -29,10 +30,6 @@ use Rattle.writer.specs.declared.Fate.the-variants.{Nothing, Unread, Wit
 use Rattle.writer.specs.declared.Entered.{Entered}
 
 -- ---- what a kind is
-
--- a detail of the group, which needs a heading
-abbrev pub inGroup : ℕ → Bool
-inGroup k = (leb 3 k && leb k 5) || eqb k 10
 
 -- a heading, or none of the book's kinds: it may have been a heading
 abbrev pub mayHead : ℕ → Bool
@@ -257,7 +254,7 @@ withheld t e = eqb (e .kind) 8 && (eqb (t .state .account .stage) 1 && not (eqb 
 
 -- a detail of the group while the heading is lost
 abbrev pub headless : Typist → Entry → Bool
-headless t e = inGroup (e .kind) && not (eqb (t .lost .line) 0)
+headless t e = isOfGroup (e .kind) && not (eqb (t .lost .line) 0)
 
 -- the entry e in line n, for a buffer of room bytes, when no run is open
 unfoldable pub judgedTurn : Typist → ℕ → Entry → ℕ → Turn

@@ -12,7 +12,7 @@ use Rattle.names.specs.declared.usual.Usual.{Usual}
 use Rattle.names.specs.Names.{kindName, fieldName, unitText, valueText}
 use Rattle.names.specs.Usual.{usualOf, usualText}
 use Rattle.account.specs.declared.Account.{Account}
-use Rattle.typed_line.specs.declared.Entry.{Entry}
+use Rattle.writer.specs.declared.typed_line.Entry.{Entry}
 
 -- by what a range goes: grazing by its column, all others by the heading's class
 abbrev pub whoFor : Account → Entry → ℕ

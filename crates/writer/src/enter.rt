@@ -5,23 +5,24 @@ use crate::Fate;
 use crate::Heard;
 use crate::Lost;
 use crate::Typist;
+use crate::typed_line::Entry;
+use crate::typed_line::Line;
+use crate::typed_line::Said;
 use crate::unusual::unusual_after;
+use account::sort::is_of_group;
 use base::one_more;
 use book::State;
 use make_record::Answer;
 use make_record::Written;
-use typed_line::Entry;
-use typed_line::Line;
-use typed_line::Said;
 ghost use mathlib.Core.Path.{_≡_};
 ghost use Prim.Native.Nat.{_≤_};
 ghost use lib.ListN.{length};
 ghost use Rattle.base.specs.Choice.{pick, oneMore};
 ghost use Rattle.codec.specs.Table.{recordMost};
-ghost use Rattle.typed_line.specs.declared.Line.{Line};
-ghost use Rattle.typed_line.specs.Line.{writeEntry};
+ghost use Rattle.writer.specs.declared.typed_line.Line.{Line};
+ghost use Rattle.writer.specs.Line.{writeEntry};
 ghost use Rattle.writer.specs.Typist.{oneTold, oneUnread, oneRefused, oneWithout, oneWritten};
-ghost use Rattle.writer.specs.Typist.{inGroup, mayHead, firstFailed, lostBy, hears, early, runEnded, notRead, withholding, waits, unheaded};
+ghost use Rattle.writer.specs.Typist.{mayHead, firstFailed, lostBy, hears, early, runEnded, notRead, withholding, waits, unheaded};
 ghost use Rattle.writer.specs.Typist.{refusedAt, daysOfYear, writtenAs, withheld, headless, closeBy, judgedTurn, recordTurn, bySaid};
 ghost use Rattle.writer.specs.Typist.{closingTurn, endTurn, enteredOf, enteredBy, laid};
 
@@ -35,12 +36,6 @@ fn first_failed(failed: u64, number: u64) -> u64
     ensures { λ r. ⌜ r ≡ firstFailed failed number ⌝ }
 {
     chosen(failed == 0, number, failed)
-}
-
-fn in_group(kind: u64) -> bool
-    ensures { λ r. ⌜ r ≡ inGroup kind ⌝ }
-{
-    ((3 <= kind) & (kind <= 5)) | (kind == 10)
 }
 
 fn may_head(kind: u64) -> bool
@@ -273,7 +268,7 @@ fn enter_close(t: Typist, number: u64, e: Entry) -> Entered
 {
     let mut unused = [0u8; codec::RECORD_MOST];
     let state = t.state;
-    let w = typed_line::write_entry(state, e, &mut unused);
+    let w = crate::typed_line::write_entry(state, e, &mut unused);
     let answer = w.answer;
     match answer {
         Answer::Wrote => Entered {
@@ -307,7 +302,7 @@ fn judge_record(t: Typist, number: u64, e: Entry, out: &mut [u8]) -> Entered
     if e.kind == 8 {
         return enter_close(t, number, e);
     }
-    let w = typed_line::write_entry(state, e, out);
+    let w = crate::typed_line::write_entry(state, e, out);
     answered(t, number, e, w)
 }
 
@@ -316,7 +311,7 @@ fn enter_record(t: Typist, number: u64, e: Entry, out: &mut [u8]) -> Entered
     ensures result { λ r. ⌜ r ≡ enteredOf (recordTurn t number e (length (now (out .entry)))) ⌝ }
     ensures buffer { λ r. ⌜ now (out .exit) ≡ laid (recordTurn t number e (length (now (out .entry)))) (now (out .entry)) ⌝ }
 {
-    if in_group(e.kind) & (t.lost.line != 0) {
+    if is_of_group(e.kind) & (t.lost.line != 0) {
         return Entered {
             typist: unheaded(t, number),
             fate: Fate::Without,
@@ -362,7 +357,7 @@ fn close_book(t: Typist, out: &mut [u8]) -> Entered
         count: 0,
     };
     let state = t.state;
-    let w = typed_line::write_entry(state, own, out);
+    let w = crate::typed_line::write_entry(state, own, out);
     let answer = w.answer;
     match answer {
         Answer::Wrote => {

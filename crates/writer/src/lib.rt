@@ -1,4 +1,5 @@
 // A book typed line by line: what becomes of each line, and what the person who types is told.
+pub mod typed_line; // typed_line.rt: what a typed line says
 mod enter; // enter.rt: what becomes of a line, and of the end
 mod lines; // lines.rt: what is told of a line that failed
 mod groups; // groups.rt: what is told of a group
@@ -135,7 +136,7 @@ fn type_line(t: Typist, number: u64, text: &[u8], out: &mut [u8], remarks: &mut 
     ensures remark { λ r. ⌜ Said (now (remarks .entry)) (now (remarks .exit)) 0
         (lineBy t number (now (text .entry)) (length (now (out .entry))) .remark) (r .told) ⌝ }
 {
-    let line = typed_line::read_line(text);
+    let line = crate::typed_line::read_line(text);
     let e = enter::enter(t, number, line, out);
     let fate = e.fate;
     let typist = e.typist;

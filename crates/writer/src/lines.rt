@@ -1,12 +1,12 @@
 // What is told of a line that is not read or refused.
+use crate::typed_line::Entry;
+use crate::typed_line::has_field;
 use account::Account;
 use account::Refusal;
 use account::Used;
 use printing::say;
 use printing::say_number;
 use printing::say_pointed;
-use typed_line::Entry;
-use typed_line::has_field;
 ghost use mathlib.Core.Path.{_≡_};
 ghost use mathlib.Core.List.{_++_};
 ghost use Prim.Native.Nat.{_-_, _≤_};
@@ -165,7 +165,7 @@ pub(crate) fn say_unread(out: &mut [u8], at: usize, kind: u64, place: usize, tex
     if place == 1 {
         return say_no_kind(out, at, text);
     }
-    let row = typed_line::row_of_line(kind, text);
+    let row = crate::typed_line::row_of_line(kind, text);
     say_no_value(out, at, row, place - 1, text)
 }
 
@@ -404,7 +404,7 @@ fn say_ground(
     requires { ⌜ (at ≤ length (now out)) × (length (e .values) ≡ 13) ⌝ }
     ensures { λ r. ⌜ Said (now (out .entry)) (now (out .exit)) at (groundText refusal a e (now (text .entry))) r ⌝ }
 {
-    let row = typed_line::row_of_line(e.kind, text);
+    let row = crate::typed_line::row_of_line(e.kind, text);
     if refusal.code == 7 {
         return say_range(out, at, row, refusal.field as usize, text);
     }

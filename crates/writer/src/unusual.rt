@@ -1,4 +1,5 @@
 // Values that are unusual: they go in and are told.
+use crate::typed_line::Entry;
 use account::Account;
 use base::one_more;
 use names::say_field;
@@ -10,7 +11,6 @@ use names::usual::say_usual;
 use names::usual::usual_range;
 use printing::say;
 use printing::say_number;
-use typed_line::Entry;
 ghost use mathlib.Core.Path.{_≡_};
 ghost use Prim.Native.Nat.{_≤_};
 ghost use lib.ListN.{length};

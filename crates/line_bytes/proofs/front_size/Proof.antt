@@ -10,5 +10,6 @@ front-size-spec =
     tie.close
     (tie.spec
     (λ c. search needs)
+    (λ c. search needs)
     (λ c. rw (eq-eqb _ _ (c .if1 .taken)))
     (λ c. rw (ne-eqb _ _ (c .if1 .left))))

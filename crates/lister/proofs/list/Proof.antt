@@ -24,4 +24,4 @@ list-spec =
     let r = l .before .before .before in
     let n = length (r .before .before .before .args .out .now) in
     let e = length-take-le _ _ (room-most n _ (r .line-room .ensures)) ∙ r .line-room .ensures in
-    (lists-at _ _ _ _ e (l .list-by .ensures .0), l .list-by .ensures .1)))
+    (lists-at _ _ _ _ _ e (l .list-by .ensures .0), l .list-by .ensures .1)))

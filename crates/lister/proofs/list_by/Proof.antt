@@ -25,4 +25,4 @@ list-by-spec =
     let p = c .before .before .before in
     let f = p .before .before .before .before .before in
     let lines = f .before .before .before .before .before .args .lines .now in
-    (lists _ _ lines refl (f .feed .ensures .0) (f .feed .ensures .1 .0) (p .put-lines .ensures), f .feed .ensures .1 .1 .0)))
+    (lists _ _ _ lines refl (f .feed .ensures .0) (f .feed .ensures .1 .0) (p .put-lines .ensures), f .feed .ensures .1 .1 .0)))

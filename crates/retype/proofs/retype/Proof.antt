@@ -1,62 +1,25 @@
--- What is left to type makes the whole. Assumes nothing.
-use Prim.Native.Nat.{_-_}
-use mathlib.Core.Path.{ap}
+-- An account outside its ranges has no more records. Assumes nothing.
+use mathlib.Core.Path.{sym, refl, _∙_}
 use native.Mathlib.Omega.{arith}
 use borrow.Author.Needs.{needs}
 use borrow.Author.Tests.{not-true, not-false}
-use lib.ListN.{length, length-drop}
-use Rattle.retype.proofs.Steps.{Going, going-none, going-stop, going-on, going-end}
+use Rattle.account.proofs.Clauses.{in-range-parts}
+use Rattle.printing.proofs.Puts.{none}
 use Rattle.retype.proofs.retype.Statement.{statement}
 use Rattle.retype.proofs.retype.Tie as tie
-
-abbrev Inv-loop : tie.InvT-loop
-Inv-loop book out₀ state₀ at₀ end₀ left₀ out state at end left = Going state₀ book out₀ out state at end left
-
-abbrev μ-loop : tie.MeasureT-loop
-μ-loop book out₀ state₀ at₀ end₀ left₀ out state at end left = left
 
 pub retype-spec : {M : Type 1} → statement M
 retype-spec =
     tie.close
     (tie.spec
-    Inv-loop
-    μ-loop
-    (λ c. going-none _ _ _ (c .before .before .pre))
-    (λ c κs. c .before .loop .inv .inside)
-    (λ c κs. let i = c .before .before .before .loop .inv in omega (arith, i .room, i .size))
+    (λ c κs. tt)
     (λ c.
-    let c4 = c .before .before .before .before in
-    let c6 = c4 .before .before in
-    let c8 = c6 .before .before in
-    let c11 = c8 .before .before .before in
-    let l = c8 in omega (
-      arith,
-      c4 .next-record .ensures .1 .1,
-      ap length (c6 .rest-of .ensures),
-      length-drop (l .loop .at) (c11 .args .book .now),
-      l .loop .inv .inside,
-    ))
+    let out = sym (c .before .in-range .ensures) ∙ not-true _ (c .if1 .taken) in
+    (rw out (record { account = refl; taken = refl; more = refl; put = none _ 0 (omega arith) }), omega arith))
+    (λ c κs. in-range-parts _ (sym (c .before .before .in-range .ensures) ∙ not-false _ (c .before .if1 .left)))
     (λ c. search needs)
     (λ c.
-    let c6 = c .before .before .before .before .before .before in
-    let c8 = c6 .before .before in
-    let c9 = c8 .before in
-    let c10 = c9 .before in
-    let c13 = c10 .before .before .before in
-    let l = c10 in
-    let t = c6 .next-record .ensures in
-    let p = c8 .rest-of .ensures in (
-      going-stop (l .loop .inv) (c9 .loop-test .taken) p (t .0) (not-true _ (c .if1 .taken)),
-      omega (arith, t .1 .1, ap length p, length-drop (l .loop .at) (c13 .args .book .now), l .loop .inv .inside),
-    ))
-    (λ c. omega arith)
-    (λ c. omega arith)
-    (λ c.
-    let c6 = c .before .before .before .before .before .before in
-    let c8 = c6 .before .before in
-    let c9 = c8 .before in
-    let c10 = c9 .before in
-    let t = c6 .next-record .ensures in
-    going-on (c10 .loop .inv) (c9 .loop-test .taken) (c8 .rest-of .ensures) (t .0) (not-false _ (c .if1 .left)) (t .1 .0) (t .1 .1))
-    (λ c. search needs)
-    (λ c. (going-end (c .before .loop .inv) (omega arith), c .before .loop .inv .inside)))
+    let t = c .before .before in
+    let i = t .before .before in
+    let inside = sym (i .before .in-range .ensures) ∙ not-false _ (i .if1 .left) in
+    rw inside (t .type-records .ensures)))

@@ -17,13 +17,22 @@ eleven c = second-version (c .before .before .before .before .args .r .now) (c .
 
 returns-2 : tie.Need-returns-2
 unfolding table size
-returns-2 c = wrong-length _ lastRow _ 14 (eleven (c .before .before)) refl _ _ (c .before .if2 .taken) (c .wrong2 .ensures)
+returns-2 c =
+    let b = c .before .before in
+    wrong-length _ lastRow _ _ (eleven (b .before)) (omega (arith, b .bytes-of .ensures)) _ _ (c .before .if2 .taken) (c .wrong2 .ensures)
+
+read-requires : tie.Need-read-requires
+unfolding table size
+read-requires c κs = omega (arith, c .if2 .left, c .before .bytes-of .ensures)
 
 returns-3 : tie.Need-returns-3
 unfolding table size
 returns-3 c =
-    let e = c .before .before .before in
-    rw (right-length _ lastRow _ 14 (eleven e) refl (c .before .before .if2 .left), ← c .before .read .ensures) (c .weigh-factors .ensures)
+    let b = c .before .before .before in
+    rw (
+      right-length _ lastRow _ _ (eleven (b .before)) (omega (arith, b .bytes-of .ensures)) (c .before .before .if2 .left),
+      ← c .before .read .ensures,
+    ) (c .weigh-factors .ensures)
 
 pub by-version-spec : {M : Type 1} → statement M
 by-version-spec =
@@ -31,10 +40,12 @@ by-version-spec =
     (tie.spec
     (λ c. omega (arith, c .before .before .pre .2))
     (λ c. omega (arith, c .before .before .before .pre .2))
+    (λ c. omega arith)
     (λ c κs. tt)
     returns
+    (λ c κs. omega arith)
     (λ c κs. tt)
     returns-2
-    (λ c κs. omega (arith, c .if2 .left))
-    (λ c κs. let p = c .before .before .before .before .before .before .pre in (p .0, p .1))
+    read-requires
+    (λ c κs. let p = c .before .before .before .before .before .before .before .pre in (p .0, p .1))
     returns-3)

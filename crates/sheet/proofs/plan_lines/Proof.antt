@@ -4,11 +4,11 @@ use mathlib.Core.Path.{_≡_, sym, _∙_}
 use native.Mathlib.Omega.{arith}
 use lib.ListN.{length, drop, drop-of-length-le}
 use borrow.Author.Tests.{not-true, not-false}
-use Rattle.sheet.specs.Rows.{isLine}
+use Rattle.line_bytes.specs.Lines.{isLine}
 use Rattle.sheet.specs.Sheets.{rowsOf}
 use Rattle.sheet.specs.Code.{totalOf, answerAfter}
 use Rattle.sheet.proofs.Plans.{plan-over, plan-written}
-use Rattle.sheet.proofs.Exporting.{line-ahead, line-more, Going, going, going-wrong, going-on}
+use Rattle.sheet.proofs.Exporting.{long-enough, line-ahead, line-more, Going, going, going-wrong, going-on}
 use borrow.Author.Needs.{needs}
 use Rattle.sheet.proofs.plan_lines.Statement.{statement}
 use Rattle.sheet.proofs.plan_lines.Tie as tie
@@ -80,7 +80,7 @@ plan-lines-spec =
     wrong
     (λ c κs. passed c)
     (λ c κs. search needs)
-    (λ c κs. search needs)
+    (λ c κs. long-enough (c .before .before .before .before .rest-of .result .now) (passed (c .before .before)))
     (λ c. let e = ahead c in search needs)
     less
     again

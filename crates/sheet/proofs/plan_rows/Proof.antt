@@ -12,7 +12,7 @@ use Rattle.sheet.proofs.plan_rows.Tie as tie
 
 abbrev Inv-loop : tie.InvT-loop
 Inv-loop text from room total₀ i₀ row₀ total i row =
-    (i ≤ length text) × (row + 49 ≤ i) × Planned rowItem (λ n. n) (answer (each rowItem 2 (drop from text)) room) room total (drop i text) row
+    (i ≤ length text) × (row ≤ i) × Planned rowItem (λ n. n) (answer (each rowItem 2 (drop from text)) room) room total (drop i text) row
 
 abbrev μ-loop : tie.MeasureT-loop
 μ-loop text from room total₀ i₀ row₀ total i row = length text - i
@@ -43,7 +43,7 @@ field c =
     let l = c .before .before .before .before .before .before .before .loop in
     let text = c .before .before .before .before .before .before .before .before .before .args .text .now in
     let r = c .before .before .before .before .before .read-row in
-    let k = c .before .before .is-kind in
+    let k = c .before .before .is-line-kind in
     sym (plan-wrong (l .inv .2) 21 (omega (arith, length-drop (l .i) text))
     (row-field text (l .i) (r .result) (r .ensures) (k .result) (k .ensures) (c .before .before .before .if1 .left) (c .if2 .taken)))
 
@@ -55,7 +55,7 @@ shorter c =
     let l = c .before .before .before .before .before .before .before .before .before .loop in
     let text = c .before .before .before .before .before .before .before .before .before .before .before .args .text .now in
     let r = c .before .before .before .before .before .before .before .read-row in
-    let k = c .before .before .before .before .is-kind in
+    let k = c .before .before .before .before .is-line-kind in
     omega (
       arith,
       row-shorter text (l .i) (r .result) (r .ensures) (k .result) (k .ensures) (c .before .before .before .before .before .if1 .left)
@@ -70,11 +70,11 @@ again c =
     let l = c .before .before .before .before .before .before .before .before .before .loop in
     let text = c .before .before .before .before .before .before .before .before .before .before .before .args .text .now in
     let r = c .before .before .before .before .before .before .before .read-row in
-    let k = c .before .before .before .before .is-kind in
+    let k = c .before .before .before .before .is-line-kind in
     let g = c .before .before .before .before .before .if1 .left in
     let f = c .before .before .if2 .left in
     let o = l .inv .2 in
-    let size = c .before .line-size in
+    let size = c .before .size-of-kind in
     let more = shorter c in (
       r .ensures .inside,
       omega arith,
@@ -83,7 +83,7 @@ again c =
           (row-shorter text (l .i) (r .result) (r .ensures) (k .result) (k .ensures) g f)
           (c .add .ensures (o .sum) (o .holds)
           ∙ ap (λ (n : ℕ). totalOf (c .before .before .before .before .before .before .before .before .before .before .before .args .room)
-          (o .sum + n)) (size .ensures ∙ sym (line-length (r .result .kind) (r .result .values)))) refl,
+          (o .sum + n)) (size .ensures .0 ∙ sym (line-length (r .result .kind) (r .result .values)))) refl,
     )
 
 pub plan-rows-spec : {M : Type 1} → statement M

@@ -3,10 +3,11 @@ use mathlib.Core.Path.{_≡_, sym, ap, _∙_}
 use native.Mathlib.Omega.{arith}
 use lib.ListN.{length, drop, length-drop, drop-of-length-le}
 use lib.Seq.{drop-drop}
-use Rattle.sheet.specs.Rows.{lineRow}
+use Rattle.line_rows.specs.declared.Form.the-variants.{Sheet}
+use Rattle.line_rows.specs.Rows.{lineRow}
 use Rattle.sheet.specs.Sheets.{rowsOf, lineItem}
 use Rattle.sheet.specs.Code.{madeOf}
-use Rattle.sheet.proofs.Exporting.{Is, line-is, line-ahead, line-more, rows-start}
+use Rattle.sheet.proofs.Exporting.{long-enough, Is, line-is, line-ahead, line-more, rows-start}
 use Rattle.sheet.proofs.Writing.{Run, next-item, run-room, run-on, run-done}
 use borrow.Author.Needs.{needs}
 use Rattle.sheet.proofs.write_lines.Statement.{statement}
@@ -34,11 +35,11 @@ there c =
     let o = next-item (c .before .before .loop .inv .1) (some (c .before)) in
     line-is (c .rest-of .result .now) (o .piece) (o .rest) (ap lineItem (c .rest-of .ensures) ∙ o .first)
 
-room : tie.Need-put-line-row-requires Inv-loop μ-loop
+room : tie.Need-put-row-requires Inv-loop μ-loop
 room c κs =
     let r = c .before in
     let e = there r in
-    (e .line, run-room (r .before .before .loop .inv .1) (some (r .before)) (lineRow (r .rest-of .result .now)) (e .row))
+    (e .line, run-room (r .before .before .loop .inv .1) (some (r .before)) (lineRow Sheet (r .rest-of .result .now)) (e .row))
 
 ahead : (c : tie.After-front-size Inv-loop μ-loop)
     → c .before .before .before .before .before .before .before .loop .i + c .front-size .result ≤ length
@@ -69,7 +70,7 @@ again c =
     let rest : drop (l .i + c .front-size .result) lines ≡ next-item (l .inv .1) (some (r .before)) .rest =
     sym (drop-drop (c .front-size .result) (l .i) lines) ∙ ap (drop (c .front-size .result)) (sym (r .rest-of .ensures))
     ∙ ap (λ (n : ℕ). drop n (r .rest-of .result .now)) (c .front-size .ensures) ∙ e .rest in
-    (ahead c, run-on (l .inv .1) (some (r .before)) (e .row) rest (c .before .before .before .put-line-row .ensures))
+    (ahead c, run-on (l .inv .1) (some (r .before)) (e .row) rest (c .before .before .before .put-row .ensures))
 
 pub write-lines-spec : {M : Type 1} → statement M
 write-lines-spec =
@@ -80,7 +81,7 @@ write-lines-spec =
     loop-holds
     (λ c κs. search needs)
     room
-    (λ c κs. search needs)
+    (λ c κs. let r = c .before .before .before .before in long-enough (r .rest-of .result .now) (there r .line))
     (λ c. let e = ahead c in search needs)
     less
     again

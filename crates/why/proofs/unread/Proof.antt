@@ -1,3 +1,4 @@
+use mathlib.Core.Path.{sym, _∙_}
 use native.Mathlib.Omega.{arith}
 use borrow.Author.Needs.{needs}
 use Rattle.why.proofs.ValuesFound.{says-short, says-bad, says-missing, front-begun, good-small}
@@ -10,13 +11,19 @@ unread-spec =
     (tie.spec
     (λ c. says-short _ _ _ (c .if1 .taken))
     (λ c κs. search needs)
+    (λ c κs. tt)
     (λ c κs. search needs)
-    (λ c. says-bad _ _ _ (c .before .before .before .if1 .left) (rw (c .before .before .be16 .ensures) at (c .before .if2 .taken))
-    (c .broken-length .ensures))
-    (λ c. omega (arith, good-small (c .before .be16 .result) (c .if2 .left)))
     (λ c.
-    let s = c .before .before .before .before in
-    let b = front-begun _ (c .before .before .if1 .left) (rw (c .before .be16 .ensures) at (c .if2 .left)) (s .pre .0) in
-    omega (arith, b .0, c .before .be16 .ensures))
-    (λ c. says-missing _ _ _ (c .before .before .if1 .left) (rw (c .before .be16 .ensures) at (c .if2 .left))
-    (c .before .before .before .before .pre .0) (c .before .be16 .ensures)))
+    let b = c .before .before in
+    says-bad _ _ _ (b .before .before .if1 .left) (rw (b .before .be16 .ensures) at (sym (b .bad-length .ensures) ∙ c .before .if2 .taken))
+    (c .broken-length .ensures))
+    (λ c. let b = c .before in omega (arith, good-small (b .before .be16 .result) (sym (b .bad-length .ensures) ∙ c .if2 .left)))
+    (λ c.
+    let b = c .before in
+    let s = b .before .before .before .before in
+    let f = front-begun _ (b .before .before .if1 .left) (rw (b .before .be16 .ensures) at (sym (b .bad-length .ensures) ∙ c .if2 .left)) (s .pre .0) in
+    omega (arith, f .0, b .before .be16 .ensures))
+    (λ c.
+    let b = c .before in
+    says-missing _ _ _ (b .before .before .if1 .left) (rw (b .before .be16 .ensures) at (sym (b .bad-length .ensures) ∙ c .if2 .left))
+    (b .before .before .before .before .pre .0) (b .before .be16 .ensures)))

@@ -1,17 +1,37 @@
--- Past the last row there are none; else the code's table is that of the specification, row by row. Assumes nothing.
-use mathlib.Core.Path.{sym, ap}
+-- Past the last row there are none; else a row ends where the next begins. Assumes nothing.
+use mathlib.Core.Path.{_≡_, sym, ap}
+use Prim.Native.Nat.{_+_}
 use native.Mathlib.Omega.{arith}
-use borrow.Author.Needs.{needs}
-use lib.ListN.{length}
-use Rattle.codec.specs.Table.{table}
-use Rattle.codec.proofs.Columns.{of-row}
+use lib.ListN.{length, getD}
+use Rattle.codec.specs.Table.{table, fields}
+use Rattle.codec.proofs.Columns.{begins, row-ends}
 use Rattle.codec.proofs.EachKind.{no-fields}
 use Rattle.codec.proofs.kinds.values_of.Statement.{statement}
 use Rattle.codec.proofs.kinds.values_of.Tie as tie
 
-returns-2 : tie.Need-returns-2
+-- the row ends where the next begins
+ends : (c : tie.Else1)
+    → getD (begins 0 table) (c .before .args .row + 1) 0 ≡ getD (begins 0 table) (c .before .args .row) 0 + length (fields (c .before .args .row))
 unfolding table
-returns-2 c = of-row length table (c .before .args .row) (omega (arith, c .if1 .left))
+ends c = row-ends table (c .before .args .row) (omega (arith, c .if1 .left))
+
+sub-result : tie.Need-sub-result
+unfolding begins table
+sub-result c = omega (arith, ends c)
+
+returns-2 : tie.Need-returns-2
+unfolding begins table
+returns-2 c = omega (arith, ends c)
 
 pub values-of-spec : {M : Type 1} → statement M
-values-of-spec = tie.close (tie.spec (λ c. sym (ap length (no-fields _ (c .if1 .taken)))) (λ c. search needs) (λ c. search needs) returns-2)
+values-of-spec =
+    tie.close
+    (tie.spec
+    (λ c. sym (ap length (no-fields _ (c .if1 .taken))))
+    (λ c. omega arith)
+    (λ c. omega arith)
+    (λ c. omega arith)
+    (λ c. omega arith)
+    (λ c. omega arith)
+    sub-result
+    returns-2)

@@ -19,7 +19,7 @@ reach-spec =
     (λ c κs. tt)
     (λ c. walked-none _ _ _ (c .new .ensures))
     (λ c κs. c .before .loop .inv .inside)
-    (λ c κs. tt)
+    (λ c κs. c .before .before .loop .inv .range)
     (λ c.
     let s = c .before .before in
     let r = s .before in

@@ -19,7 +19,10 @@ say-entry-spec =
     (λ c κs. search needs)
     (λ c. search needs)
     (λ c κs. search needs)
-    (λ c κs. search needs)
+    (λ c κs.
+    let k = c .before .before .before .before .before .before .before .before .before .before in
+    let n = k .before .before .before .before .before .before .before .before .before .before in
+    let s = n .before .before .before .before .before .before .before .before .before .before .before in (search needs, s .pre .1))
     (λ c. search needs)
     (λ c.
     let p7 = c .before .before in

@@ -24,4 +24,4 @@ say-lines-spec =
     let i = l .before .before in
     let s = i .before .before .before in
     let t = f .first-of .ensures ∙ text-at-start (l .list .ensures .0 .text) in
-    rw (told-lines (s .args .a) _ (s .args .r .now) _ _ (i .idle .ensures) refl t) at (c .before .before .say .ensures)))
+    rw (told-lines (s .args .a) (s .args .r .now) (s .pre .1) _ _ _ (i .idle .ensures) refl t) at (c .before .before .say .ensures)))

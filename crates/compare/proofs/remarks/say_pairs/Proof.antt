@@ -1,6 +1,6 @@
 use Prim.Native.Nat.{_-_}
 use native.Mathlib.Omega.{arith}
-use Rattle.compare.proofs.Tellings.{PairTelling, pairs-none, pairs-far, pairs-inside, pairs-inside′, pairs-end, pairs-on, long-enough}
+use Rattle.compare.proofs.Tellings.{PairTelling, pairs-none, pairs-far, pairs-inside, pairs-inside′, pairs-end, pairs-on}
 use Rattle.compare.proofs.remarks.say_pairs.Statement.{statement}
 use Rattle.compare.proofs.remarks.say_pairs.Tie as tie
 
@@ -21,7 +21,7 @@ say-pairs-spec =
     (λ c. pairs-none _ _ _ _ _ _ _ _ (c .before .before .before .reach .ensures) (c .before .before .reach2 .ensures))
     (λ c κs. c .before .loop .inv .inside)
     (λ c κs. c .before .before .loop .inv .inside′)
-    (λ c κs. tt)
+    (λ c κs. let i = c .before .before .before .loop .inv in (i .range, i .range′))
     (λ c. c .before .before .before .before .before .before .loop .inv .long)
     (λ c. pairs-end _ _ _ _ _ _ _ _ _ _ _ _ _ _ _ (c .before .before .before .before .before .before .loop .inv) _ _
     (c .before .before .before .before .rest-of .ensures) (c .before .before .before .rest-of2 .ensures) _ (c .before .before .look .ensures)
@@ -38,7 +38,7 @@ say-pairs-spec =
     (λ c κs.
     let u = c .before .before .before .before .before .look .ensures in (
       c .before .before .before .before .before .before .before .before .before .loop .inv .room,
-      long-enough _ _ _ (c .first-of .ensures) (u .inside) (u .some (omega (arith, c .before .before .before .if1 .left)) .0),
+      rw (c .first-of .ensures) (u .readable (omega (arith, c .before .before .before .if1 .left))),
     ))
     (λ c. let l = c .before .before .before .before .before .before .before .before .before .before .before .before .before .before .loop .inv in
     omega (
@@ -53,8 +53,8 @@ say-pairs-spec =
     let u = c .before .before .before .before .before .before .before .before .before .before .before .look .ensures in
     let s = c .before .before .before .before .before .say-other .ensures in (
       omega (arith, s .put .room, s .long),
-      long-enough _ _ _ (c .first-of2 .ensures) (u .inside′)
-          (u .some (omega (arith, c .before .before .before .before .before .before .before .before .before .if1 .left)) .1),
+      rw (c .first-of2 .ensures)
+          (u .readable′ (omega (arith, c .before .before .before .before .before .before .before .before .before .if1 .left))),
     ))
     (λ c. omega (
       arith,

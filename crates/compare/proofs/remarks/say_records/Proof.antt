@@ -1,6 +1,6 @@
 use Prim.Native.Nat.{_-_}
 use native.Mathlib.Omega.{arith}
-use Rattle.compare.proofs.Tellings.{Telling, telling-none, telling-far, tell-inside, telling-ends, telling-on, long-enough}
+use Rattle.compare.proofs.Tellings.{Telling, telling-none, telling-far, tell-inside, telling-ends, telling-on}
 use Rattle.compare.proofs.remarks.say_records.Statement.{statement}
 use Rattle.compare.proofs.remarks.say_records.Tie as tie
 
@@ -19,7 +19,7 @@ say-records-spec =
     (λ c κs. tt)
     (λ c. telling-none _ _ _ _ _ _ (c .before .reach .ensures))
     (λ c κs. c .before .loop .inv .inside)
-    (λ c κs. tt)
+    (λ c κs. c .before .before .loop .inv .range)
     (λ c. c .before .before .before .before .before .loop .inv .long)
     (λ c. telling-ends _ _ _ _ _ _ _ _ _ _ _ (c .before .before .before .before .before .loop .inv) _ (c .before .before .before .rest-of .ensures) _
     (c .before .before .step .ensures) (c .if1 .taken))
@@ -27,7 +27,7 @@ say-records-spec =
     (λ c κs.
     let u = c .before .before .before .before .step .ensures in (
       c .before .before .before .before .before .before .before .loop .inv .room,
-      long-enough _ _ _ (c .first-of .ensures) (u .inside) (u .some (omega (arith, c .before .before .if1 .left))),
+      rw (c .first-of .ensures) (u .readable (omega (arith, c .before .before .if1 .left))),
     ))
     (λ c. omega (
       arith,

@@ -10,11 +10,13 @@ look-spec =
     tie.close
     (tie.spec
     (λ c. search needs)
-    (λ c κs. search needs)
+    (λ c κs. (c .before .before .before .pre .0, search needs))
     (λ c. search needs)
-    (λ c κs. search needs)
-    (λ c. looked-none _ _ _ _ _ _ (c .before .before .before .before .before .before .before .turn .ensures .0)
-    (c .before .before .before .before .turn2 .ensures .0) (c .if1 .taken))
+    (λ c κs. (c .before .before .before .before .before .before .pre .1, search needs))
+    (λ c.
+    let t = c .before .before .before .before .before .before .before in
+    let s = t .before .before .before .before in
+    looked-none _ _ _ _ _ _ (t .turn .ensures .0) (c .before .before .before .before .turn2 .ensures .0) (s .pre .0) (s .pre .1) (c .if1 .taken))
     (λ c κs.
     let p = c .before .before .before .before .before .before .before .turn .ensures .0 in
     let q = c .before .before .before .before .turn2 .ensures .0 in

@@ -22,7 +22,7 @@ runs-spec =
     (λ c. pairing-none _ _ _ _ _ _ (c .before .before .before .reach .ensures) (c .before .before .reach2 .ensures))
     (λ c κs. c .before .loop .inv .inside)
     (λ c κs. c .before .before .loop .inv .inside′)
-    (λ c κs. tt)
+    (λ c κs. let i = c .before .before .before .loop .inv in (i .range, i .range′))
     (λ c.
     let k = c .before .before in
     let f = k .before in

@@ -15,7 +15,7 @@ use Rattle.rules.proofs.cattle.weigh.Tie as tie
 
 -- a value out of its range, so that one of the three refuses
 returns : tie.Need-returns
-unfolding inPlace
+unfolding inPlace sortOf
 returns c =
     let place = cattle-place _ (c .before .before .before .before .before .before .pre .0) _ (c .before .before .before .cattle-placed .ensures) in
     let bad = c .before .before .before .before .first-bad .ensures in
@@ -26,7 +26,7 @@ returns c =
     (c .stopped .ensures)
 
 returns-2 : tie.Need-returns-2
-unfolding inPlace
+unfolding inPlace sortOf
 returns-2 c =
     stops _ 4 _ _ _ _
     (cattle-place _ (c .before .before .before .before .before .before .before .pre .0) _ (c .before .before .before .before .cattle-placed .ensures))
@@ -35,7 +35,7 @@ returns-2 c =
 
 passed : (c : tie.Else2) → Passes (c .before .before .before .before .before .before .args .a) 4
     (c .before .before .before .before .before .before .args .t2)
-unfolding inPlace
+unfolding inPlace sortOf
 passed c =
     passes _ 4 _ _ _ _ (cattle-place _ (c .before .before .before .before .before .before .pre .0) _ (c .before .before .before .cattle-placed .ensures))
     (sym (c .before .before .if1 .left) ∙ c .before .before .before .before .first-bad .ensures) (c .before .barred2 .ensures)
@@ -143,6 +143,7 @@ weigh-spec =
     (λ c κs. tt)
     (λ c. search needs)
     (λ c κs. tt)
+    (λ c. search needs)
     grouped-detail-requires
     returns-5
     returns-6)

@@ -14,14 +14,14 @@ use Rattle.rules.proofs.grazing.weigh.Statement.{statement}
 use Rattle.rules.proofs.grazing.weigh.Tie as tie
 
 returns : tie.Need-returns
-unfolding inPlace
+unfolding inPlace sortOf
 returns c =
     stops _ 10 _ _ _ _ (cattle-place _ (c .before .before .before .before .before .before .pre .0) _ (c .before .before .before .cattle-placed .ensures))
     (c .before .before .before .before .first-bad .ensures)
     (c .before .before .barred .ensures) _ _ (c .before .if1 .taken) (c .stopped .ensures)
 
 passed : (c : tie.Else1) → Passes (c .before .before .before .before .before .args .a) 10 (c .before .before .before .before .before .args .t2)
-unfolding inPlace
+unfolding inPlace sortOf
 passed c =
     passes _ 10 _ _ _ _ (cattle-place _ (c .before .before .before .before .before .pre .0) _ (c .before .before .cattle-placed .ensures))
     (c .before .before .before .first-bad .ensures) (c .before .barred .ensures)
@@ -82,6 +82,7 @@ weigh-spec =
     (λ c. search needs)
     grazing-requires
     (λ c κs. tt)
+    (λ c. search needs)
     (λ c. search needs)
     grouped-detail-requires
     returns-3)

@@ -14,14 +14,14 @@ use Rattle.rules.proofs.pig.weigh.Statement.{statement}
 use Rattle.rules.proofs.pig.weigh.Tie as tie
 
 returns : tie.Need-returns
-unfolding inPlace
+unfolding inPlace sortOf
 returns c =
     stops _ 5 _ _ _ _ (pig-place _ (c .before .before .before .before .before .before .pre .0) _ (c .before .before .before .pig-placed .ensures))
     (c .before .before .before .before .first-bad .ensures)
     (c .before .before .barred .ensures) _ _ (c .before .if1 .taken) (c .stopped .ensures)
 
 passed : (c : tie.Else1) → Passes (c .before .before .before .before .before .args .a) 5 (c .before .before .before .before .before .args .t2)
-unfolding inPlace
+unfolding inPlace sortOf
 passed c =
     passes _ 5 _ _ _ _ (pig-place _ (c .before .before .before .before .before .pre .0) _ (c .before .before .pig-placed .ensures))
     (c .before .before .before .first-bad .ensures) (c .before .barred .ensures)
@@ -98,5 +98,6 @@ weigh-spec =
     (λ c. search needs)
     manure-requires
     (λ c κs. tt)
+    (λ c. search needs)
     grouped-detail-requires
     returns-4)

@@ -10,13 +10,13 @@ use Rattle.rules.proofs.soil.weigh.Statement.{statement}
 use Rattle.rules.proofs.soil.weigh.Tie as tie
 
 returns : tie.Need-returns
-unfolding inPlace
+unfolding inPlace sortOf
 returns c =
     stops _ 7 _ _ _ _ (c .before .before .before .begun .ensures) (c .before .before .before .before .first-bad .ensures)
     (c .before .before .barred .ensures) _ _ (c .before .if1 .taken) (c .stopped .ensures)
 
 passed : (c : tie.Else1) → Passes (c .before .before .before .before .args .a) 7 (c .before .before .before .before .args .t2)
-unfolding inPlace
+unfolding inPlace sortOf
 passed c =
     passes _ 7 _ _ _ _ (c .before .before .begun .ensures) (c .before .before .before .first-bad .ensures) (c .before .barred .ensures) (c .if1 .left)
 
@@ -50,5 +50,6 @@ weigh-spec =
     (λ c. search needs)
     (λ c κs. soil-in _ (passed c .ranges))
     (λ c κs. tt)
+    (λ c. search needs)
     detailed-requires
     returns-2)

@@ -11,13 +11,13 @@ dropped-by-spec =
     (λ c κs. tt)
     (λ c.
     let g = c .before in
-    let under = rw (g .of-group .ensures) at (c .if2 .taken) in
+    let under = rw (g .is-of-group .ensures) at (c .if2 .taken) in
     rw (g .before .if1 .left, under))
     (λ c.
     let g = c .before .before in
-    let under = rw (g .of-group .ensures) at (c .before .if2 .left) in
+    let under = rw (g .is-of-group .ensures) at (c .before .if2 .left) in
     rw (g .before .if1 .left, under, c .if3 .taken))
     (λ c.
     let g = c .before .before in
-    let under = rw (g .of-group .ensures) at (c .before .if2 .left) in
+    let under = rw (g .is-of-group .ensures) at (c .before .if2 .left) in
     rw (g .before .if1 .left, under, c .if3 .left)))

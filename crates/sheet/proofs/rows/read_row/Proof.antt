@@ -1,7 +1,7 @@
 use Prim.Native.Nat.{_-_}
 use mathlib.Core.Path.{_≡_, refl}
 use lib.ListN.{drop}
-use Rattle.sheet.specs.Rows.{columns, readRow, kindIn}
+use Rattle.sheet.specs.Rows.{columnCount, columns, readRow, kindIn}
 use Rattle.sheet.proofs.Reading.{SoFar, started, one-more, all-read}
 use borrow.Author.Needs.{needs}
 use Rattle.sheet.proofs.rows.read_row.Statement.{statement}
@@ -12,7 +12,7 @@ Inv-loop text at kind good₀ fits₀ values₀ end₀ j₀ good fits values end
     (readRow (columns kind) (drop at text)) good fits values end j
 
 abbrev μ-loop : tie.MeasureT-loop
-μ-loop text at kind good₀ fits₀ values₀ end₀ j₀ good fits values end j = 9 - j
+μ-loop text at kind good₀ fits₀ values₀ end₀ j₀ good fits values end j = columnCount - j
 
 again : tie.Need-loop-again Inv-loop μ-loop
 again c =

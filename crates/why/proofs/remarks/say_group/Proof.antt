@@ -13,10 +13,10 @@ say-group-spec =
     (λ c κs. search needs)
     (λ c. search needs)
     (λ c. rw (
-      ← c .before .before .before .before .before .before .before .before .before .before .of-group .ensures,
+      ← c .before .before .before .before .before .before .before .before .before .before .is-of-group .ensures,
       c .before .before .before
           .before .before .before .before .before .before .if1 .taken,
     ) (
     c .before .before .before .before .before .before .say .ensures
     ⟫ c .before .before .say-number .ensures))
-    (λ c. rw (← c .before .of-group .ensures, c .if1 .left) (said-none (c .before .before .before .pre))))
+    (λ c. rw (← c .before .is-of-group .ensures, c .if1 .left) (said-none (c .before .before .before .pre))))

@@ -13,7 +13,7 @@ enter-record-spec =
     (λ c κs. search needs)
     (λ c. gives-headless (c .before .before .before .before .before .args .t) (c .before .before .before .before .before .args .number)
     (c .before .before .before .before .before .args .e) (length (c .before .before .before .before .before .args .out .now))
-    (c .before .before .before .in-group .ensures) (c .before .if1 .taken) (c .unheaded .ensures)
+    (c .before .before .before .is-of-group .ensures) (c .before .if1 .taken) (c .unheaded .ensures)
     (c .before .before .before .before .before .args .out .now))
     (λ c κs. search needs)
     (λ c κs. search needs)
@@ -22,6 +22,6 @@ enter-record-spec =
     (c .before .before .before .before .before .before .before .before .before .args .number)
     (c .before .before .before .before .before .before .before .before .before .args .e) (length
     (c .before .before .before .before .before .before .before .before .before .args .out .now))
-    (c .before .before .before .before .before .before .before .in-group .ensures) (c .before .before .before .before .before .if1 .left)
+    (c .before .before .before .before .before .before .before .is-of-group .ensures) (c .before .before .before .before .before .if1 .left)
     (c .before .before .before .before .run-ended .ensures) (c .before .before .before .before .before .before .before .before .before .args .out
     .now) (c .before .before .judge-record .ensures)))

@@ -7,7 +7,7 @@ use lib.ListN.{length}
 use Rattle.codec.proofs.Rows.{fields-few}
 use Rattle.printing.specs.Said.{Said}
 use Rattle.printing.proofs.Sayings.{_⟫_, said-none}
-use Rattle.typed_line.specs.declared.Entry.{Entry}
+use Rattle.writer.specs.declared.typed_line.Entry.{Entry}
 use Rattle.writer.specs.Unusual.{remarksFrom}
 use Rattle.writer.proofs.Unusuals.{one-said, none-said}
 use borrow.Author.Needs.{needs}

@@ -1,9 +1,0 @@
-use Rattle.why.proofs.GroupKinds.{of-group-is}
-use Rattle.why.proofs.remarks.of_group.Statement.{statement}
-use Rattle.why.proofs.remarks.of_group.Tie as tie
-
-pub of-group-spec : {M : Type 1} → statement M
-of-group-spec =
-    tie.close
-    (tie.spec
-    (λ c. of-group-is _))
