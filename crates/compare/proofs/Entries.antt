@@ -6,11 +6,11 @@ use mathlib.Core.List.{List, [], _∷_, _++_, append-nil}
 use mathlib.Core.Bool.{true, false, _||_}
 use native.Mathlib.Omega.{arith}
 use native.Mathlib.Nat.{sub-zero}
-use borrow.Author.Tests.{eqb-true, eqb-false, le-leb}
+use borrow.Author.Tests.{eqb-false, le-leb}
 use lib.ListN.{length, take, drop, length-append}
 use lib.Dec.{eqb}
 use lib.Seq.{take-all, take-length, take-append-seam}
-use Rattle.base.proofs.Tests.{by-test, neither}
+use Rattle.base.proofs.Tests.{neither}
 use Rattle.codec.specs.Codec.{valAt}
 use Rattle.line_bytes.specs.Lines.{linesMost}
 use Rattle.account.specs.declared.Account.{Account}
@@ -24,13 +24,13 @@ use Rattle.book.specs.Front.{whole, need, front}
 use Rattle.book.specs.State.{holding}
 use Rattle.book.specs.Run.{run}
 use Rattle.book.specs.Call.{Call, call, fits}
-use Rattle.book.specs.Walk.{linesOf, nextOf, linesNext, entriesAfter}
+use Rattle.book.specs.Walk.{linesOf, nextOf, linesNext}
 use Rattle.book.proofs.Fronts.{is-whole}
 use Rattle.book.proofs.Ranges.{range-idle}
 use Rattle.book.proofs.RecordRuns.{record-whole, book-one}
 use Rattle.book.proofs.Longest.{longest-top}
 use Rattle.book.proofs.Calls.{call-at}
-use Rattle.book.proofs.Walks.{Stands, stands, entries-none, entries-stop, entries-next}
+use Rattle.book.proofs.Walks.{Stands, stands, entries-next, entries-end}
 use Rattle.lister.specs.Listing.{linesText, lineRoom}
 use Rattle.compare.specs.declared.cursor.Taken.{Taken}
 use Rattle.compare.specs.Inner.{Readable, Turned, Written}
@@ -47,13 +47,10 @@ module _ (a : Account) (xs : List ℕ) (t : Next) (e : t ≡ nextOf a xs) (v : A
   -- there is none, or it is refused
   pub turned-none : eqb (t .size) 0 || eqb (t .account .stage) 3 ≡ true → Turned a xs (noMore a)
   turned-none h =
-      let none : entriesAfter a xs ≡ [] =
-      by-test (eqb (t .size) 0) (λ z. entries-none a xs t e (eqb-true _ _ z))
-      (λ z. entries-stop a xs t e (eqb-false _ _ z) (eqb-true _ _ (rw z at h))) in
       record {
         inside = omega arith;
         some = λ k. absurd (omega arith);
-        ended = λ z. none;
+        ended = λ z. entries-end a xs t e h;
         goes = λ k. absurd (omega arith);
         readable = λ k. absurd (omega arith);
         range = v;
