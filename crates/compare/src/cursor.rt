@@ -31,11 +31,9 @@ pub(crate) struct Cursor {
 pub(crate) fn idle(a: Account) -> State
     ensures { λ r. ⌜ r ≡ holding a [] ⌝ }
 {
-    State {
-        account: a,
-        held: [0; 27],
-        count: 0,
-    }
+    let mut s = State::new();
+    s.account = a;
+    s
 }
 
 // The next accepted record of xs, and its lines at the start of a buffer that has room for those of any record.
