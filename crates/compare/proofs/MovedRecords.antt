@@ -4,17 +4,16 @@ use Prim.Native.Nat.{ℕ, zero, suc, _+_, _-_, _≤_, _<_}
 use native.Mathlib.Nat.{sub-zero}
 use mathlib.Core.Path.{_≡_, refl, sym, ap, _∙_}
 use mathlib.Core.List.{List, [], _∷_}
-use mathlib.Core.Bool.{Bool, true, false, _&&_, _||_, not}
+use mathlib.Core.Bool.{Bool, true, false, _&&_, not}
 use native.Mathlib.Omega.{arith}
-use borrow.Author.Tests.{eqb-true, ne-eqb}
+use borrow.Author.Tests.{ne-eqb}
 use lib.ListN.{length, take, drop, length-drop}
 use lib.Seq.{drop-drop}
 use lib.Dec.{eqb}
 use Rattle.base.specs.Choice.{pick}
-use Rattle.codec.specs.Table.{rowOf, lastRow}
-use Rattle.base.proofs.Tests.{by-test, of-choice, not-true, not-false, and-l, and-r}
+use Rattle.base.proofs.Tests.{of-choice, not-true, not-false}
 use Rattle.account.specs.declared.Account.{Account}
-use Rattle.account.specs.declared.sort.Sort.the-variants.{OfGroup, OfFarm}
+use Rattle.account.specs.declared.sort.Sort.{Sort}
 use Rattle.account.specs.Sorts.{sortOf, bySort}
 use Rattle.book.specs.Front.{whole, need, front}
 use Rattle.book.specs.WholeRecords.{Ready, recordsOf}
@@ -22,7 +21,8 @@ use Rattle.book.proofs.WholeRecords.{records-whole}
 use Rattle.book.proofs.RecordRuns.{record-in}
 use Rattle.book.proofs.Fronts.{meaning}
 use Rattle.compare.specs.declared.cursor.Cursor.{Cursor}
-use Rattle.account.specs.Judge.{judge}
+use Rattle.account.specs.Judge.{kindOf, judge}
+use Rattle.promises.specs.WholeLines.{isDetail}
 use Rattle.book.specs.Walk.{accepts, Entry, entryOf, recordsIn, entriesFrom, entriesAfter, entriesOf}
 use Rattle.compare.specs.Same.{same}
 use Rattle.compare.specs.Moved.{timesIn, asOften, allAsOften, sameDetails}
@@ -114,28 +114,11 @@ module _ (r xs : List ℕ) (many at i n : ℕ) (c : Counting r xs many at i n) w
           rest = rw k (o ∙ ap (λ (l : ℕ). n + l) (sym s) ∙ c .rest);
         }
 
--- ---- a detail, as the code tests it
+-- ---- a detail, as the code finds it
 
-detail-kind : (k : ℕ) → not (eqb k 1) && not (eqb k 2) && not (eqb k 8) && not (eqb k lastRow) ≡ bySort (sortOf k) false false true true false
-unfolding sortOf
-detail-kind k =
-    by-test (eqb k 1) (λ q. rw (eqb-true k 1 q) refl)
-    (λ q1. by-test (eqb k 2) (λ q. rw (eqb-true k 2 q) refl)
-    (λ q2. by-test (eqb k 8) (λ q. rw (eqb-true k 8 q) refl)
-    (λ q8. by-test (eqb k lastRow) (λ q. rw (eqb-true k lastRow q) refl)
-    (λ q11. rw (q1, q2, q8, q11) (go (eqb k 3 || (eqb k 4 || (eqb k 5 || eqb k 10))))))))
-  where
-    go : (b : Bool) → true ≡ bySort (pick b OfGroup OfFarm) false false true true false
-    go true = refl
-    go false = refl
-
--- a farm record of either version is none
-pub detail-test : (v k : ℕ)
-    → not (eqb k 1) && not (eqb k 2) && not (eqb k 8) && not (eqb k lastRow) ≡ bySort (sortOf (rowOf v k)) false false true true false
-unfolding sortOf
-detail-test v k =
-    by-test (eqb v 2 && eqb k 1) (λ q. rw (eqb-true k 1 (and-r (eqb v 2) (eqb k 1) q), eqb-true v 2 (and-l (eqb v 2) (eqb k 1) q)) refl)
-    (λ q. rw q (detail-kind k))
+-- t is the sort of the row of r
+pub detail-by : (s t : Sort) (row : ℕ) (r : List ℕ) → s ≡ sortOf row → row ≡ kindOf r → s ≡ t → bySort t false false true true false ≡ isDetail r
+detail-by s t row r e k q = rw (← q, e, k) refl
 
 -- ---- each of them
 

@@ -3,6 +3,8 @@ use crate::cursor::reach;
 use crate::remarks::less;
 use crate::runs::one_if;
 use crate::runs::same;
+use account::sort::Sort;
+use account::sort::sort_of;
 use base::first_of;
 use base::rest_of;
 use book::front::ready;
@@ -35,12 +37,19 @@ fn times(r: &[u8], xs: &[u8], many: usize) -> usize
     n
 }
 
-// Whether the record r is a detail: it neither opens the book nor heads a group nor closes the book. The last row of the table is no kind.
+// Whether the record r is a detail, of the group or of the farm.
 fn detail(r: &[u8]) -> bool
     requires { ⌜ 4 ≤ length (now r) ⌝ }
     ensures { λ b. ⌜ b ≡ isDetail (now (r .entry)) ⌝ }
 {
-    (r[3] != 1) & (r[3] != 2) & (r[3] != 8) & (r[3] != (codec::LAST_ROW as u8))
+    let row = codec::kinds::row_of(r[2], r[3]);
+    match sort_of(row as u64) {
+        Sort::OfGroup => true,
+        Sort::OfFarm => true,
+        Sort::Opens => false,
+        Sort::Heads => false,
+        Sort::Closes => false,
+    }
 }
 
 // Whether the record r is a detail and stands as often among the first m records of xs as among the first n of ys.

@@ -4,6 +4,7 @@ use crate::cursor::turn;
 use account::Account;
 use base::first_of;
 use base::rest_of;
+use codec::kinds::CLOSE;
 use line_bytes::LINES_MOST;
 ghost use mathlib.Core.Path.{_≡_};
 ghost use Prim.Native.Nat.{_+_, _≤_, _<_};
@@ -55,7 +56,7 @@ fn shape(r: &[u8], n: usize) -> &[u8]
     requires { ⌜ (4 ≤ n) × (n ≤ length (now r)) ⌝ }
     ensures { λ s. ⌜ now s ≡ shapeOf (take n (now (r .entry))) ⌝ }
 {
-    if r[3] == 8 {
+    if r[3] == (CLOSE as u8) {
         return first_of(r, 4);
     }
     first_of(r, n)

@@ -1,6 +1,6 @@
 use borrow.Author.Needs.{needs}
-use Rattle.account.specs.Judge.{versionOf, kindByte}
-use Rattle.compare.proofs.MovedRecords.{detail-test}
+use Rattle.account.specs.declared.sort.Sort.the-variants.{Opens, Heads, OfGroup, OfFarm, Closes}
+use Rattle.compare.proofs.MovedRecords.{detail-by}
 use Rattle.compare.proofs.moved.detail.Statement.{statement}
 use Rattle.compare.proofs.moved.detail.Tie as tie
 
@@ -10,7 +10,26 @@ detail-spec =
     (tie.spec
     (λ c. search needs)
     (λ c. search needs)
+    (λ c κs. tt)
+    (λ c. search needs)
+    (λ c κs. tt)
     (λ c. search needs)
     (λ c. search needs)
     (λ c. search needs)
-    (λ c. let r = c .before .before .before .before .args .r .now in detail-test (versionOf r) (kindByte r)))
+    (λ c. search needs)
+    (λ c. search needs)
+    (λ c.
+    let s = c .before .before in
+    detail-by _ OfGroup _ (s .before .before .before .before .before .args .r .now) (s .sort-of .ensures) (s .before .row-of .ensures) (c .enum-told .given .1))
+    (λ c.
+    let s = c .before .before in
+    detail-by _ OfFarm _ (s .before .before .before .before .before .args .r .now) (s .sort-of .ensures) (s .before .row-of .ensures) (c .enum-told2 .given .1))
+    (λ c.
+    let s = c .before .before in
+    detail-by _ Opens _ (s .before .before .before .before .before .args .r .now) (s .sort-of .ensures) (s .before .row-of .ensures) (c .enum-told3 .given .1))
+    (λ c.
+    let s = c .before .before in
+    detail-by _ Heads _ (s .before .before .before .before .before .args .r .now) (s .sort-of .ensures) (s .before .row-of .ensures) (c .enum-told4 .given .1))
+    (λ c.
+    let s = c .before .before in
+    detail-by _ Closes _ (s .before .before .before .before .before .args .r .now) (s .sort-of .ensures) (s .before .row-of .ensures) (c .enum-told5 .given .1)))

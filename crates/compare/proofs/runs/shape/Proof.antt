@@ -9,6 +9,7 @@ shape-spec =
     tie.close
     (tie.spec
     (λ c. search needs)
+    (λ c. search needs)
     (λ c κs. search needs)
     (λ c. c .first-of .ensures ∙ shape-close _ _ (c .before .before .before .before .pre .0) (c .before .if1 .taken))
     (λ c κs. search needs)
