@@ -40,7 +40,7 @@ unfoldable pub AllAccepted : Account → List (List ℕ) → Type 0
 AllAccepted a [] = Unit {0}
 AllAccepted a (r ∷ rs) = Accepted a r × AllAccepted (judge a r .account) rs
 
--- the account behind them
+-- the account after them
 unfoldable pub accountBehind : Account → List (List ℕ) → Account
 accountBehind a [] = a
 accountBehind a (r ∷ rs) = accountBehind (judge a r .account) rs
