@@ -25,6 +25,7 @@ put-line-spec =
     tie.close
     (tie.spec
     (λ c. search needs)
+    (λ c. search needs)
     (λ c κs. omega (arith, total c))
     (λ c. search needs)
     (λ c κs. let t = c .before .before in omega (arith, total-count t, total (t .before)))

@@ -3,6 +3,7 @@ use mathlib.Core.Path.{_≡_, refl, sym, ap, _∙_}
 use mathlib.Core.List.{List}
 use mathlib.Core.Bool.{false}
 use native.Mathlib.Omega.{arith}
+use borrow.Author.Needs.{needs}
 use borrow.Author.Tests.{eqb-false, eq-eqb, ne-eqb}
 use lib.ListN.{getD, take}
 use lib.Dec.{leb, eqb}
@@ -75,6 +76,7 @@ turn-spec =
     (λ c κs. c .before .before .next-alone .ensures .1 .0)
     (λ c. let w = whole-so (c .before) in omega (arith, w .long, w .low))
     (λ c κs. tt)
+    (λ c. search needs)
     (λ c κs. tt)
     (λ c.
     let d = c .before .before in

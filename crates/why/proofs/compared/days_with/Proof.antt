@@ -9,7 +9,9 @@ days-with-spec =
     (tie.spec
     (λ c. search needs)
     (λ c. search needs)
+    (λ c. search needs)
     (λ c. rw (eq-eqb _ _ (c .before .if1 .taken)))
+    (λ c. search needs)
     (λ c. search needs)
     (λ c. search needs)
     (λ c. rw (ne-eqb _ _ (c .before .before .if1 .left), eq-eqb _ _ (c .before .if2 .taken)))

@@ -9,6 +9,7 @@ pub together-spec : {M : Type 1} → statement M
 together-spec =
     tie.close
     (tie.spec
+    (λ c. search needs)
     (λ c κs. search needs)
     (λ c κs. search needs)
     (λ c.
@@ -27,6 +28,7 @@ together-spec =
     let s = t .before .before in
     shares-told (valuesOf (s .args .r .now)) (s .args .grazed) (t .if1 .taken) (v .before .before .value-at .ensures) (v .before .value-at2 .ensures)
     (v .value-at3 .ensures) (c .both .ensures))
+    (λ c. search needs)
     (λ c κs. search needs)
     (λ c κs. search needs)
     (λ c.

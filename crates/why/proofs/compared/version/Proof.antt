@@ -9,6 +9,7 @@ version-spec =
     (tie.spec
     (λ c κs. omega (arith, c .before .pre))
     (λ c. omega (arith, c .before .before .before .pre))
+    (λ c. omega arith)
     (λ c κs. tt)
     (λ c. farm-version _ (c .before .before .before .be8 .ensures) (c .before .if1 .taken) (c .outside .ensures))
     (λ c κs. tt)
