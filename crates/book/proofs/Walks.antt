@@ -16,9 +16,11 @@ use Rattle.account.specs.Judge.{judge}
 use Rattle.book.specs.declared.walk.Next.{Next}
 use Rattle.book.specs.Front.{Front, unfinished, badLength, whole, need, front}
 use Rattle.book.specs.WholeRecords.{Ready, beginsWith, recordsBy, recordsOf}
-use Rattle.book.specs.Walk.{recordAt, linesOf, atFront, nextOf, linesNext, accepts, entryOf, recordsIn, entriesFrom, entriesAfter}
+use Rattle.book.specs.Walk.{recordAt, linesOf, atFront, nextOf, linesNext, accepts, entryOf, recordsIn, entriesFrom, entriesAfter, runBy}
 use Rattle.book.proofs.Fronts.{meaning, front-none}
 use Rattle.book.proofs.WholeRecords.{records-whole}
+use Rattle.book.specs.Run.{book}
+use Rattle.book.proofs.Runs.{book-ended, book-unfinished, book-bad, book-whole}
 use Rattle.book.proofs.RecordRuns.{record-in}
 use Rattle.book.proofs.NextRecords.{next-ended, next-open, lines-open}
 
@@ -151,3 +153,18 @@ next-ready a xs t e early =
       some = λ h. let s = stands a xs t e (λ z. omega arith) in (s .front, s .size);
       none = λ z. none-whole a xs t e z early;
     }
+
+-- ---- the reader's way by the walk
+
+run-at : (f : Front) (a : Account) (xs : List ℕ) → front xs ≡ f → a .stage < 2 → book a xs ≡ runBy (atFront f a xs .found) a xs
+run-at unfinished a xs e early = book-unfinished a xs early e
+run-at badLength a xs e early = book-bad a xs early e
+run-at whole a xs e early = book-whole a xs early e
+
+-- The reader judges records where they lie and writes their lines at once: what it gives is what the walk gives, record by record.
+pub run-walks : (a : Account) (xs : List ℕ) → book a xs ≡ runBy (nextOf a xs .found) a xs
+run-walks a xs =
+    ⊎-elim
+    (λ (h : a .stage < 2). rw (next-open a xs h) (run-at (front xs) a xs refl h))
+    (λ (h : 2 ≤ a .stage). rw (next-ended a xs h) (book-ended a xs h))
+    (lt-or-ge (a .stage) 2)

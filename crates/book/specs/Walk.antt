@@ -4,7 +4,7 @@
 use Prim.Native.Nat.{ℕ}
 use mathlib.Core.List.{List, [], _∷_}
 use mathlib.Core.Bool.{Bool, _&&_, not}
-use lib.ListN.{length, take}
+use lib.ListN.{length, take, drop}
 use lib.Dec.{ltb, eqb}
 use Rattle.base.specs.Choice.{pick}
 use Rattle.account.specs.declared.Account.{Account}
@@ -16,6 +16,8 @@ use Rattle.book.specs.declared.walk.Found.the-variants.{Record, Unfinish
 use Rattle.book.specs.declared.walk.Next.{Next}
 use Rattle.book.specs.Front.{Front, unfinished, badLength, whole, need, front}
 use Rattle.book.specs.WholeRecords.{recordsOf}
+use Rattle.book.specs.State.{holding}
+use Rattle.book.specs.Run.{Run, then, ended, book}
 
 -- ---- the next record
 
@@ -82,3 +84,13 @@ entriesAfter a xs = entriesFrom a (recordsOf xs)
 -- those of a book
 abbrev pub entriesOf : List ℕ → List Entry
 entriesOf xs = entriesAfter noRecord xs
+
+-- ---- the reader's way by the walk
+
+-- what a run gives, by what the walk finds at the front of xs: a record's lines and then what the bytes after it give; an unfinished record is
+-- held; a bad length takes two bytes; an ended book takes nothing
+abbrev pub runBy : Found → Account → List ℕ → Run
+runBy Record a xs = then (judge a (recordAt xs) .lines) (book (judge a (recordAt xs) .account) (drop (need xs) xs))
+runBy Unfinished a xs = record { state = holding a xs; lines = []; left = [] }
+runBy BadLength a xs = record { state = holding (refused a 1 0) []; lines = []; left = drop 2 xs }
+runBy Ended a xs = ended a xs
