@@ -17,7 +17,7 @@ use Rattle.codec.specs.Table.{field, fields, lengthMost, lastKind, isKind}
 use Rattle.codec.specs.Codec.{firstBad}
 use Rattle.account.specs.declared.Account.{Account}
 use Rattle.account.specs.declared.Used.{Used}
-use Rattle.account.specs.Judge.{versionOf, kindByte, kindOf, valuesOf, daysOver, partsWrong, grazedOver, RefusedBy}
+use Rattle.account.specs.Judge.{versionOf, kindByte, recordRow, valuesOf, daysOver, partsWrong, grazedOver, RefusedBy}
 use Rattle.account.specs.Compared.{Compared, numbers, outside, rangeOf, valueAt, badField, daysWith, sharesOf, partsOf, grazedWith}
 use Rattle.account.specs.Compared.{valuesCompared, compared}
 use Rattle.account.specs.Compared.{BeyondEnd, ComparesWrongly}
@@ -143,7 +143,7 @@ together-wrong u k v e = go (eqb k 4) (eqb k 5) (eqb k 10) refl refl refl e
 pub compares-wrongly : (c : ℕ) (a : Account) (r : List ℕ) → RefusedBy c a r → ComparesWrongly c a r (compared c a r)
 unfolding compared valuesCompared
 compares-wrongly c a r t =
-    let k = kindOf r in
+    let k = recordRow r in
     let v = valuesOf r in
     let t8 = t .values .rising .1 in
     let t12 = t .values .count .1 in

@@ -12,7 +12,7 @@ use Rattle.line_bytes.specs.Lines.{linesMost}
 use Rattle.account.specs.declared.Account.{Account}
 use Rattle.account.specs.Sorts.{sortOf}
 use Rattle.account.specs.Line.{joined}
-use Rattle.account.specs.Judge.{kindOf, refusals, first, Step, accepted, judge}
+use Rattle.account.specs.Judge.{recordRow, refusals, first, Step, accepted, judge}
 use Rattle.account.proofs.Sorts.{by-sort}
 use Rattle.account.proofs.Keeps.{judge-short}
 
@@ -24,7 +24,7 @@ counted : (a : Account) (r : List ℕ) → Counted (a .records) (judge a r)
 unfolding judge accepted
 counted a r =
     of-choice (Counted (a .records)) (eqb (first (refusals a r)) 0)
-    (λ e. by-sort (Counted (a .records)) (sortOf (kindOf r)) (λ e. inr refl) (λ e. inr refl) (λ e. inr refl) (λ e. inr refl) (λ e. inr refl))
+    (λ e. by-sort (Counted (a .records)) (sortOf (recordRow r)) (λ e. inr refl) (λ e. inr refl) (λ e. inr refl) (λ e. inr refl) (λ e. inr refl))
     (λ e. inl (refl, refl))
 
 -- the bytes of a record's lines are at most so many for each record that it adds to those accepted

@@ -24,7 +24,7 @@ use Rattle.account.specs.Figures.{added, grouped, figuresOf}
 use Rattle.account.specs.Line.{lineOf}
 use Rattle.account.specs.Range.{UsedMost}
 use Rattle.account.specs.Account.{withDetail, usedAfter}
-use Rattle.account.specs.Judge.{kindOf, valuesOf, headingServes, inPlace, partsWrong}
+use Rattle.account.specs.Judge.{recordRow, valuesOf, headingServes, inPlace, partsWrong}
 use Rattle.account.specs.Judge.{NotRefused, Step, accepted, judge}
 use Rattle.account.proofs.Sorts.{by-sort, other-kind}
 use Rattle.account.proofs.Refusals.{none-refuses}
@@ -36,7 +36,7 @@ DetailKind k = bySort (sortOf k) false false true true false ≡ true
 
 -- ---- a record that is not refused
 
-pub judge-accepted : (a : Account) (r : List ℕ) → NotRefused a r → judge a r ≡ accepted a (kindOf r) (valuesOf r)
+pub judge-accepted : (a : Account) (r : List ℕ) → NotRefused a r → judge a r ≡ accepted a (recordRow r) (valuesOf r)
 unfolding judge
 judge-accepted a r t = rw (none-refuses a r t) refl
 
@@ -45,7 +45,7 @@ pub judge-counts : (a : Account) (r : List ℕ) → NotRefused a r → judge a r
 unfolding accepted
 judge-counts a r t =
     rw (judge-accepted a r t)
-    (by-sort (λ (s : Step). s .account .records ≡ a .records + 1) (sortOf (kindOf r)) (λ e. refl) (λ e. refl) (λ e. refl) (λ e. refl) (λ e. refl))
+    (by-sort (λ (s : Step). s .account .records ≡ a .records + 1) (sortOf (recordRow r)) (λ e. refl) (λ e. refl) (λ e. refl) (λ e. refl) (λ e. refl))
 
 -- ---- what a detail does
 
@@ -54,22 +54,22 @@ abbrev counts : Sort → Bool
 counts s = bySort s false false true false false
 
 abbrev figuresIn : Heading → List ℕ → Figures
-figuresIn h r = figuresOf h (kindOf r) (valuesOf r)
+figuresIn h r = figuresOf h (recordRow r) (valuesOf r)
 
 -- the account with the detail r
 abbrev pub withRecord : Account → List ℕ → Account
 withRecord a r =
-    withDetail a (usedAfter (a .used) (kindOf r) (valuesOf r))
-    (pick (counts (sortOf (kindOf r))) (grouped (a .subtotal) (figuresIn (a .heading) r)) (a .subtotal))
+    withDetail a (usedAfter (a .used) (recordRow r) (valuesOf r))
+    (pick (counts (sortOf (recordRow r))) (grouped (a .subtotal) (figuresIn (a .heading) r)) (a .subtotal))
     (figuresIn (a .heading) r)
 
 -- a detail that is not refused adds its days and figures, and gives its line
-pub judge-detail : (a : Account) (r : List ℕ) → DetailKind (kindOf r) → NotRefused a r
-    → judge a r ≡ record { account = withRecord a r; lines = lineOf (a .heading) (kindOf r) (valuesOf r) ∷ [] }
+pub judge-detail : (a : Account) (r : List ℕ) → DetailKind (recordRow r) → NotRefused a r
+    → judge a r ≡ record { account = withRecord a r; lines = lineOf (a .heading) (recordRow r) (valuesOf r) ∷ [] }
 unfolding accepted
 judge-detail a r d t =
     judge-accepted a r t
-    ∙ by-sort (λ (s : Step). s ≡ record { account = withRecord a r; lines = lineOf (a .heading) (kindOf r) (valuesOf r) ∷ [] }) (sortOf (kindOf r))
+    ∙ by-sort (λ (s : Step). s ≡ record { account = withRecord a r; lines = lineOf (a .heading) (recordRow r) (valuesOf r) ∷ [] }) (sortOf (recordRow r))
     (λ e. no-bool (rw e at d)) (λ e. no-bool (rw e at d)) (λ e. rw e refl) (λ e. rw e refl) (λ e. no-bool (rw e at d))
 
 -- ---- what is added may be added in either order
@@ -113,8 +113,8 @@ subtotal-swap false false s f g = refl
 pub same-account : (a : Account) (r s : List ℕ) → withRecord (withRecord a r) s ≡ withRecord (withRecord a s) r
 same-account a r s =
     rw (
-      used-swap (a .used) (kindOf r) (kindOf s) (valuesOf r) (valuesOf s),
-      subtotal-swap (counts (sortOf (kindOf r))) (counts (sortOf (kindOf s))) (a .subtotal) (figuresIn (a .heading) r) (figuresIn (a .heading) s),
+      used-swap (a .used) (recordRow r) (recordRow s) (valuesOf r) (valuesOf s),
+      subtotal-swap (counts (sortOf (recordRow r))) (counts (sortOf (recordRow s))) (a .subtotal) (figuresIn (a .heading) r) (figuresIn (a .heading) s),
       added-swap (a .sums) (figuresIn (a .heading) r) (figuresIn (a .heading) s),
     ) refl
 
@@ -129,28 +129,28 @@ Within a = UsedMost (a .used)
 record Found (a : Account) (r : List ℕ) : Type 0 where
   room : a .records < 4096
   begun : 1 ≤ a .records
-  serves : headingServes (a .heading .class) (kindOf r) ≡ true
-  fits : Fits (a .used) (kindOf r) (valuesOf r)
+  serves : headingServes (a .heading .class) (recordRow r) ≡ true
+  fits : Fits (a .used) (recordRow r) (valuesOf r)
 
 -- in its place: the heading serves, and there is a record before it
 in-place : (a : Account) (k : ℕ) → DetailKind k → inPlace a k ≡ headingServes (a .heading .class) k && not (eqb (a .records) 0)
 unfolding inPlace sortOf
 in-place a k d = rw (other-kind k 1 d refl, other-kind k lastRow d refl) refl
 
-found : (a : Account) (r : List ℕ) → DetailKind (kindOf r) → NotRefused a r → Found a r
+found : (a : Account) (r : List ℕ) → DetailKind (recordRow r) → NotRefused a r → Found a r
 found a r d t =
-    let place = rw (in-place a (kindOf r) d) at (not-false (inPlace a (kindOf r)) (t .values .place)) in
-    let some : a .records ≡ 0 → ⊥ = eqb-false _ _ (not-true _ (and-r (headingServes (a .heading .class) (kindOf r)) _ place)) in
+    let place = rw (in-place a (recordRow r) d) at (not-false (inPlace a (recordRow r)) (t .values .place)) in
+    let some : a .records ≡ 0 → ⊥ = eqb-false _ _ (not-true _ (and-r (headingServes (a .heading .class) (recordRow r)) _ place)) in
     record {
       room = leb-false _ _ (t .values .room);
       begun = omega arith;
-      serves = and-l (headingServes (a .heading .class) (kindOf r)) _ place;
-      fits = record { days = t .values .days; grazed = or-r (partsWrong (kindOf r) (valuesOf r)) _ (t .values .together) };
+      serves = and-l (headingServes (a .heading .class) (recordRow r)) _ place;
+      fits = record { days = t .values .days; grazed = or-r (partsWrong (recordRow r) (valuesOf r)) _ (t .values .together) };
     }
 
 -- under the same heading, with room for one record more, where it fits
-accepted-too : (a b : Account) (r : List ℕ) → DetailKind (kindOf r) → b .heading ≡ a .heading → 1 ≤ b .records → b .records < 4096
-    → NotRefused a r → Fits (b .used) (kindOf r) (valuesOf r) → NotRefused b r
+accepted-too : (a b : Account) (r : List ℕ) → DetailKind (recordRow r) → b .heading ≡ a .heading → 1 ≤ b .records → b .records < 4096
+    → NotRefused a r → Fits (b .used) (recordRow r) (valuesOf r) → NotRefused b r
 unfolding sortOf
 accepted-too a b r d h begun room t f =
     let some : b .records ≡ 0 → ⊥ = λ z. omega (arith, z) in
@@ -160,23 +160,23 @@ accepted-too a b r d h begun room t f =
       long = t .long;
       values = record {
         room = lt-leb _ _ room;
-        place = rw (in-place b (kindOf r) d, h, found a r d t .serves, ne-eqb _ _ some) refl;
+        place = rw (in-place b (recordRow r) d, h, found a r d t .serves, ne-eqb _ _ some) refl;
         inRange = t .values .inRange;
         rising = rw h (t .values .rising);
         days = f .days;
-        together = rw (or-l (partsWrong (kindOf r) (valuesOf r)) _ (t .values .together), f .grazed) refl;
+        together = rw (or-l (partsWrong (recordRow r) (valuesOf r)) _ (t .values .together), f .grazed) refl;
         feed = t .values .feed;
-        count = rw (other-kind (kindOf r) 8 d refl) refl;
+        count = rw (other-kind (recordRow r) 8 d refl) refl;
       };
     }
 
 -- what is used stays within
-pub within-after : (a : Account) (r : List ℕ) → DetailKind (kindOf r) → Within a → NotRefused a r → Within (withRecord a r)
-within-after a r d w t = fits-within (a .used) (kindOf r) (valuesOf r) w (found a r d t .fits)
+pub within-after : (a : Account) (r : List ℕ) → DetailKind (recordRow r) → Within a → NotRefused a r → Within (withRecord a r)
+within-after a r d w t = fits-within (a .used) (recordRow r) (valuesOf r) w (found a r d t .fits)
 
 -- ---- two neighbours change places
 
-module _ (a : Account) (r s : List ℕ) (dr : DetailKind (kindOf r)) (ds : DetailKind (kindOf s)) (w : Within a)
+module _ (a : Account) (r s : List ℕ) (dr : DetailKind (recordRow r)) (ds : DetailKind (recordRow s)) (w : Within a)
     (tr : NotRefused a r) (ts : NotRefused (withRecord a r) s) where
   -- with both of them what is used is within, in either order
   within-both : Within (withRecord (withRecord a s) r)
@@ -185,11 +185,11 @@ module _ (a : Account) (r s : List ℕ) (dr : DetailKind (kindOf r)) (ds : Detai
   pub second-first : NotRefused a s
   second-first =
       let f = found a r dr tr in
-      let b = within-before (withRecord a s .used) (kindOf r) (valuesOf r) within-both in
-      accepted-too (withRecord a r) a s ds refl (f .begun) (f .room) ts (within-fits (a .used) (kindOf s) (valuesOf s) b)
+      let b = within-before (withRecord a s .used) (recordRow r) (valuesOf r) within-both in
+      accepted-too (withRecord a r) a s ds refl (f .begun) (f .room) ts (within-fits (a .used) (recordRow s) (valuesOf s) b)
 
   pub first-second : NotRefused (withRecord a s) r
   first-second =
       let f = found (withRecord a r) s ds ts in
       accepted-too a (withRecord a s) r dr refl (f .begun) (f .room) tr
-      (within-fits (withRecord a s .used) (kindOf r) (valuesOf r) within-both)
+      (within-fits (withRecord a s .used) (recordRow r) (valuesOf r) within-both)

@@ -28,7 +28,7 @@ use Rattle.account.specs.Figures.{figuresOf, grouped, groupFigures}
 use Rattle.account.specs.Line.{joined, lineWith, lineOf, subtotals, totalOf}
 use Rattle.account.specs.Range.{FarmIn, UsedMost, Under, AccountInRange}
 use Rattle.account.specs.Account.{noRecord, refused, opened, underHeading, withDetail, closed}
-use Rattle.account.specs.Judge.{versionOf, kindByte, kindOf, valuesOf}
+use Rattle.account.specs.Judge.{versionOf, kindByte, recordRow, valuesOf}
 use Rattle.account.specs.Account.{farmOf, usedAfter}
 use Rattle.account.specs.Judge.{headingServes, inPlace, partsWrong, refusals, withLine}
 use Rattle.account.specs.Judge.{first, ValuesPass, Step, accepted, judge}
@@ -86,7 +86,7 @@ unfolding table allShort
 row-short k = short-at table k refl
 
 -- 7 is the number only where a field is out of range
-seven-field : (a : Account) (r : List ℕ) → first (refusals a r) ≡ 7 → firstBad (fields (kindOf r)) (valuesOf r) 0 ≡ 0 → ⊥
+seven-field : (a : Account) (r : List ℕ) → first (refusals a r) ≡ 7 → firstBad (fields (recordRow r)) (valuesOf r) 0 ≡ 0 → ⊥
 seven-field a r e = eqb-false _ _ (not-true _ (refused-by a r 7 (omega arith) e .values .inRange .1 refl))
 
 -- ---- an account after a record that is not refused
@@ -208,11 +208,11 @@ pub in-range-judge : (a : Account) (r : List ℕ) → AccountInRange a → a .st
 unfolding judge
 in-range-judge a r f early =
     let code = first (refusals a r) in
-    let bad = firstBad (fields (kindOf r)) (valuesOf r) 0 in
-    let short : bad ≤ 12 = omega (arith, bad-position (fields (kindOf r)) (valuesOf r) 0, row-short (kindOf r)) in
+    let bad = firstBad (fields (recordRow r)) (valuesOf r) 0 in
+    let short : bad ≤ 12 = omega (arith, bad-position (fields (recordRow r)) (valuesOf r) 0, row-short (recordRow r)) in
     of-choice Kept (eqb code 0)
     (λ e. let t = not-refused a r (eqb-true _ _ e) in
-    in-range-accepted a f early (kindOf r) (valuesOf r) (t .values) (row-of-kind (versionOf r) (kindByte r) (not-false _ (t .kind))))
+    in-range-accepted a f early (recordRow r) (valuesOf r) (t .values) (row-of-kind (versionOf r) (kindByte r) (not-false _ (t .kind))))
     (λ e.
     let some : code ≡ 0 → ⊥ = eqb-false _ _ e in
     in-range-refused a code (pick (eqb code 7) bad 0) f (omega arith) (number-most a r) (field-of code bad short)
@@ -244,7 +244,7 @@ pub judge-short : (a : Account) (r : List ℕ) → length (joined (judge a r .li
 unfolding judge accepted
 judge-short a r =
     of-choice ShortLines (eqb (first (refusals a r)) 0)
-    (λ e. by-sort ShortLines (sortOf (kindOf r)) (λ e. omega arith) (λ e. ends-short a .0)
-    (λ e. one-line (lineOf (a .heading) (kindOf r) (valuesOf r)) lineSize (line-long _ _ _) (omega arith))
-    (λ e. one-line (lineOf (a .heading) (kindOf r) (valuesOf r)) lineSize (line-long _ _ _) (omega arith)) (λ e. ends-short a .1))
+    (λ e. by-sort ShortLines (sortOf (recordRow r)) (λ e. omega arith) (λ e. ends-short a .0)
+    (λ e. one-line (lineOf (a .heading) (recordRow r) (valuesOf r)) lineSize (line-long _ _ _) (omega arith))
+    (λ e. one-line (lineOf (a .heading) (recordRow r) (valuesOf r)) lineSize (line-long _ _ _) (omega arith)) (λ e. ends-short a .1))
     (λ e. omega arith)

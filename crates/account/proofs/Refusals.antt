@@ -10,7 +10,7 @@ use lib.Dec.{eqb}
 use Rattle.base.specs.Choice.{pick}
 use Rattle.base.proofs.Tests.{not-false}
 use Rattle.account.specs.declared.Account.{Account}
-use Rattle.account.specs.Judge.{kindOf, valuesOf, valueRefusals, refusals, first, ValueTests, Tests, LetsThrough, ValuesPass, NotRefused}
+use Rattle.account.specs.Judge.{recordRow, valuesOf, valueRefusals, refusals, first, ValueTests, Tests, LetsThrough, ValuesPass, NotRefused}
 use Rattle.account.specs.Judge.{wrongVersion, wrongKind, wrongLength, bookFull, outOfPlace, outOfRange, notRising, daysOver, partsWrong}
 use Rattle.account.specs.Judge.{grazedOver, feedBelow, wrongCount}
 use Rattle.account.specs.Judge.{DecidedBy, RefusedBy, Step, accepted, weigh, judge}
@@ -32,7 +32,7 @@ valuesByNumber a k v =
     ∷ []
 
 abbrev byNumber : Account → List ℕ → List (Bool × ℕ)
-byNumber a r = (wrongVersion r, 2) ∷ (wrongKind r, 3) ∷ (wrongLength r, 4) ∷ valuesByNumber a (kindOf r) (valuesOf r)
+byNumber a r = (wrongVersion r, 2) ∷ (wrongKind r, 3) ∷ (wrongLength r, 4) ∷ valuesByNumber a (recordRow r) (valuesOf r)
 
 first-behind : (b : Bool) (n : ℕ) (ts us : List (Bool × ℕ)) → first ts ≡ first us → first ((b, n) ∷ ts) ≡ first ((b, n) ∷ us)
 unfolding first
@@ -49,7 +49,7 @@ values-same-first a k v =
     (first-either (partsWrong k v) (grazedOver (a .used) k v) 10 _ _ refl)))))
 
 same-first : (a : Account) (r : List ℕ) → first (refusals a r) ≡ first (byNumber a r)
-same-first a r = first-behind _ 2 _ _ (first-behind _ 3 _ _ (first-behind _ 4 _ _ (values-same-first a (kindOf r) (valuesOf r))))
+same-first a r = first-behind _ 2 _ _ (first-behind _ 3 _ _ (first-behind _ 4 _ _ (values-same-first a (recordRow r) (valuesOf r))))
 
 -- ---- from the list to the names, and back
 
@@ -71,16 +71,16 @@ module _ (P : ℕ → Bool → Type 0) where
   value-list a k v t = (t .room, (t .place, (t .inRange, (t .rising, (t .days, (t .together, (t .feed, (t .count, tt))))))))
 
   names : (a : Account) (r : List ℕ) → Each P (byNumber a r) → Tests P a r
-  names a r e = record { version = e .0; kind = e .1 .0; long = e .1 .1 .0; values = value-names a (kindOf r) (valuesOf r) (e .1 .1 .1) }
+  names a r e = record { version = e .0; kind = e .1 .0; long = e .1 .1 .0; values = value-names a (recordRow r) (valuesOf r) (e .1 .1 .1) }
 
   list : (a : Account) (r : List ℕ) → Tests P a r → Each P (byNumber a r)
-  list a r t = (t .version, (t .kind, (t .long, value-list a (kindOf r) (valuesOf r) (t .values))))
+  list a r t = (t .version, (t .kind, (t .long, value-list a (recordRow r) (valuesOf r) (t .values))))
 
 values-rise : (a : Account) (k : ℕ) (v : List ℕ) → Rising 4 (valuesByNumber a k v)
 values-rise a k v = (omega arith, (omega arith, (omega arith, (omega arith, (omega arith, (omega arith, (omega arith, (omega arith, tt))))))))
 
 rise : (a : Account) (r : List ℕ) → Rising 1 (byNumber a r)
-rise a r = (omega arith, (omega arith, (omega arith, values-rise a (kindOf r) (valuesOf r))))
+rise a r = (omega arith, (omega arith, (omega arith, values-rise a (recordRow r) (valuesOf r))))
 
 -- ---- values of a kind
 
@@ -95,7 +95,7 @@ module _ (a : Account) (k : ℕ) (v : List ℕ) where
 -- ---- a whole record
 
 module _ (a : Account) (r : List ℕ) where
-  values-most : Within 12 (valuesByNumber a (kindOf r) (valuesOf r))
+  values-most : Within 12 (valuesByNumber a (recordRow r) (valuesOf r))
   values-most = (omega arith, (omega arith, (omega arith, (omega arith, (omega arith, (omega arith, (omega arith, (omega arith, tt))))))))
 
   -- the number of the first refusal is 0 where no test refuses, and there alone
@@ -130,4 +130,4 @@ weighed-passes a k v h = values-pass a k v (weighed-none a k v h)
 
 pub judged-passes : (a : Account) (r : List ℕ) → (judge a r .account .stage ≡ 3 → ⊥) → NotRefused a r
 unfolding judge
-judged-passes a r h = not-refused a r (by-stage (first (refusals a r)) (accepted a (kindOf r) (valuesOf r)) _ refl h)
+judged-passes a r h = not-refused a r (by-stage (first (refusals a r)) (accepted a (recordRow r) (valuesOf r)) _ refl h)

@@ -14,7 +14,7 @@ use Rattle.codec.specs.Table.{field, fields, lengthOf, lengthMost, lastKind}
 use Rattle.codec.specs.Codec.{valAt, firstBad}
 use Rattle.account.specs.declared.Account.{Account}
 use Rattle.account.specs.declared.Used.{Used}
-use Rattle.account.specs.Judge.{versionOf, kindByte, kindOf, valuesOf}
+use Rattle.account.specs.Judge.{versionOf, kindByte, recordRow, valuesOf}
 
 -- two numbers that are compared, where there are any: the value and the limit
 pub record Compared : Type 0 where
@@ -73,8 +73,8 @@ compared c a r =
     pick (eqb c 1) (outside 4 lengthMost (valAt r 0 2))
     (pick (eqb c 2) (pick (eqb (kindByte r) 1) (outside 1 2 (versionOf r)) (numbers (versionOf r) 1))
     (pick (eqb c 3) (outside 1 lastKind (kindByte r))
-    (pick (eqb c 4) (numbers (valAt r 0 2) (lengthOf (kindOf r)))
-    (valuesCompared c a (kindOf r) (valuesOf r)))))
+    (pick (eqb c 4) (numbers (valAt r 0 2) (lengthOf (recordRow r)))
+    (valuesCompared c a (recordRow r) (valuesOf r)))))
 
 -- ---- compared wrongly
 
@@ -98,19 +98,19 @@ pub record ComparesWrongly (c : ℕ) (a : Account) (r : List ℕ) (x : Compared)
       → ((kindByte r ≡ 1) × (x .some ≡ true) × (x .value ≡ versionOf r) × BeyondEnd 1 2 x)
       ⊎ ((kindByte r ≡ 1 → ⊥) × (x ≡ numbers (versionOf r) 1) × Unequal x)
   pub kind : c ≡ 3 → (x .some ≡ true) × (x .value ≡ kindByte r) × BeyondEnd 1 lastKind x
-  pub long : c ≡ 4 → (x ≡ numbers (valAt r 0 2) (lengthOf (kindOf r))) × Unequal x
+  pub long : c ≡ 4 → (x ≡ numbers (valAt r 0 2) (lengthOf (recordRow r))) × Unequal x
   pub room : c ≡ 5 → x ≡ noNumbers
   pub place : c ≡ 6 → x ≡ noNumbers
   pub inRange : c ≡ 7
-      → let position = badField (kindOf r) (valuesOf r) in
+      → let position = badField (recordRow r) (valuesOf r) in
       (x .some ≡ true)
       × (x .value ≡ valueAt (valuesOf r) position)
-      × BeyondEnd (rangeOf (kindOf r) position .1) (rangeOf (kindOf r) position .2) x
-  pub rising : c ≡ 8 → (kindOf r ≡ 2) × (x ≡ numbers (getD (valuesOf r) 0 0) (a .heading .group)) × NotAbove x
-  pub days : c ≡ 9 → (x ≡ numbers (daysWith (a .used) (kindOf r) (getD (valuesOf r) 0 0)) 366) × Above x
+      × BeyondEnd (rangeOf (recordRow r) position .1) (rangeOf (recordRow r) position .2) x
+  pub rising : c ≡ 8 → (recordRow r ≡ 2) × (x ≡ numbers (getD (valuesOf r) 0 0) (a .heading .group)) × NotAbove x
+  pub days : c ≡ 9 → (x ≡ numbers (daysWith (a .used) (recordRow r) (getD (valuesOf r) 0 0)) 366) × Above x
   pub together : c ≡ 10
-      → ((kindOf r ≡ 4) × (x ≡ numbers (sharesOf (valuesOf r)) 10000) × Unequal x)
-      ⊎ (((kindOf r ≡ 5) × (x ≡ numbers (partsOf (valuesOf r)) 1000) × Above x)
-      ⊎ ((kindOf r ≡ 10) × (x ≡ numbers (grazedWith (a .used .grazed) (valuesOf r)) 10000) × Above x))
+      → ((recordRow r ≡ 4) × (x ≡ numbers (sharesOf (valuesOf r)) 10000) × Unequal x)
+      ⊎ (((recordRow r ≡ 5) × (x ≡ numbers (partsOf (valuesOf r)) 1000) × Above x)
+      ⊎ ((recordRow r ≡ 10) × (x ≡ numbers (grazedWith (a .used .grazed) (valuesOf r)) 10000) × Above x))
   pub feed : c ≡ 11 → x ≡ noNumbers
-  pub count : c ≡ 12 → (kindOf r ≡ 8) × (x ≡ numbers (getD (valuesOf r) 0 0) (a .records)) × Unequal x
+  pub count : c ≡ 12 → (recordRow r ≡ 8) × (x ≡ numbers (getD (valuesOf r) 0 0) (a .records)) × Unequal x

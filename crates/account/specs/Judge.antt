@@ -33,11 +33,11 @@ abbrev pub kindByte : List ℕ → ℕ
 kindByte r = getD r 3 0
 
 -- the record's row of the table: its kind, but for a farm record of version 2, which has a row of its own. All that follows goes by the row
-abbrev pub kindOf : List ℕ → ℕ
-kindOf r = rowOf (versionOf r) (kindByte r)
+abbrev pub recordRow : List ℕ → ℕ
+recordRow r = rowOf (versionOf r) (kindByte r)
 
 abbrev pub valuesOf : List ℕ → List ℕ
-valuesOf r = valuesAt (fields (kindOf r)) r 4
+valuesOf r = valuesAt (fields (recordRow r)) r 4
 
 -- ---- the refusals
 
@@ -61,7 +61,7 @@ wrongKind r = not (isKind (kindByte r))
 
 -- 4: length not that of the kind and version
 abbrev pub wrongLength : List ℕ → Bool
-wrongLength r = not (eqb (valAt r 0 2) (lengthOf (kindOf r)))
+wrongLength r = not (eqb (valAt r 0 2) (lengthOf (recordRow r)))
 
 -- 5: 4,096 records already accepted
 abbrev pub bookFull : Account → Bool
@@ -120,7 +120,7 @@ valueRefusals a row v =
 
 -- the refusals of a whole record, in the order they are tried
 abbrev pub refusals : Account → List ℕ → List (Bool × ℕ)
-refusals a r = (wrongVersion r, 2) ∷ (wrongKind r, 3) ∷ (wrongLength r, 4) ∷ valueRefusals a (kindOf r) (valuesOf r)
+refusals a r = (wrongVersion r, 2) ∷ (wrongKind r, 3) ∷ (wrongLength r, 4) ∷ valueRefusals a (recordRow r) (valuesOf r)
 
 -- the number of the first test that holds, 0 where none does
 unfoldable pub first : List (Bool × ℕ) → ℕ
@@ -145,7 +145,7 @@ pub record Tests (P : ℕ → Bool → Type 0) (a : Account) (r : List ℕ) : Ty
   pub version : P 2 (wrongVersion r)
   pub kind : P 3 (wrongKind r)
   pub long : P 4 (wrongLength r)
-  pub values : ValueTests P a (kindOf r) (valuesOf r)
+  pub values : ValueTests P a (recordRow r) (valuesOf r)
 
 -- not refused: no test refuses
 abbrev pub LetsThrough : ℕ → Bool → Type 0
@@ -200,4 +200,4 @@ weigh a row v = decided (first (valueRefusals a row v)) a row v
 
 -- what a whole record does
 unfoldable pub judge : Account → List ℕ → Step
-judge a r = decided (first (refusals a r)) a (kindOf r) (valuesOf r)
+judge a r = decided (first (refusals a r)) a (recordRow r) (valuesOf r)

@@ -21,7 +21,7 @@ use Rattle.book.proofs.WholeRecords.{records-whole}
 use Rattle.book.proofs.RecordRuns.{record-in}
 use Rattle.book.proofs.Fronts.{meaning}
 use Rattle.compare.specs.declared.cursor.Cursor.{Cursor}
-use Rattle.account.specs.Judge.{kindOf, judge}
+use Rattle.account.specs.Judge.{recordRow, judge}
 use Rattle.promises.specs.WholeLines.{isDetail}
 use Rattle.book.specs.Walk.{accepts, Entry, entryOf, recordsIn, entriesFrom, entriesAfter, entriesOf}
 use Rattle.compare.specs.Same.{same}
@@ -117,7 +117,7 @@ module _ (r xs : List ℕ) (many at i n : ℕ) (c : Counting r xs many at i n) w
 -- ---- a detail, as the code finds it
 
 -- t is the sort of the row of r
-pub detail-by : (s t : Sort) (row : ℕ) (r : List ℕ) → s ≡ sortOf row → row ≡ kindOf r → s ≡ t → bySort t false false true true false ≡ isDetail r
+pub detail-by : (s t : Sort) (row : ℕ) (r : List ℕ) → s ≡ sortOf row → row ≡ recordRow r → s ≡ t → bySort t false false true true false ≡ isDetail r
 detail-by s t row r e k q = rw (← q, e, k) refl
 
 -- ---- each of them

@@ -19,7 +19,7 @@ use Rattle.account.specs.Sorts.{sortOf}
 use Rattle.account.specs.Line.{totalOf}
 use Rattle.account.specs.Range.{AccountInRange}
 use Rattle.account.specs.Account.{noRecord}
-use Rattle.account.specs.Judge.{versionOf, kindByte, kindOf, valuesOf, NotRefused, Step, accepted, judge}
+use Rattle.account.specs.Judge.{versionOf, kindByte, recordRow, valuesOf, NotRefused, Step, accepted, judge}
 use Rattle.account.proofs.Refusals.{judged-passes}
 use Rattle.account.proofs.Keeps.{in-range-none, in-range-judge}
 use Rattle.account.proofs.Details.{judge-accepted}
@@ -113,7 +113,7 @@ shape-byte r = go (eqb (kindByte r) 8)
     go false = refl
 
 -- a record whose kind byte is 8 is a close
-close-row : (r : List ℕ) → kindByte r ≡ 8 → kindOf r ≡ 8
+close-row : (r : List ℕ) → kindByte r ≡ 8 → recordRow r ≡ 8
 close-row r e = rw e (go (eqb (versionOf r) 2))
   where
     go : (b : Bool) → _≡_ {A = ℕ} (pick (b && false) lastRow 8) 8
@@ -130,8 +130,8 @@ same-step a r s t u e =
     by-test (eqb (kindByte r) 8)
     (λ q.
     let eight = close-row r (eqb-true _ _ q) in
-    let row : kindOf r ≡ kindOf s = eight ∙ sym (close-row s (sym k ∙ eqb-true _ _ q)) in
-    judge-accepted a r t ∙ close-any a (kindOf r) (valuesOf r) (valuesOf s) eight
+    let row : recordRow r ≡ recordRow s = eight ∙ sym (close-row s (sym k ∙ eqb-true _ _ q)) in
+    judge-accepted a r t ∙ close-any a (recordRow r) (valuesOf r) (valuesOf s) eight
     ∙ ap (λ (n : ℕ). accepted a n (valuesOf s)) row ∙ sym (judge-accepted a s u))
     (λ q. ap (judge a) (unshaped r q ∙ e ∙ sym (unshaped s (ap (λ (n : ℕ). eqb n 8) (sym k) ∙ q))))
   where

@@ -20,7 +20,7 @@ use Rattle.account.specs.Sorts.{sortOf}
 use Rattle.account.specs.Line.{joined, lineOf}
 use Rattle.account.specs.Range.{AccountInRange}
 use Rattle.account.specs.Account.{noRecord}
-use Rattle.account.specs.Judge.{kindOf, valuesOf, judge}
+use Rattle.account.specs.Judge.{recordRow, valuesOf, judge}
 use Rattle.account.proofs.Keeps.{in-range-none, in-range-judge, judge-short}
 use Rattle.book.specs.Front.{Front, unfinished, badLength, whole, need, front}
 use Rattle.book.specs.WholeRecords.{recordsOf}
@@ -296,19 +296,19 @@ first-of a xs x l v q = go (cases a xs v)
 
 entry-line : (pre post : List Entry) (x : Entry) (a : Account) (xs : List ℕ) → AccountInRange a → isDetail (x .bytes) ≡ true
     → entriesAfter a xs ≡ pre ++ (x ∷ post)
-    → x .lines ≡ lineOf (lastHeading (a .heading) (recordsIn pre)) (kindOf (x .bytes)) (valuesOf (x .bytes))
+    → x .lines ≡ lineOf (lastHeading (a .heading) (recordsIn pre)) (recordRow (x .bytes)) (valuesOf (x .bytes))
 unfolding recordsIn lastHeading
 entry-line [] post x a xs v d q =
     let f = first-of a xs x post v q in
     let s = shaped a (x .bytes) (rw (← f .bytes) at (f .counted)) in
     f .lines ∙ ap (λ (r : List ℕ). joined (judge a r .lines)) (sym (f .bytes))
-    ∙ rw (s .detail d) (append-nil (lineOf (a .heading) (kindOf (x .bytes)) (valuesOf (x .bytes))))
+    ∙ rw (s .detail d) (append-nil (lineOf (a .heading) (recordRow (x .bytes)) (valuesOf (x .bytes))))
 entry-line (p ∷ pre) post x a xs v d q =
     let f = first-of a xs p (pre ++ (x ∷ post)) v q in
     let r = take (need xs) xs in
     let s = shaped a r (f .counted) in
     let i = entry-line pre post x (judge a r .account) (drop (need xs) xs) (in-range-judge a r v (f .early)) d (sym (f .rest)) in
-    i ∙ ap (λ (h : Heading). lineOf (lastHeading h (recordsIn pre)) (kindOf (x .bytes)) (valuesOf (x .bytes)))
+    i ∙ ap (λ (h : Heading). lineOf (lastHeading h (recordsIn pre)) (recordRow (x .bytes)) (valuesOf (x .bytes)))
     (s .heading ∙ ap (headingAfter (a .heading)) (sym (f .bytes)))
 
 accepts-entry : (xs : List ℕ) (pre post : List Entry) (x : Entry) → entriesOf xs ≡ pre ++ (x ∷ post) → Accepts xs (recordsIn pre) (x .bytes)
@@ -319,13 +319,13 @@ own-line : (xs : List ℕ) (pre post : List Entry) (x : Entry) → entriesOf xs 
     → x .lines ≡ lineUnder (headingBefore (recordsIn pre)) (x .bytes)
 own-line xs pre post x q d =
     entry-line pre post x noRecord xs in-range-none d q
-    ∙ ap (λ (h : Heading). lineOf h (kindOf (x .bytes)) (valuesOf (x .bytes))) (heading-is (recordsIn pre))
+    ∙ ap (λ (h : Heading). lineOf h (recordRow (x .bytes)) (valuesOf (x .bytes))) (heading-is (recordsIn pre))
 
 -- A detail record that is the same in both books, with the same heading record before it where it is a detail of the group, gives the same line in
 -- both: it is never told as one that gives other lines. By same-line.
 pub unchanged-unlisted : (old new : List ℕ) (pre post pre′ post′ : List Entry) (e n : Entry)
     → entriesOf old ≡ pre ++ (e ∷ post) → entriesOf new ≡ pre′ ++ (n ∷ post′) → e .bytes ≡ n .bytes → isDetail (e .bytes) ≡ true
-    → (sortOf (kindOf (e .bytes)) ≡ OfGroup → headingBefore (recordsIn pre) ≡ headingBefore (recordsIn pre′))
+    → (sortOf (recordRow (e .bytes)) ≡ OfGroup → headingBefore (recordsIn pre) ≡ headingBefore (recordsIn pre′))
     → (e .lines ≡ n .lines) × ((b : Bool) (number : ℕ) → otherText (same (e .lines) (n .lines)) b number (e .bytes) (e .lines) ≡ [])
 unchanged-unlisted old new pre post pre′ post′ e n p q r d h =
     let a = accepts-entry old pre post e p in

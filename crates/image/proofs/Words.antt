@@ -15,7 +15,7 @@ use Rattle.grams.specs.declared.units.Co2.{Co2}
 use Rattle.account.specs.declared.Account.{Account}
 use Rattle.account.specs.Sorts.{sortOf}
 use Rattle.account.specs.Figures.{figuresOf}
-use Rattle.account.specs.Judge.{kindOf, valuesOf, refusals, first, Step, accepted, judge}
+use Rattle.account.specs.Judge.{recordRow, valuesOf, refusals, first, Step, accepted, judge}
 use Rattle.account.proofs.Sorts.{by-sort}
 use Rattle.book.specs.declared.State.{State}
 use Rattle.book.specs.Front.{Front, unfinished, badLength, whole, need, front}
@@ -38,9 +38,9 @@ sum-word c d = omega (arith, word-plus (signedOf (c .0)) (signedOf (d .0)) (sign
 judge-word : (a : Account) (r : List ℕ) → Word a → Word (judge a r .account)
 unfolding judge accepted
 judge-word a r w =
-    let more = sum-word (a .sums .co2) (figuresOf (a .heading) (kindOf r) (valuesOf r) .co2) in
+    let more = sum-word (a .sums .co2) (figuresOf (a .heading) (recordRow r) (valuesOf r) .co2) in
     of-choice (λ (s : Step). Word (s .account)) (eqb (first (refusals a r)) 0)
-    (λ e. by-sort (λ (s : Step). Word (s .account)) (sortOf (kindOf r)) (λ e. w) (λ e. w) (λ e. more) (λ e. more) (λ e. w))
+    (λ e. by-sort (λ (s : Step). Word (s .account)) (sortOf (recordRow r)) (λ e. w) (λ e. w) (λ e. more) (λ e. more) (λ e. w))
     (λ e. w)
 
 -- a run

@@ -17,7 +17,7 @@ use Rattle.codec.specs.Codec.{valAt, recordBytes, Fit}
 use Rattle.codec.proofs.Rows.{fit-kind}
 use Rattle.line_bytes.specs.Lines.{linesMost}
 use Rattle.account.specs.declared.Refusal.{Refusal}
-use Rattle.account.specs.Judge.{kindByte, kindOf, wrongVersion, wrongKind, wrongLength, first, judge, weigh}
+use Rattle.account.specs.Judge.{kindByte, recordRow, wrongVersion, wrongKind, wrongLength, first, judge, weigh}
 use Rattle.book.specs.declared.State.{State}
 use Rattle.book.specs.State.{InRange, inRange}
 use Rattle.book.specs.Run.{run}
@@ -109,7 +109,7 @@ module _ (s : State) (y : Ready s) (k : ℕ) (v : List ℕ) (room : ℕ) where
             (or-cases (ltb n 1) (ltb lastKind n) e)
 
     -- For a wrong count of values the writer gives what the reader gives for any record of that kind that is not of its version's length.
-    pub count-as-reader : 1 ≤ k → k ≤ lastKind → (length v ≡ length (fields (rowFor k (length v))) → ⊥) → (valAt r 0 2 ≡ lengthOf (kindOf r) → ⊥)
+    pub count-as-reader : 1 ≤ k → k ≤ lastKind → (length v ≡ length (fields (rowFor k (length v))) → ⊥) → (valAt r 0 2 ≡ lengthOf (recordRow r) → ⊥)
         → write s k v room .answer ≡ Refused (judge (s .account) r .account .refusal)
     unfolding judge first
     count-as-reader l m n h =

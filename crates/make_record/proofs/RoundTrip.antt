@@ -17,7 +17,7 @@ use Rattle.codec.proofs.Values.{values-length}
 use Rattle.codec.proofs.EachKind.{kind-least, kind-most}
 use Rattle.codec.proofs.Rows.{fit-kind}
 use Rattle.codec.proofs.Round.{record-again}
-use Rattle.account.specs.Judge.{WholeRecord, versionOf, kindByte, kindOf, valuesOf, judge, weigh}
+use Rattle.account.specs.Judge.{WholeRecord, versionOf, kindByte, recordRow, valuesOf, judge, weigh}
 use Rattle.account.proofs.Refusals.{judged-passes}
 use Rattle.account.proofs.Told.{right-length}
 use Rattle.book.specs.declared.State.{State}
@@ -52,7 +52,7 @@ pub written-again : (s : State) (r : List ℕ) (room : ℕ) → Ready s → Byte
     → length r ≤ room
     → write s (kindByte r) (valuesOf r) room ≡ record { state = holding (judge (s .account) r .account) []; bytes = r; answer = Wrote }
 written-again s r room y b w h f =
-    let k = kindOf r in
+    let k = recordRow r in
     let v = valuesOf r in
     let t = judged-passes (s .account) r h in
     let kinds : isKind (kindByte r) ≡ true = not-false _ (t .kind) in

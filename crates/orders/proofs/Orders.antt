@@ -6,7 +6,7 @@ use mathlib.Core.List.{List, [], _∷_, _++_, map, append-assoc}
 use Rattle.account.specs.declared.Account.{Account}
 use Rattle.account.specs.declared.Heading.{Heading}
 use Rattle.account.specs.Line.{joined, lineOf}
-use Rattle.account.specs.Judge.{kindOf, valuesOf}
+use Rattle.account.specs.Judge.{recordRow, valuesOf}
 use Rattle.account.proofs.Details.{DetailKind, withRecord, judge-detail, same-account, Within, within-after, second-first, first-second}
 use Rattle.book.specs.Run.{then, book}
 use Rattle.promises.proofs.SameLine.{book-record}
@@ -17,7 +17,7 @@ use Rattle.orders.proofs.Runs.{Takes, Taken, reached, given}
 -- ---- details one after the other
 
 pub record Detail (a : Account) (r : List ℕ) : Type 0 where
-  pub kind : DetailKind (kindOf r)
+  pub kind : DetailKind (recordRow r)
   pub takes : Takes a r
 
 abbrev pub InTurn : Account → List (List ℕ) → Type 0
@@ -30,7 +30,7 @@ withRecords a [] = a
 withRecords a (r ∷ rs) = withRecords (withRecord a r) rs
 
 abbrev pub lineIn : Heading → List ℕ → List ℕ
-lineIn h r = lineOf h (kindOf r) (valuesOf r)
+lineIn h r = lineOf h (recordRow r) (valuesOf r)
 
 -- where records are taken and all are details, they are so in turn
 pub in-turn : (rs : List (List ℕ)) (a : Account) → Details rs → Taken a rs → InTurn a rs

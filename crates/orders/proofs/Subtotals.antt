@@ -13,7 +13,7 @@ use Rattle.account.specs.declared.Account.{Account}
 use Rattle.account.specs.declared.Heading.{Heading}
 use Rattle.account.specs.Sorts.{sortOf}
 use Rattle.account.specs.Line.{groupOf}
-use Rattle.account.specs.Judge.{versionOf, kindByte, kindOf}
+use Rattle.account.specs.Judge.{versionOf, kindByte, recordRow}
 use Rattle.account.proofs.Sorts.{by-sort}
 use Rattle.account.proofs.Details.{withRecord}
 use Rattle.promises.specs.Headings.{Mark}
@@ -34,9 +34,9 @@ none-there : (rs : List (List ℕ)) (a : Account) (h : Heading) → h .group ≤
 unfolding subtotalLines
 none-there [] a h g t = refl
 none-there (r ∷ rs) a h g t =
-    let k = row-most (kindOf r) (row-of-kind (versionOf r) (kindByte r) (not-false (isKind (kindByte r)) (t .0 .takes .passes .kind))) in
-    let m = ap (λ (m : Mark). m .kind) (line-mark (kindOf r) (groupOf h (kindOf r)) _ (omega (arith, k)) (group-small h (kindOf r) g)) in
-    another-kind (lineIn h r) (map (lineIn h) rs) (kindOf r) m (λ e. omega (arith, e, k)) ∙ none-there rs (withRecord a r) h g (t .1)
+    let k = row-most (recordRow r) (row-of-kind (versionOf r) (kindByte r) (not-false (isKind (kindByte r)) (t .0 .takes .passes .kind))) in
+    let m = ap (λ (m : Mark). m .kind) (line-mark (recordRow r) (groupOf h (recordRow r)) _ (omega (arith, k)) (group-small h (recordRow r) g)) in
+    another-kind (lineIn h r) (map (lineIn h) rs) (recordRow r) m (λ e. omega (arith, e, k)) ∙ none-there rs (withRecord a r) h g (t .1)
 
 pub around : (rs : List (List ℕ)) (a : Account) (h : Heading) (ks ls : List (List ℕ)) → h .group ≤ 65535 → InTurn a rs
     → subtotalLines (ks ++ (map (lineIn h) rs ++ ls)) ≡ subtotalLines ks ++ subtotalLines ls

@@ -18,7 +18,7 @@ use Rattle.account.specs.declared.Account.{Account}
 use Rattle.account.specs.declared.Figures.{Figures}
 use Rattle.account.specs.Sorts.{bySort, sortOf}
 use Rattle.account.specs.Line.{lineWith, totalWith, subtotals, totalOf, joined}
-use Rattle.account.specs.Judge.{kindOf, valuesOf, first, refusals, Step, accepted, judge}
+use Rattle.account.specs.Judge.{recordRow, valuesOf, first, refusals, Step, accepted, judge}
 use Rattle.account.proofs.Sorts.{by-sort, other-kind}
 use Rattle.book.specs.declared.State.{State}
 use Rattle.book.specs.Front.{Front, unfinished, badLength, whole, need, front}
@@ -72,7 +72,7 @@ module _ (P : List ℕ → Type 0) (line : (k g : ℕ) (f : Figures) → LineKin
     unfolding judge
     judge-each a r =
         of-choice (λ (j : Step). Each P (j .lines)) (eqb (first (refusals a r)) 0)
-        (λ e. accepted-each a (kindOf r) (valuesOf r) (kind-in a r (eqb-true _ _ e))) (λ e. tt)
+        (λ e. accepted-each a (recordRow r) (valuesOf r) (kind-in a r (eqb-true _ _ e))) (λ e. tt)
 
     front-each : (f : Front) (a : Account) (xs : List ℕ) (behind : Run) → Each P (behind .lines) → Each P (byFront f a xs behind .lines)
     front-each unfinished a xs behind w = tt

@@ -16,7 +16,7 @@ use Rattle.account.specs.Sorts.{sortOf}
 use Rattle.account.specs.Line.{subtotals, totalOf}
 use Rattle.account.specs.Range.{Numbered}
 use Rattle.account.specs.Account.{closed}
-use Rattle.account.specs.Judge.{kindOf, refusals, first, Step, accepted, judge}
+use Rattle.account.specs.Judge.{recordRow, refusals, first, Step, accepted, judge}
 use Rattle.account.proofs.Sorts.{by-sort}
 use Rattle.account.proofs.Keeps.{in-range-judge}
 use Rattle.book.specs.declared.State.{State}
@@ -47,7 +47,7 @@ unfolding judge accepted
 judged a zs early good =
     of-choice (λ (j : Step). Decided a zs (ran j)) (eqb (first (refusals a zs)) 0)
     (λ e.
-    by-sort (λ (j : Step). Decided a zs (ran j)) (sortOf (kindOf zs))
+    by-sort (λ (j : Step). Decided a zs (ran j)) (sortOf (recordRow zs))
     (λ k. open-yet a zs _ (omega (arith, early)))
     (λ k. open-yet a zs _ (omega (arith, early)))
     (λ k. open-yet a zs _ (omega (arith, early)))

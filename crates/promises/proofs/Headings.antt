@@ -23,7 +23,7 @@ use Rattle.account.specs.Line.{lineWith, subtotals, totalOf}
 use Rattle.account.specs.Figures.{groupFigures}
 use Rattle.account.specs.Range.{AccountInRange}
 use Rattle.account.specs.Account.{underHeading}
-use Rattle.account.specs.Judge.{versionOf, kindByte, kindOf, valuesOf, first, refusals, Step, accepted, judge}
+use Rattle.account.specs.Judge.{versionOf, kindByte, recordRow, valuesOf, first, refusals, Step, accepted, judge}
 use Rattle.account.proofs.Sorts.{by-sort, heads-two}
 use Rattle.account.proofs.Refusals.{not-refused}
 use Rattle.account.proofs.Under.{group-in}
@@ -64,7 +64,7 @@ group-most a f = group-in (f .under)
 -- it is accepted: one record more, its line bears what it should, and the group is that of the last heading
 pub record Grown (a : Account) (r : List ℕ) (j : Step) : Type 0 where
   pub counted : j .account .records ≡ a .records + 1
-  pub marks : map markOf (j .lines) ≡ ownMark (a .heading .group) (kindOf r)
+  pub marks : map markOf (j .lines) ≡ ownMark (a .heading .group) (recordRow r)
   pub group : j .account .heading .group ≡ lastGroup (a .heading .group) (r ∷ [])
 
 -- or refused: no record more, and no line
@@ -73,9 +73,9 @@ pub record Stopped (a : Account) (j : Step) : Type 0 where
   pub counted : j .account .records ≡ a .records
   pub none : j .lines ≡ []
 
-module _ (a : Account) (r : List ℕ) (f : AccountInRange a) (kinds : isRow (kindOf r) ≡ true) where
-  small-kind : kindOf r < 256
-  small-kind = omega (arith, row-most (kindOf r) kinds)
+module _ (a : Account) (r : List ℕ) (f : AccountInRange a) (kinds : isRow (recordRow r) ≡ true) where
+  small-kind : recordRow r < 256
+  small-kind = omega (arith, row-most (recordRow r) kinds)
 
   -- the subtotal of the group that ends
   group-marks : map markOf (subtotals a) ≡ subtotalMark (a .heading .group)
@@ -88,24 +88,24 @@ module _ (a : Account) (r : List ℕ) (f : AccountInRange a) (kinds : isRow (kin
       go false = ap (λ (m : Mark). m ∷ []) (line-mark _ _ _ (omega arith) (omega (arith, group-most a f)))
 
   -- a heading's first value is its group
-  first-value : kindOf r ≡ 2 → getD (valuesOf r) 0 0 ≡ valAt r 4 2
+  first-value : recordRow r ≡ 2 → getD (valuesOf r) 0 0 ≡ valAt r 4 2
   unfolding table valuesAt
   first-value k = rw k refl
 
-  new-heading : sortOf (kindOf r) ≡ Heads
+  new-heading : sortOf (recordRow r) ≡ Heads
       → Grown a r (record { account = underHeading a (getD (valuesOf r) 0 0) (getD (valuesOf r) 1 0) (getD (valuesOf r) 2 0); lines = subtotals a })
   unfolding table valuesAt lastGroup
-  new-heading e = let k = heads-two (kindOf r) e in record { counted = refl; marks = group-marks ∙ rw e refl; group = rw e (first-value k) }
+  new-heading e = let k = heads-two (recordRow r) e in record { counted = refl; marks = group-marks ∙ rw e refl; group = rw e (first-value k) }
 
   close-marks : map markOf (subtotals a ++ (totalOf a ∷ [])) ≡ subtotalMark (a .heading .group) ++ (record { kind = 8; group = 0 } ∷ [])
   close-marks =
       map-append (subtotals a) (totalOf a ∷ []) ∙ rw group-marks (ap (λ (m : Mark). subtotalMark (a .heading .group) ++ (m ∷ []))
       (total-mark _ _))
 
-  grown : Grown a r (accepted a (kindOf r) (valuesOf r))
+  grown : Grown a r (accepted a (recordRow r) (valuesOf r))
   unfolding accepted lastGroup
   grown =
-      by-sort (Grown a r) (sortOf (kindOf r))
+      by-sort (Grown a r) (sortOf (recordRow r))
       (λ e. record { counted = refl; marks = rw e refl; group = rw e refl })
       new-heading
       (λ e. record {
@@ -120,7 +120,7 @@ module _ (a : Account) (r : List ℕ) (f : AccountInRange a) (kinds : isRow (kin
       })
       (λ e. record { counted = refl; marks = close-marks ∙ rw e refl; group = rw e refl })
 
-pub kind-in : (a : Account) (r : List ℕ) → first (refusals a r) ≡ 0 → isRow (kindOf r) ≡ true
+pub kind-in : (a : Account) (r : List ℕ) → first (refusals a r) ≡ 0 → isRow (recordRow r) ≡ true
 kind-in a r e = row-of-kind (versionOf r) (kindByte r) (not-false _ (not-refused a r e .kind))
 
 pub judged : (a : Account) (r : List ℕ) → AccountInRange a → Stopped a (judge a r) ⊎ Grown a r (judge a r)
@@ -196,8 +196,8 @@ unfolding marksOf lastGroup
 marks-append g [] ys = refl
 marks-append g (x ∷ xs) ys = rw (marks-append (groupBy g x) xs ys, append-assoc)
 
-under-heading : (g : ℕ) (r : List ℕ) (rs : List (List ℕ)) → sortOf (kindOf r) ≡ OfGroup
-    → marksOf g (r ∷ rs) ≡ record { kind = kindOf r; group = g } ∷ marksOf g rs
+under-heading : (g : ℕ) (r : List ℕ) (rs : List (List ℕ)) → sortOf (recordRow r) ≡ OfGroup
+    → marksOf g (r ∷ rs) ≡ record { kind = recordRow r; group = g } ∷ marksOf g rs
 unfolding marksOf lastGroup
 under-heading g r rs e = rw e refl
 
@@ -205,10 +205,10 @@ under-heading g r rs e = rw e refl
 -- others, the lines are those of the first ones, then one of r's kind with the group of the last heading among the first ones (the
 -- state's where there is none), then those of the others.
 pub bears-last-heading : (s : State) (xs : List ℕ) → InRange s → (before after : List (List ℕ)) (r : List ℕ)
-    → acceptedRecords s xs ≡ before ++ (r ∷ after) → sortOf (kindOf r) ≡ OfGroup
+    → acceptedRecords s xs ≡ before ++ (r ∷ after) → sortOf (recordRow r) ≡ OfGroup
     → map markOf (run s xs .lines)
     ≡ marksOf (s .account .heading .group) before
-    ++ (record { kind = kindOf r; group = lastGroup (s .account .heading .group) before }
+    ++ (record { kind = recordRow r; group = lastGroup (s .account .heading .group) before }
     ∷ marksOf (lastGroup (s .account .heading .group) before) after)
 bears-last-heading s xs v before after r e q =
     headings s xs v

@@ -20,7 +20,7 @@ use Rattle.account.specs.Figures.{figuresOf}
 use Rattle.account.specs.Range.{accountInRange}
 use Rattle.account.specs.Sorts.{sortOf}
 use Rattle.account.specs.Account.{noRecord, refused}
-use Rattle.account.specs.Judge.{kindOf, first, inPlace, accepted, judge}
+use Rattle.account.specs.Judge.{recordRow, first, inPlace, accepted, judge}
 use Rattle.book.specs.Front.{front}
 use Rattle.book.specs.WholeRecords.{recordsBy, recordsOf}
 use Rattle.book.specs.State.{noRecordYet, holding, inRange, InRange}
@@ -93,6 +93,6 @@ ended-way = inl refl
 -- A ration after a heading: the third record of the sample, under group 12.
 pub ration-under-heading : (acceptedRecords noRecordYet sample ≡ take 2 (recordsOf sample)
     ++ (getD (recordsOf sample) 2 [] ∷ drop 3 (recordsOf sample)))
-    × ((kindOf (getD (recordsOf sample) 2 []) ≡ 3) × (lastGroup 0 (take 2 (recordsOf sample)) ≡ 12))
+    × ((recordRow (getD (recordsOf sample) 2 []) ≡ 3) × (lastGroup 0 (take 2 (recordsOf sample)) ≡ 12))
 unfolding table size valAt valuesAt firstBad first inPlace accepted sortOf judge front bookBy book run recordsBy recordsOf lastGroup
 ration-under-heading = (refl, (refl, refl))

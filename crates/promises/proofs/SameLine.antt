@@ -25,7 +25,7 @@ use Rattle.account.specs.Figures.{figuresOf}
 use Rattle.account.specs.Line.{joined, lineOf}
 use Rattle.account.specs.Range.{AccountInRange}
 use Rattle.account.specs.Account.{noRecord}
-use Rattle.account.specs.Judge.{WholeRecord, kindOf, valuesOf, first, inPlace, accepted, judge}
+use Rattle.account.specs.Judge.{WholeRecord, recordRow, valuesOf, first, inPlace, accepted, judge}
 use Rattle.account.proofs.Sorts.{not-of-group}
 use Rattle.account.proofs.Keeps.{in-range-none, in-range-judge}
 use Rattle.book.specs.Front.{need, front}
@@ -65,8 +65,8 @@ last-is : (rs : List (List ℕ)) (h : List ℕ) → lastHeading (headingFrom h) 
 unfolding lastHeading lastHeadingFrom
 last-is [] h = refl
 last-is (r ∷ rs) h =
-    ap (λ (g : Heading). lastHeading g rs) (heading-after h r (sortOf (kindOf r)))
-    ∙ last-is rs (pick (bySort (sortOf (kindOf r)) false true false false false) r h)
+    ap (λ (g : Heading). lastHeading g rs) (heading-after h r (sortOf (recordRow r)))
+    ∙ last-is rs (pick (bySort (sortOf (recordRow r)) false true false false false) r h)
 
 -- no bytes say what there is before any heading
 no-heading : headingFrom [] ≡ noRecord .heading
@@ -86,7 +86,7 @@ record Stands (a : Account) (xs : List ℕ) (before : List (List ℕ)) (l : List
 
 stands : (before after : List (List ℕ)) (r : List ℕ) → isDetail r ≡ true
     → (a : Account) (xs : List ℕ) → AccountInRange a → bookRecords a xs ≡ before ++ (r ∷ after)
-    → Stands a xs before (lineOf (lastHeading (a .heading) before) (kindOf r) (valuesOf r))
+    → Stands a xs before (lineOf (lastHeading (a .heading) before) (recordRow r) (valuesOf r))
 unfolding lastHeading
 stands [] after r d a xs v q =
     let n = next a xs r after v q in
@@ -97,7 +97,7 @@ stands (b ∷ bs) after r d a xs v q =
     let j = judge a b in
     let s = shaped a b (n .grown .counted) in
     let i = stands bs after r d (j .account) (n .behind) (in-range-judge a b v (n .early)) (n .rest) in
-    let l : Heading → List ℕ = λ h. lineOf (lastHeading h bs) (kindOf r) (valuesOf r) in
+    let l : Heading → List ℕ = λ h. lineOf (lastHeading h bs) (recordRow r) (valuesOf r) in
     let e : book a xs .lines ≡ (j .lines ++ book (j .account) (joined bs) .lines) ++ (l (j .account .heading) ∷ i .others) =
     n .lines ∙ rw (i .lines, append-assoc) refl in
     record {
@@ -116,7 +116,7 @@ gives-line xs before r k d =
     record {
       others = s .others;
       lines =
-          s .lines ∙ ap (λ (g : Heading). book noRecord (joined before) .lines ++ (lineOf g (kindOf r) (valuesOf r) ∷ s .others)) (heading-is before);
+          s .lines ∙ ap (λ (g : Heading). book noRecord (joined before) .lines ++ (lineOf g (recordRow r) (valuesOf r) ∷ s .others)) (heading-is before);
     }
 
 -- and no other.
@@ -132,12 +132,12 @@ farm-line : (g h : Heading) (k : ℕ) (v : List ℕ) → sortOf k ≡ OfFarm →
 unfolding figuresOf
 farm-line g h k v e = let n = not-of-group k e in rw (e, n .0, n .1 .0, n .1 .1 .0, n .1 .1 .1) refl
 
-same-under : (r g h : List ℕ) (s : Sort) → sortOf (kindOf r) ≡ s → bySort s false false true true false ≡ true
-    → (sortOf (kindOf r) ≡ OfGroup → g ≡ h) → lineUnder g r ≡ lineUnder h r
+same-under : (r g h : List ℕ) (s : Sort) → sortOf (recordRow r) ≡ s → bySort s false false true true false ≡ true
+    → (sortOf (recordRow r) ≡ OfGroup → g ≡ h) → lineUnder g r ≡ lineUnder h r
 same-under r g h Opens e d q = no-bool d
 same-under r g h Heads e d q = no-bool d
 same-under r g h OfGroup e d q = rw (q e) refl
-same-under r g h OfFarm e d q = farm-line (headingFrom g) (headingFrom h) (kindOf r) (valuesOf r) e
+same-under r g h OfFarm e d q = farm-line (headingFrom g) (headingFrom h) (recordRow r) (valuesOf r) e
 same-under r g h Closes e d q = no-bool d
 
 -- Two books, any bytes, each accepted up to and with the detail record r; where r is a detail of the group, the last heading records before it are
@@ -145,11 +145,11 @@ same-under r g h Closes e d q = no-bool d
 -- them, and whatever stands behind it.
 pub same-line : (xs ys : List ℕ) (before before′ : List (List ℕ)) (r l l′ : List ℕ)
     → Accepts xs before r → Accepts ys before′ r
-    → isDetail r ≡ true → (sortOf (kindOf r) ≡ OfGroup → headingBefore before ≡ headingBefore before′)
+    → isDetail r ≡ true → (sortOf (recordRow r) ≡ OfGroup → headingBefore before ≡ headingBefore before′)
     → Gives xs before l → Gives ys before′ l′ → l ≡ l′
 same-line xs ys before before′ r l l′ k k′ d h g g′ =
     one-line xs before r l k d g
-    ∙ same-under r (headingBefore before) (headingBefore before′) (sortOf (kindOf r)) refl d h
+    ∙ same-under r (headingBefore before) (headingBefore before′) (sortOf (recordRow r)) refl d h
     ∙ sym (one-line ys before′ r l′ k′ d g′)
 
 -- ---- the premises are met
@@ -160,7 +160,7 @@ unfolding table size valAt valuesAt firstBad first inPlace accepted cattle.below
 shared-accepted = (record { after = drop 8 (recordsOf everyKind); records = refl }, record { after = []; records = refl })
 
 -- it is a detail of the group, and the last heading records before it are the same:
-pub shared-heading : (sortOf (kindOf sharedPig) ≡ OfGroup) × ((headingBefore everyKindBefore ≡ sharedHeading) ×
+pub shared-heading : (sortOf (recordRow sharedPig) ≡ OfGroup) × ((headingBefore everyKindBefore ≡ sharedHeading) ×
     (headingBefore otherBefore ≡ sharedHeading))
 unfolding sortOf valAt front recordsBy recordsOf lastHeadingFrom
 shared-heading = (refl, (refl, refl))

@@ -25,7 +25,7 @@ use Rattle.account.specs.Sorts.{sortOf, bySort}
 use Rattle.account.specs.Figures.{noFigures, noSubtotal, added, grouped, groupFigures, co2Alone}
 use Rattle.account.specs.Line.{lineWith, subtotals, totalOf}
 use Rattle.account.specs.Range.{Ungrouped, AccountInRange}
-use Rattle.account.specs.Judge.{kindOf, valuesOf, first, refusals, Step, accepted, judge}
+use Rattle.account.specs.Judge.{recordRow, valuesOf, first, refusals, Step, accepted, judge}
 use Rattle.account.proofs.Sorts.{by-sort}
 use Rattle.account.proofs.EachFigure.{of-farm}
 use Rattle.account.proofs.Keeps.{in-range-judge}
@@ -81,7 +81,7 @@ pub record Gas : Type 0 where
 
 -- whether a record closes the book
 abbrev closing : List ℕ → Bool
-closing r = bySort (sortOf (kindOf r)) false false false false true
+closing r = bySort (sortOf (recordRow r)) false false false false true
 
 -- it is accepted, with the kind k: heading, subtotal, sums and subtotal lines are those that the records make
 record Made (a : Account) (r : List ℕ) (j : Step) : Type 0 where
@@ -93,7 +93,7 @@ record Made (a : Account) (r : List ℕ) (j : Step) : Type 0 where
   still : a .stage < 2 → closing r ≡ false → j .account .stage < 2
   shut : closing r ≡ true → j .account .stage ≡ 2
 
-module _ (a : Account) (r : List ℕ) (f : AccountInRange a) (kinds : isRow (kindOf r) ≡ true) where
+module _ (a : Account) (r : List ℕ) (f : AccountInRange a) (kinds : isRow (recordRow r) ≡ true) where
   -- the subtotal of the group that ends
   ending : subtotalLines (subtotals a) ≡ map lineOfGroup (groupUnder (a .heading) (a .subtotal))
   unfolding subtotalLines
@@ -108,18 +108,18 @@ module _ (a : Account) (r : List ℕ) (f : AccountInRange a) (kinds : isRow (kin
           (line-kind 16 (a .heading .group) _ (omega arith) (omega (arith, group-most a f)))
 
   -- a detail gives no subtotal line
-  detail-line : (g : ℕ) → g < 65536 → subtotalLines (lineWith (kindOf r) g (detailOf (a .heading) r) ∷ []) ≡ []
+  detail-line : (g : ℕ) → g < 65536 → subtotalLines (lineWith (recordRow r) g (detailOf (a .heading) r) ∷ []) ≡ []
   detail-line g b =
-      let most = row-most (kindOf r) kinds in
-      other-line (lineWith (kindOf r) g (detailOf (a .heading) r)) (kindOf r) (line-kind (kindOf r) _ _ (omega arith) b) (λ q. omega (arith, q, most))
+      let most = row-most (recordRow r) kinds in
+      other-line (lineWith (recordRow r) g (detailOf (a .heading) r)) (recordRow r) (line-kind (recordRow r) _ _ (omega arith) b) (λ q. omega (arith, q, most))
 
   total-line : subtotalLines (totalOf a ∷ []) ≡ []
   total-line = other-line (totalOf a) 8 (ap (λ (m : Mark). m .kind) (total-mark _ _)) (λ q. omega (arith, q))
 
-  made : Made a r (accepted a (kindOf r) (valuesOf r))
+  made : Made a r (accepted a (recordRow r) (valuesOf r))
   unfolding accepted subtotalLines
   made =
-      by-sort (Made a r) (sortOf (kindOf r))
+      by-sort (Made a r) (sortOf (recordRow r))
       (λ e. record {
         counted = refl;
         heading = rw e refl;
@@ -212,8 +212,8 @@ module _ (a : Account) (r : List ℕ) (f : AccountInRange a) (x : Gas) where
   Nothing g = x .farm g ≡ 0
 
   -- a detail of the farm gives CO2 alone
-  air-alone : sortOf (kindOf r) ≡ OfFarm → x .farm (detailOf (a .heading) r) ≡ 0
-  air-alone e = of-farm Nothing (a .heading) (kindOf r) (valuesOf r) e (x .air)
+  air-alone : sortOf (recordRow r) ≡ OfFarm → x .farm (detailOf (a .heading) r) ≡ 0
+  air-alone e = of-farm Nothing (a .heading) (recordRow r) (valuesOf r) e (x .air)
 
   abbrev Balanced : Sort → Type 0
   Balanced s =
@@ -222,7 +222,7 @@ module _ (a : Account) (r : List ℕ) (f : AccountInRange a) (x : Gas) where
       ≡ x .farm (a .sums) + addedUp (x .group) (bySort s [] (groupUnder (a .heading) (a .subtotal)) [] [] (groupUnder (a .heading) (a .subtotal)))
       + x .group (bySort s (a .subtotal) noSubtotal (grouped (a .subtotal) (detailOf (a .heading) r)) (a .subtotal) (a .subtotal))
 
-  balance-by : (s : Sort) → sortOf (kindOf r) ≡ s → bySort s false false false false true ≡ false → Balanced s
+  balance-by : (s : Sort) → sortOf (recordRow r) ≡ s → bySort s false false false false true ≡ false → Balanced s
   unfolding addedUp
   balance-by Opens e n = omega arith
   balance-by Heads e n = omega (arith, ended-group a f x, x .none)
@@ -233,7 +233,7 @@ module _ (a : Account) (r : List ℕ) (f : AccountInRange a) (x : Gas) where
   balance : closing r ≡ false
       → x .farm (farmAfter (a .heading) (a .sums) r) + x .group (a .subtotal)
       ≡ x .farm (a .sums) + addedUp (x .group) (ends (a .heading) (a .subtotal) r) + x .group (groupAfter (a .heading) (a .subtotal) r)
-  balance n = balance-by (sortOf (kindOf r)) refl n
+  balance n = balance-by (sortOf (recordRow r)) refl n
 
 -- only the close closes
 closes-by : (s : Sort) → bySort s false false false false true ≡ true → s ≡ Closes
@@ -280,7 +280,7 @@ module _ (a : Account) (xs : List ℕ) (j : Step) (b : Run) (f : AccountInRange 
       (ends (a .heading) (a .subtotal) r ++ groupsOf (headingAfter (a .heading) r) (groupAfter (a .heading) (a .subtotal) r) rs)
   unfolding groupsOf
   closing-balance x e8 =
-      let k = closes-by (sortOf (kindOf r)) e8 in
+      let k = closes-by (sortOf (recordRow r)) e8 in
       let same = shut (m .shut e8) in
       let z : b .state .account .records - j .account .records ≡ 0 = omega (arith, ap (λ (c : Account). c .records) same) in
       let sums : b .state .account .sums ≡ a .sums = ap (λ (c : Account). c .sums) same ∙ m .sums ∙ rw k refl in

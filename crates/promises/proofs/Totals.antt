@@ -21,7 +21,7 @@ use Rattle.account.specs.Figures.{noFigures, noSubtotal, listed, groupFigures}
 use Rattle.account.specs.Line.{lineWith, subtotals, totalWith, totalOf}
 use Rattle.account.specs.Range.{Bounded, AccountInRange}
 use Rattle.account.specs.Account.{noRecord}
-use Rattle.account.specs.Judge.{kindOf, first, refusals, Step, accepted, judge}
+use Rattle.account.specs.Judge.{recordRow, first, refusals, Step, accepted, judge}
 use Rattle.account.proofs.Sorts.{by-sort}
 use Rattle.account.proofs.Keeps.{in-range-judge}
 use Rattle.book.specs.declared.State.{State}
@@ -60,7 +60,7 @@ unfolding judge accepted
 closes-with a r early =
     of-choice (λ (j : Step). j .account .stage ≡ 2 → EndsWith (totalOf (j .account)) (j .lines)) (eqb (first (refusals a r)) 0)
     (λ e.
-    by-sort (λ (j : Step). j .account .stage ≡ 2 → EndsWith (totalOf (j .account)) (j .lines)) (sortOf (kindOf r))
+    by-sort (λ (j : Step). j .account .stage ≡ 2 → EndsWith (totalOf (j .account)) (j .lines)) (sortOf (recordRow r))
     (λ k q. absurd (omega (arith, q)))
     (λ k q. absurd (omega (arith, q)))
     (λ k q. absurd (omega (arith, q)))

@@ -19,7 +19,7 @@ use Rattle.account.specs.declared.Account.{Account}
 use Rattle.account.specs.declared.sort.Sort.the-variants as sort
 use Rattle.account.specs.Sorts.{isFarm, sortOf}
 use Rattle.account.specs.Account.{opened, refused, noRecord, farmOf, factorsOf}
-use Rattle.account.specs.Judge.{WholeRecord, versionOf, kindByte, kindOf, valuesOf, refusals, first, inPlace, Step}
+use Rattle.account.specs.Judge.{WholeRecord, versionOf, kindByte, recordRow, valuesOf, refusals, first, inPlace, Step}
 use Rattle.account.specs.Judge.{accepted, weigh, judge}
 use Rattle.account.specs.Told.{Kind}
 use Rattle.account.proofs.Sorts.{by-sort, sort-farm}
@@ -53,7 +53,7 @@ record-keeps a r h =
     of-choice (Keeps a) (eqb (first (refusals a r)) 0)
     (λ e.
     let t = not-refused a r (eqb-true _ _ e) in
-    by-sort (Keeps a) (sortOf (kindOf r)) (λ o. absurd (no-second a (kindOf r) h (opens-farm (kindOf r) o) (not-false _ (t .values .place))))
+    by-sort (Keeps a) (sortOf (recordRow r)) (λ o. absurd (no-second a (recordRow r) h (opens-farm (recordRow r) o) (not-false _ (t .values .place))))
     (λ o. (refl, omega arith)) (λ o. (refl, omega arith)) (λ o. (refl, omega arith)) (λ o. (refl, omega arith)))
     (λ e. (refl, h))
 
@@ -87,15 +87,15 @@ accepted-opens : (k : ℕ) (v : List ℕ) → k ≡ 1 → Opens v (accepted noRe
 unfolding accepted sortOf Opens
 accepted-opens k v e = rw e (λ o. (refl, omega arith))
 
-set-opens : (r : List ℕ) → kindOf r ≡ 1 → Opens (valuesOf r) (judge noRecord r)
+set-opens : (r : List ℕ) → recordRow r ≡ 1 → Opens (valuesOf r) (judge noRecord r)
 unfolding judge
 set-opens r k =
-    of-choice (Opens (valuesOf r)) (eqb (first (refusals noRecord r)) 0) (λ e. accepted-opens (kindOf r) (valuesOf r) k) (λ e. never e)
+    of-choice (Opens (valuesOf r)) (eqb (first (refusals noRecord r)) 0) (λ e. accepted-opens (recordRow r) (valuesOf r) k) (λ e. never e)
   where
     never : eqb (first (refusals noRecord r)) 0 ≡ false
         → Opens (valuesOf r) (record {
           account = refused noRecord (first (refusals noRecord r))
-              (pick (eqb (first (refusals noRecord r)) 7) (firstBad (fields (kindOf r)) (valuesOf r) 0) 0);
+              (pick (eqb (first (refusals noRecord r)) 7) (firstBad (fields (recordRow r)) (valuesOf r) 0) 0);
           lines = [];
         })
     never e = unopened (valuesOf r) _ refl
@@ -105,7 +105,7 @@ pub old-books : (r xs : List ℕ) → WholeRecord r → versionOf r ≡ 1 → ki
     → factorsOf (run noRecordYet (r ++ xs) .state .account .farm) ≡ setFactors (getD (valuesOf r) 2 0)
 unfolding run book Opens
 old-books r xs w v k o =
-    let row : kindOf r ≡ 1 = rw (v, k) refl in
+    let row : recordRow r ≡ 1 = rw (v, k) refl in
     let first-one = set-opens r row o in
     ap (λ (x : Run). factorsOf (x .state .account .farm)) (book-record noRecord r xs w (omega arith))
     ∙ ap factorsOf (book-keeps (suc (length xs)) (judge noRecord r .account) xs (first-one .1))

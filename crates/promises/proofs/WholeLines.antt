@@ -16,7 +16,7 @@ use Rattle.account.specs.declared.sort.Sort.the-variants.{Opens, Heads, OfGroup
 use Rattle.account.specs.Sorts.{sortOf, bySort}
 use Rattle.account.specs.Line.{lineOf}
 use Rattle.account.specs.Range.{AccountInRange}
-use Rattle.account.specs.Judge.{WholeRecord, kindOf, valuesOf, first, refusals, Step, accepted, judge}
+use Rattle.account.specs.Judge.{WholeRecord, recordRow, valuesOf, first, refusals, Step, accepted, judge}
 use Rattle.account.proofs.Sorts.{by-sort}
 use Rattle.account.proofs.Keeps.{in-range-judge}
 use Rattle.book.specs.declared.State.{State}
@@ -37,14 +37,14 @@ use Rattle.promises.proofs.Headings.{Grown, Stopped, judged, marked, ma
 -- it leaves the heading that the records make, and a detail gives its line alone
 pub record Shaped (a : Account) (r : List ℕ) (j : Step) : Type 0 where
   pub heading : j .account .heading ≡ headingAfter (a .heading) r
-  pub detail : isDetail r ≡ true → j .lines ≡ lineOf (a .heading) (kindOf r) (valuesOf r) ∷ []
+  pub detail : isDetail r ≡ true → j .lines ≡ lineOf (a .heading) (recordRow r) (valuesOf r) ∷ []
 
 pub shaped : (a : Account) (r : List ℕ) → judge a r .account .records ≡ a .records + 1 → Shaped a r (judge a r)
 unfolding judge accepted
 shaped a r =
     of-choice (λ (j : Step). j .account .records ≡ a .records + 1 → Shaped a r j) (eqb (first (refusals a r)) 0)
     (λ e.
-    by-sort (λ (j : Step). j .account .records ≡ a .records + 1 → Shaped a r j) (sortOf (kindOf r))
+    by-sort (λ (j : Step). j .account .records ≡ a .records + 1 → Shaped a r j) (sortOf (recordRow r))
     (λ k n. record { heading = rw k refl; detail = λ q. no-bool (rw k at q) })
     (λ k n. record { heading = rw k refl; detail = λ q. no-bool (rw k at q) })
     (λ k n. record { heading = rw k refl; detail = λ q. refl })
@@ -113,7 +113,7 @@ next a xs r rs v q =
 
 among : (before after : List (List ℕ)) (r : List ℕ) → isDetail r ≡ true
     → (a : Account) (xs : List ℕ) → AccountInRange a → bookRecords a xs ≡ before ++ (r ∷ after)
-    → Among (marksOf (a .heading .group) before) (lineOf (lastHeading (a .heading) before) (kindOf r) (valuesOf r)) (book a xs .lines)
+    → Among (marksOf (a .heading .group) before) (lineOf (lastHeading (a .heading) before) (recordRow r) (valuesOf r)) (book a xs .lines)
 unfolding marksOf lastHeading
 among [] after r d a xs v q =
     let n = next a xs r after v q in
@@ -126,13 +126,13 @@ among (b ∷ bs) after r d a xs v q =
     let i = among bs after r d (j .account) (n .behind) (in-range-judge a b v (n .early)) (n .rest) in
     let g : j .account .heading .group ≡ lastGroup (a .heading .group) (b ∷ []) = n .grown .group in
     let h : j .account .heading ≡ headingAfter (a .heading) b = s .heading in
-    let e : book a xs .lines ≡ (j .lines ++ i .before) ++ (lineOf (lastHeading (j .account .heading) bs) (kindOf r) (valuesOf r) ∷ i .behind) =
+    let e : book a xs .lines ≡ (j .lines ++ i .before) ++ (lineOf (lastHeading (j .account .heading) bs) (recordRow r) (valuesOf r) ∷ i .behind) =
     n .lines ∙ rw (i .are, append-assoc) refl in
     record {
       before = j .lines ++ i .before;
       behind = i .behind;
       bear = map-append (j .lines) (i .before) ∙ rw (n .grown .marks, i .bear, g) refl;
-      are = e ∙ ap (λ (h : Heading). (j .lines ++ i .before) ++ (lineOf (lastHeading h bs) (kindOf r) (valuesOf r) ∷ i .behind)) h;
+      are = e ∙ ap (λ (h : Heading). (j .lines ++ i .before) ++ (lineOf (lastHeading h bs) (recordRow r) (valuesOf r) ∷ i .behind)) h;
     }
 
 -- Where the records that a run accepts are some, then a detail r, then others: among its lines, right behind those that the first ones bear, stands
@@ -140,7 +140,7 @@ among (b ∷ bs) after r d a xs v q =
 pub line-of-record : (s : State) (xs : List ℕ) → InRange s → (before after : List (List ℕ)) (r : List ℕ)
     → acceptedRecords s xs ≡ before ++ (r ∷ after) → isDetail r ≡ true
     → Among (marksOf (s .account .heading .group) before)
-    (lineOf (lastHeading (s .account .heading) before) (kindOf r) (valuesOf r))
+    (lineOf (lastHeading (s .account .heading) before) (recordRow r) (valuesOf r))
     (run s xs .lines)
 unfolding run
 line-of-record s xs v before after r e d = among before after r d (s .account) (heldOf s ++ xs) (v .account) e
@@ -153,7 +153,7 @@ unfolding lastHeading noHeading
 stays h [] n = refl
 stays h (r ∷ rs) n =
     let a : isHeading r ≡ false = not-true (isHeading r) (and-l (not (isHeading r)) (noHeading rs) n) in
-    let e : headingAfter h r ≡ h = other-stays (sortOf (kindOf r)) h (headingFrom r) a in
+    let e : headingAfter h r ≡ h = other-stays (sortOf (recordRow r)) h (headingFrom r) a in
     ap (λ (g : Heading). lastHeading g rs) e ∙ stays h rs (and-r (not (isHeading r)) (noHeading rs) n)
   where
     other-stays : (s : Sort) (g new : Heading) → bySort s false true false false false ≡ false → bySort s g new g g g ≡ g
@@ -175,13 +175,13 @@ last-is : (before between : List (List ℕ)) (l : List ℕ) (h : Heading) → is
     → lastHeading h (before ++ (l ∷ between)) ≡ headingFrom l
 unfolding lastHeading
 last-is [] between l h e n =
-    ap (λ (g : Heading). lastHeading g between) (brings (sortOf (kindOf l)) h (headingFrom l) e) ∙ stays (headingFrom l) between n
+    ap (λ (g : Heading). lastHeading g between) (brings (sortOf (recordRow l)) h (headingFrom l) e) ∙ stays (headingFrom l) between n
 last-is (b ∷ before) between l h e n = last-is before between l (headingAfter h b) e n
 
 -- Where they are some, then a heading record l, then some without a heading, then a detail r, then others, r's line is made of l's group, class and
 -- head and of r's values alone.
 pub line-under-heading : (s : State) (xs : List ℕ) → InRange s → (before between after : List (List ℕ)) (l r : List ℕ)
     → acceptedRecords s xs ≡ (before ++ (l ∷ between)) ++ (r ∷ after) → isHeading l ≡ true → noHeading between ≡ true → isDetail r ≡ true
-    → Among (marksOf (s .account .heading .group) (before ++ (l ∷ between))) (lineOf (headingFrom l) (kindOf r) (valuesOf r)) (run s xs .lines)
+    → Among (marksOf (s .account .heading .group) (before ++ (l ∷ between))) (lineOf (headingFrom l) (recordRow r) (valuesOf r)) (run s xs .lines)
 line-under-heading s xs v before between after l r e q n d =
     rw (last-is before between l (s .account .heading) q n) at (line-of-record s xs v (before ++ (l ∷ between)) after r e d)

@@ -12,7 +12,7 @@ use Rattle.codec.specs.Codec.{firstBad}
 use Rattle.account.specs.declared.Account.{Account}
 use Rattle.account.specs.Line.{subtotals, totalOf}
 use Rattle.account.specs.Account.{standing, refused, closed}
-use Rattle.account.specs.Judge.{kindOf, valuesOf, refusals, first}
+use Rattle.account.specs.Judge.{recordRow, valuesOf, refusals, first}
 use Rattle.book.specs.declared.State.{State}
 use Rattle.book.specs.Front.{bad}
 use Rattle.book.specs.State.{heldOf, holding}
@@ -32,7 +32,7 @@ codeFor a zs = pick (bad zs) 1 (first (refusals a zs))
 
 -- its field, 0 but for 7
 abbrev pub fieldFor : Account → List ℕ → ℕ
-fieldFor a zs = pick (eqb (codeFor a zs) 7) (firstBad (fields (kindOf zs)) (valuesOf zs) 0) 0
+fieldFor a zs = pick (eqb (codeFor a zs) 7) (firstBad (fields (recordRow zs)) (valuesOf zs) 0) 0
 
 -- refused so: code, records accepted so far and field are stored, all the rest is kept
 abbrev pub refusedFor : Account → List ℕ → Account

@@ -10,7 +10,7 @@ use Rattle.base.specs.Choice.{pick}
 use Rattle.codec.specs.Codec.{valAt}
 use Rattle.account.specs.Sorts.{sortOf, bySort}
 use Rattle.account.specs.Line.{joined}
-use Rattle.account.specs.Judge.{kindOf}
+use Rattle.account.specs.Judge.{recordRow}
 use Rattle.book.specs.declared.State.{State}
 use Rattle.book.specs.WholeRecords.{recordsOf}
 use Rattle.book.specs.State.{heldOf}
@@ -22,7 +22,7 @@ acceptedRecords s xs = take (run s xs .state .account .records - s .account .rec
 
 -- the group after the record r, g being the one before it: a heading brings its own
 abbrev pub groupBy : ℕ → List ℕ → ℕ
-groupBy g r = bySort (sortOf (kindOf r)) g (valAt r 4 2) g g g
+groupBy g r = bySort (sortOf (recordRow r)) g (valAt r 4 2) g g g
 
 -- the group of the last heading record of rs; g where there is none
 unfoldable pub lastGroup : ℕ → List (List ℕ) → ℕ
@@ -54,7 +54,7 @@ ownMark g k =
 -- what the lines of the records rs bear, g being the last group before them
 unfoldable pub marksOf : ℕ → List (List ℕ) → List Mark
 marksOf g [] = []
-marksOf g (r ∷ rs) = ownMark g (kindOf r) ++ marksOf (lastGroup g (r ∷ [])) rs
+marksOf g (r ∷ rs) = ownMark g (recordRow r) ++ marksOf (lastGroup g (r ∷ [])) rs
 
 -- some bytes are lines one after the other, which bear these marks
 pub record Bears (marks : List Mark) (bytes : List ℕ) : Type 0 where

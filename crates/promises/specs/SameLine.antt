@@ -7,7 +7,7 @@ use mathlib.Core.List.{List, [], _∷_, _++_}
 use lib.ListN.{take}
 use Rattle.base.specs.Choice.{pick}
 use Rattle.account.specs.Line.{joined, lineOf}
-use Rattle.account.specs.Judge.{kindOf, valuesOf}
+use Rattle.account.specs.Judge.{recordRow, valuesOf}
 use Rattle.book.specs.WholeRecords.{recordsOf}
 use Rattle.book.specs.State.{noRecordYet}
 use Rattle.book.specs.Run.{run}
@@ -36,7 +36,7 @@ pub record Gives (xs : List ℕ) (before : List (List ℕ)) (l : List ℕ) : Typ
 
 -- the line of a detail record r under the heading record h
 abbrev pub lineUnder : List ℕ → List ℕ → List ℕ
-lineUnder h r = lineOf (headingFrom h) (kindOf r) (valuesOf r)
+lineUnder h r = lineOf (headingFrom h) (recordRow r) (valuesOf r)
 
 -- ---- two books that share one pig record and its heading, and nothing else
 

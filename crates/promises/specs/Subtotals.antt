@@ -14,28 +14,28 @@ use Rattle.account.specs.Sorts.{sortOf, bySort}
 use Rattle.account.specs.Figures.{added, noSubtotal, grouped, groupFigures, figuresOf}
 use Rattle.account.specs.Line.{lineWith}
 use Rattle.account.specs.Account.{noRecord}
-use Rattle.account.specs.Judge.{kindOf, valuesOf}
+use Rattle.account.specs.Judge.{recordRow, valuesOf}
 use Rattle.book.specs.State.{noRecordYet}
 use Rattle.promises.specs.Headings.{acceptedRecords}
 
 -- the figures of a detail record r under the heading h
 abbrev pub detailOf : Heading → List ℕ → Figures
-detailOf h r = figuresOf h (kindOf r) (valuesOf r)
+detailOf h r = figuresOf h (recordRow r) (valuesOf r)
 
 -- a record that heads a group is the new heading
 abbrev pub headingAfter : Heading → List ℕ → Heading
 headingAfter h r =
-    bySort (sortOf (kindOf r)) h
+    bySort (sortOf (recordRow r)) h
     (record { group = getD (valuesOf r) 0 0; class = getD (valuesOf r) 1 0; head = getD (valuesOf r) 2 0 })
     h h h
 
 -- a group's subtotal is that of its details; a new heading begins with nothing
 abbrev pub groupAfter : Heading → Subtotal → List ℕ → Subtotal
-groupAfter h s r = bySort (sortOf (kindOf r)) s noSubtotal (grouped s (detailOf h r)) s s
+groupAfter h s r = bySort (sortOf (recordRow r)) s noSubtotal (grouped s (detailOf h r)) s s
 
 -- the farm's figures are those of all details, of groups and of the farm
 abbrev pub farmAfter : Heading → Figures → List ℕ → Figures
-farmAfter h f r = bySort (sortOf (kindOf r)) f f (added f (detailOf h r)) (added f (detailOf h r)) f
+farmAfter h f r = bySort (sortOf (recordRow r)) f f (added f (detailOf h r)) (added f (detailOf h r)) f
 
 -- a group that has ended: its number and its subtotal
 pub record Group : Type 0 where
@@ -48,7 +48,7 @@ groupUnder h s = pick (eqb (h .group) 0) [] (record { number = h .group; subtota
 
 -- a new heading and the close end the group before them
 abbrev pub ends : Heading → Subtotal → List ℕ → List Group
-ends h s r = bySort (sortOf (kindOf r)) [] (groupUnder h s) [] [] (groupUnder h s)
+ends h s r = bySort (sortOf (recordRow r)) [] (groupUnder h s) [] [] (groupUnder h s)
 
 -- the groups that end in the records rs, in order, the heading h and its subtotal s so far being before them
 unfoldable pub groupsOf : Heading → Subtotal → List (List ℕ) → List Group

@@ -8,13 +8,13 @@ use mathlib.Core.Bool.{Bool, true, false, _&&_, not}
 use lib.ListN.{getD}
 use Rattle.account.specs.declared.Heading.{Heading}
 use Rattle.account.specs.Sorts.{sortOf, bySort}
-use Rattle.account.specs.Judge.{kindOf, valuesOf}
+use Rattle.account.specs.Judge.{recordRow, valuesOf}
 use Rattle.promises.specs.Headings.{Mark, markOf}
 use Rattle.promises.specs.Subtotals.{headingAfter}
 
 -- r is a detail, of a group or of the farm
 abbrev pub isDetail : List ℕ → Bool
-isDetail r = bySort (sortOf (kindOf r)) false false true true false
+isDetail r = bySort (sortOf (recordRow r)) false false true true false
 
 -- the heading that the last heading record of rs brings; h where there is none
 unfoldable pub lastHeading : Heading → List (List ℕ) → Heading
@@ -23,7 +23,7 @@ lastHeading h (r ∷ rs) = lastHeading (headingAfter h r) rs
 
 -- r is a heading record
 abbrev pub isHeading : List ℕ → Bool
-isHeading r = bySort (sortOf (kindOf r)) false true false false false
+isHeading r = bySort (sortOf (recordRow r)) false true false false false
 
 -- the heading that it brings: group, class and head
 abbrev pub headingFrom : List ℕ → Heading

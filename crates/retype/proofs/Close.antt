@@ -13,7 +13,7 @@ use Rattle.codec.specs.Table.{table, fields, rowOf}
 use Rattle.codec.proofs.Values.{values-length}
 use Rattle.account.specs.declared.Account.{Account}
 use Rattle.account.specs.Sorts.{sortOf}
-use Rattle.account.specs.Judge.{Step, kindByte, versionOf, kindOf, valuesOf, accepted, wrongCount, judge}
+use Rattle.account.specs.Judge.{Step, kindByte, versionOf, recordRow, valuesOf, accepted, wrongCount, judge}
 use Rattle.account.proofs.Refusals.{judged-passes}
 use Rattle.account.proofs.Details.{judge-accepted}
 
@@ -38,14 +38,14 @@ unfolding accepted sortOf
 closes a k v e = rw e refl
 
 module _ (a : Account) (r : List ℕ) (h : judge a r .account .stage ≡ 3 → ⊥) (e : kindByte r ≡ 8) where
-  row : kindOf r ≡ 8
+  row : recordRow r ≡ 8
   row = row-is (versionOf r) (kindByte r) e
 
   pub close-counts : valuesOf r ≡ a .records ∷ []
   close-counts =
-      one-value (valuesOf r) (a .records) (values-length (fields (kindOf r)) r 4 ∙ one-field (kindOf r) row)
-      (counts a (kindOf r) (valuesOf r) row (judged-passes a r h .values .count))
+      one-value (valuesOf r) (a .records) (values-length (fields (recordRow r)) r 4 ∙ one-field (recordRow r) row)
+      (counts a (recordRow r) (valuesOf r) row (judged-passes a r h .values .count))
 
   pub close-ends : judge a r .account .stage ≡ 2
   close-ends =
-      ap (λ (s : Step). s .account .stage) (judge-accepted a r (judged-passes a r h)) ∙ closes a (kindOf r) (valuesOf r) row
+      ap (λ (s : Step). s .account .stage) (judge-accepted a r (judged-passes a r h)) ∙ closes a (recordRow r) (valuesOf r) row

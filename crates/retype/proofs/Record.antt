@@ -18,7 +18,7 @@ use Rattle.text_lines.proofs.Bytes.{before-all, has-behind}
 use Rattle.codec.specs.Table.{table, fields, rowKind, Of, isKind, lastKind, lastRow, recordMost}
 use Rattle.base.proofs.Tests.{and-false, by-test, not-false}
 use Rattle.account.specs.Sorts.{isOfGroup}
-use Rattle.account.specs.Judge.{WholeRecord, versionOf, kindByte, kindOf, valuesOf, judge}
+use Rattle.account.specs.Judge.{WholeRecord, versionOf, kindByte, recordRow, valuesOf, judge}
 use Rattle.book.specs.declared.State.{State}
 use Rattle.book.specs.State.{holding}
 use Rattle.make_record.specs.Write.{Write, write, Ready}
@@ -267,50 +267,50 @@ module _ (s : State) (y : Ready s) (r : List ℕ) (w : WholeRecord r) (b : Bytes
   typed : Typable r
   typed = typable (s .account) r w h
 
-  of : Of (kindOf r) (valuesOf r)
+  of : Of (recordRow r) (valuesOf r)
   of = typable-of r typed
 
-  all : AllBack (kindOf r) 0 (valuesOf r)
-  all = all-back (kindOf r) (valuesOf r) of (typed .ranges)
+  all : AllBack (recordRow r) 0 (valuesOf r)
+  all = all-back (recordRow r) (valuesOf r) of (typed .ranges)
 
   -- the entry that its line says
   abbrev said′ : Entry
   said′ = entry (kindByte r) (valuesOf r)
 
-  line-says : lineSaid (typedLine (kindOf r) (valuesOf r)) ≡ record { said = said.Record; entry = said′ }
+  line-says : lineSaid (typedLine (recordRow r) (valuesOf r)) ≡ record { said = said.Record; entry = said′ }
   line-says =
-      let own : rowKind (kindOf r) ≡ kindByte r = sym (kind-again (versionOf r) (kindByte r) kinds) in
-      says (kindOf r) (valuesOf r) (of .least) (of .most) (of .count) all
+      let own : rowKind (recordRow r) ≡ kindByte r = sym (kind-again (versionOf r) (kindByte r) kinds) in
+      says (recordRow r) (valuesOf r) (of .least) (of .most) (of .count) all
       ∙ ap (λ (j : ℕ). record { said = said.Record; entry = entry j (valuesOf r) }) own
 
   -- its line is kept whole, and has no line feed in it
-  pub line-whole : (n : ℕ) → unmarked n (kept (typedLine (kindOf r) (valuesOf r))) ≡ typedLine (kindOf r) (valuesOf r)
+  pub line-whole : (n : ℕ) → unmarked n (kept (typedLine (recordRow r) (valuesOf r))) ≡ typedLine (recordRow r) (valuesOf r)
   line-whole n =
-      rw (kept-whole (kindOf r) (valuesOf r) (of .least) (of .most) (of .count) all)
-      (no-mark (kindOf r) (valuesOf r) (of .least) (of .most) (of .count) all n)
+      rw (kept-whole (recordRow r) (valuesOf r) (of .least) (of .most) (of .count) all)
+      (no-mark (recordRow r) (valuesOf r) (of .least) (of .most) (of .count) all n)
 
-  pub line-one : has 10 (typedLine (kindOf r) (valuesOf r)) ≡ false
-  line-one = no-line-feed (kindOf r) (valuesOf r) (of .least) (of .most) (of .count) all
+  pub line-one : has 10 (typedLine (recordRow r) (valuesOf r)) ≡ false
+  line-one = no-line-feed (recordRow r) (valuesOf r) (of .least) (of .most) (of .count) all
 
   module _ (t : Typist) (e : t .state ≡ s) where
     answered : writeEntry (t .state) said′ recordMost ≡ record { state = next; bytes = r; answer = answers.Wrote }
     answered =
         ap (λ (x : State). writeEntry x said′ recordMost) e
-        ∙ written (kindOf r) (valuesOf r) (of .least) (of .most) (of .count) all (kindByte r) s recordMost ∙ again
+        ∙ written (recordRow r) (valuesOf r) (of .least) (of .most) (of .count) all (kindByte r) s recordMost ∙ again
 
     -- the law of one record: its line, typed in any line n by a clean typist with the reader's state, is written, and is the same bytes
     pub record-again : Clean t → (n : ℕ) → eqb (kindByte r) 8 ≡ false
-        → turn t n (typedLine (kindOf r) (valuesOf r)) recordMost
+        → turn t n (typedLine (recordRow r) (valuesOf r)) recordMost
         ≡ record { typist = writtenAs (hears t (kindByte r)) said′ next; fate = Wrote (kindByte r); bytes = r }
     record-again c n k =
-        sym (said-turn t n (typedLine (kindOf r) (valuesOf r)) recordMost (sym line-says))
+        sym (said-turn t n (typedLine (recordRow r) (valuesOf r)) recordMost (sym line-says))
         ∙ goes-on t c n said′ recordMost k ∙ ap (byWrite (hears t (kindByte r)) n said′) answered
 
     -- a close waits
     pub close-again : Clean t → (n : ℕ) → kindByte r ≡ 8
-        → turn t n (typedLine (kindOf r) (valuesOf r)) recordMost ≡ record { typist = waits (hears t (kindByte r)) n; fate = Waits; bytes = [] }
+        → turn t n (typedLine (recordRow r) (valuesOf r)) recordMost ≡ record { typist = waits (hears t (kindByte r)) n; fate = Waits; bytes = [] }
     close-again c n k =
-        sym (said-turn t n (typedLine (kindOf r) (valuesOf r)) recordMost (sym line-says))
+        sym (said-turn t n (typedLine (recordRow r) (valuesOf r)) recordMost (sym line-says))
         ∙ goes-waiting t c n said′ recordMost k ∙ ap (λ (x : Write). closeBy (x .answer) (hears t (kindByte r)) n said′) answered
 
     -- and at the end of the text it is written, the same bytes

@@ -17,7 +17,7 @@ use Rattle.text_lines.proofs.Pieces.{lines-cut}
 use Rattle.typed_words.specs.Words.{nthWord, leadingOf}
 use Rattle.account.specs.declared.Account.{Account}
 use Rattle.account.specs.Account.{noRecord}
-use Rattle.account.specs.Judge.{kindByte, kindOf, valuesOf, judge}
+use Rattle.account.specs.Judge.{kindByte, recordRow, valuesOf, judge}
 use Rattle.account.specs.Range.{AccountInRange}
 use Rattle.account.proofs.Keeps.{in-range-none, in-range-judge}
 use Rattle.book.specs.State.{holding, noRecordYet}
@@ -106,22 +106,22 @@ module _ (a : Account) (f : AccountInRange a) (r : List ℕ) (q : Accepted a r)
 
   -- its line
   abbrev line : Numbered
-  line = record { number = n; bytes = kept (typedLine (kindOf r) (valuesOf r)) }
+  line = record { number = n; bytes = kept (typedLine (recordRow r) (valuesOf r)) }
 
-  lines-are : (rest : List ℕ) → linesFrom n (lineTyped (kindOf r) (valuesOf r) ++ rest) ≡ line ∷ linesFrom (oneMore n) rest
+  lines-are : (rest : List ℕ) → linesFrom n (lineTyped (recordRow r) (valuesOf r) ++ rest) ≡ line ∷ linesFrom (oneMore n) rest
   lines-are rest =
-      ap (linesFrom n) (text-is (kindOf r) (valuesOf r) rest)
-      ∙ first-line n (typedLine (kindOf r) (valuesOf r)) (typedLine (kindOf r) (valuesOf r) ++ (10 ∷ rest)) (linesOf rest)
-      (lines-cut (typedLine (kindOf r) (valuesOf r)) (line-one (holding a []) state-ready r (q .whole) (q .bytes) (q .taken)) rest)
+      ap (linesFrom n) (text-is (recordRow r) (valuesOf r) rest)
+      ∙ first-line n (typedLine (recordRow r) (valuesOf r)) (typedLine (recordRow r) (valuesOf r) ++ (10 ∷ rest)) (linesOf rest)
+      (lines-cut (typedLine (recordRow r) (valuesOf r)) (line-one (holding a []) state-ready r (q .whole) (q .bytes) (q .taken)) rest)
 
-  line-turn : {x : Turn} → turn t n (typedLine (kindOf r) (valuesOf r)) recordMost ≡ x → lineTurn t line ≡ x
+  line-turn : {x : Turn} → turn t n (typedLine (recordRow r) (valuesOf r)) recordMost ≡ x → lineTurn t line ≡ x
   line-turn g =
       ap (λ (l : List ℕ). turn t n l recordMost) (line-whole (holding a []) state-ready r (q .whole) (q .bytes) (q .taken) n) ∙ g
 
   -- any record but a close is written
   one-again : eqb (kindByte r) 8 ≡ false → (rest : List ℕ) (rs : List (List ℕ))
       → SameBytes (judge a r .account) rs (from (after t r (judge a r .account)) (oneMore n) rest)
-      → SameBytes a (r ∷ rs) (from t n (lineTyped (kindOf r) (valuesOf r) ++ rest))
+      → SameBytes a (r ∷ rs) (from t n (lineTyped (recordRow r) (valuesOf r) ++ rest))
   unfolding accountBehind
   one-again k rest rs s =
       let ls = linesFrom (oneMore n) rest in
@@ -135,7 +135,7 @@ module _ (a : Account) (f : AccountInRange a) (r : List ℕ) (q : Accepted a r)
       })
 
   -- a close waits, and the end of the text writes it
-  close-last : kindByte r ≡ 8 → 0 < n → SameBytes a (r ∷ []) (from t n (lineTyped (kindOf r) (valuesOf r) ++ []))
+  close-last : kindByte r ≡ 8 → 0 < n → SameBytes a (r ∷ []) (from t n (lineTyped (recordRow r) (valuesOf r) ++ []))
   unfolding accountBehind
   close-last k h =
       let ls = linesFrom (oneMore n) [] in

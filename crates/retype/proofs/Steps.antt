@@ -24,7 +24,7 @@ use Rattle.codec.proofs.Values.{values-length}
 use Rattle.account.specs.declared.Account.{Account}
 use Rattle.account.specs.Range.{AccountInRange}
 use Rattle.account.specs.Line.{joined}
-use Rattle.account.specs.Judge.{versionOf, kindByte, WholeRecord, kindOf, valuesOf, judge}
+use Rattle.account.specs.Judge.{versionOf, kindByte, WholeRecord, recordRow, valuesOf, judge}
 use Rattle.codec.proofs.EachKind.{row-least, row-most, row-of-kind}
 use Rattle.account.proofs.Refusals.{passed, judged-passes}
 use Rattle.book.specs.declared.walk.Next.{Next}
@@ -42,7 +42,7 @@ use Rattle.retype.specs.Book.{Retyping, typedBy, Retypes, Typable, value
 pub typable : (a : Account) (r : List ℕ) → WholeRecord r → (judge a r .account .stage ≡ 3 → ⊥) → Typable r
 typable a r w h =
     let t = judged-passes a r h in
-    let k = kindOf r in
+    let k = recordRow r in
     let row : isRow k ≡ true = row-of-kind (versionOf r) (kindByte r) (not-false _ (t .kind)) in
     let long : valAt r 0 2 ≡ lengthOf k = eqb-true _ _ (not-false _ (t .long)) in
     record {
@@ -52,8 +52,8 @@ typable a r w h =
       ranges = passed a k (valuesOf r) (t .values) .ranges;
     }
 
-pub typable-of : (r : List ℕ) → Typable r → Of (kindOf r) (valuesOf r)
-typable-of r t = record { least = t .least; most = t .most; count = values-length (fields (kindOf r)) r 4 }
+pub typable-of : (r : List ℕ) → Typable r → Of (recordRow r) (valuesOf r)
+typable-of r t = record { least = t .least; most = t .most; count = values-length (fields (recordRow r)) r 4 }
 
 -- ---- some records, and then others after them
 
@@ -65,7 +65,7 @@ nothingYet a = record { account = a; taken = 0; text = []; more = true }
 
 -- the record r, with the account after it
 abbrev one : Account → List ℕ → Retyping
-one after r = record { account = after; taken = length r; text = lineTyped (kindOf r) (valuesOf r); more = true }
+one after r = record { account = after; taken = length r; text = lineTyped (recordRow r) (valuesOf r); more = true }
 
 -- none is asked for
 none-asked : (a : Account) (xs : List ℕ) → typedBy 0 a xs ≡ nothingYet a
@@ -122,7 +122,7 @@ module _ (a : Account) (xs : List ℕ) (t : Next) (e : t ≡ nextOf a xs) where
         let s = stands a xs t e some in
         first-accepted n a xs (take (t .size) xs) (t .size) (t .account) refl (s .inside) (s .account) (entries-next a xs t e some still)
 
-    pub types : (out out′ : List ℕ) (at last : ℕ) {r : List ℕ} → r ≡ take (t .size) xs → Put out out′ at (lineTyped (kindOf r) (valuesOf r)) last
+    pub types : (out out′ : List ℕ) (at last : ℕ) {r : List ℕ} → r ≡ take (t .size) xs → Put out out′ at (lineTyped (recordRow r) (valuesOf r)) last
         → Retypes (typedBy 1 a xs) out out′ at (record { account = t .account; taken = t .size; written = last; more = true })
     types out out′ at last p q =
         let s = stands a xs t e some in
@@ -288,8 +288,8 @@ module _ {row : ℕ} {vs out₀ out : List ℕ} {at last i : ℕ} (g : Putting r
   unfolding valuesTyped
   putting-end h = rw (g .is, drop-of-length-le vs h, append-nil) (g .put)
 
-module _ (r : List ℕ) (t : Typable r) {kind : ℕ} (b : kind ≡ kindOf r) where
-  pub kind-byte : kind ≡ kindOf r
+module _ (r : List ℕ) (t : Typable r) {kind : ℕ} (b : kind ≡ recordRow r) where
+  pub kind-byte : kind ≡ recordRow r
   kind-byte = b
 
   -- its values are there
@@ -298,20 +298,20 @@ module _ (r : List ℕ) (t : Typable r) {kind : ℕ} (b : kind ≡ kindOf r) whe
 
   -- its name is put whole
   pub name-put : {out out′ : List ℕ} {at last : ℕ} → at + lineMost ≤ length out → Said out out′ at (kindName kind) last
-      → Put out out′ at (kindName (kindOf r)) last
+      → Put out out′ at (kindName (recordRow r)) last
   name-put {out} {out′} {at} h s =
-      whole-put (kindName (kindOf r)) (omega (arith, name-short (kindOf r) (t .least) (t .most))) (rw kind-byte at s)
+      whole-put (kindName (recordRow r)) (omega (arith, name-short (recordRow r) (t .least) (t .most))) (rw kind-byte at s)
 
-  pub name-end : {out out′ : List ℕ} {at last : ℕ} → Put out out′ at (kindName (kindOf r)) last → last ≤ at + 7
-  name-end p = omega (arith, p .next, name-short (kindOf r) (t .least) (t .most))
+  pub name-end : {out out′ : List ℕ} {at last : ℕ} → Put out out′ at (kindName (recordRow r)) last → last ≤ at + 7
+  name-end p = omega (arith, p .next, name-short (recordRow r) (t .least) (t .most))
 
   module _ {n : ℕ} (c : n ≡ length (fields kind)) where
     pub count-most : n ≤ 12
-    count-most = let m = fields-few (kindOf r) (t .least) (t .most) in omega (arith, c ∙ ap (λ (i : ℕ). length (fields i)) kind-byte)
+    count-most = let m = fields-few (recordRow r) (t .least) (t .most) in omega (arith, c ∙ ap (λ (i : ℕ). length (fields i)) kind-byte)
 
     pub values-first : {w : List ℕ} → w ≡ inTwelve (valuesAt (fields kind) r 4) → take n w ≡ valuesOf r
     values-first e =
-        let l : length (valuesOf r) ≡ n = values-length (fields (kindOf r)) r 4 ∙ ap (λ (i : ℕ). length (fields i)) (sym kind-byte) ∙ sym c in
+        let l : length (valuesOf r) ≡ n = values-length (fields (recordRow r)) r 4 ∙ ap (λ (i : ℕ). length (fields i)) (sym kind-byte) ∙ sym c in
         rw (e, b) (take-at (valuesOf r) (replicate (12 - length (valuesOf r)) 0) n l)
 
   -- v are the values that are read of it
@@ -320,11 +320,11 @@ module _ (r : List ℕ) (t : Typable r) {kind : ℕ} (b : kind ≡ kindOf r) whe
     values-typable = rw (e, kind-byte) (typable-of r t, t .ranges)
 
     pub values-few : length v ≤ 12
-    values-few = let of = typable-of r t in omega (arith, ap length e ∙ of .count, fields-few (kindOf r) (of .least) (of .most))
+    values-few = let of = typable-of r t in omega (arith, ap length e ∙ of .count, fields-few (recordRow r) (of .least) (of .most))
 
-    pub line-put : {out o1 o2 o3 : List ℕ} {at a1 a2 a3 : ℕ} → Put out o1 at (kindName (kindOf r)) a1
+    pub line-put : {out o1 o2 o3 : List ℕ} {at a1 a2 a3 : ℕ} → Put out o1 at (kindName (recordRow r)) a1
         → Put o1 o2 a1 (valuesTyped kind 0 v) a2 → Put o2 o3 a2 (10 ∷ []) a3
-        → Put out o3 at (lineTyped (kindOf r) (valuesOf r)) a3
+        → Put out o3 at (lineTyped (recordRow r) (valuesOf r)) a3
     line-put p q s = and-then p (and-then (rw (kind-byte, e) at q) s)
 
 -- ---- the last word

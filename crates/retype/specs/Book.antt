@@ -17,7 +17,7 @@ use Rattle.account.specs.declared.Refusal.{Refusal}
 use Rattle.account.specs.Account.{noRecord}
 use Rattle.account.specs.Range.{accountInRange}
 use Rattle.account.specs.Line.{joined}
-use Rattle.account.specs.Judge.{kindOf, valuesOf}
+use Rattle.account.specs.Judge.{recordRow, valuesOf}
 use Rattle.book.specs.Walk.{nextOf, recordsIn, entriesAfter}
 use Rattle.retype.specs.declared.Retyped.{Retyped}
 use Rattle.retype.specs.Typed.{lineTyped, textTyped, accountBehind}
@@ -75,10 +75,10 @@ lineMost = 7 + 12 * valueMost + 1
 
 -- r is a record whose row is one of the table, with the length of its row, and each value in its range
 pub record Typable (r : List ℕ) : Type 0 where
-  pub least : 1 ≤ kindOf r
-  pub most : kindOf r ≤ lastRow
-  pub long : length r ≡ lengthOf (kindOf r) + 2
-  pub ranges : firstBad (fields (kindOf r)) (valuesOf r) 0 ≡ 0
+  pub least : 1 ≤ recordRow r
+  pub most : recordRow r ≤ lastRow
+  pub long : length r ≡ lengthOf (recordRow r) + 2
+  pub ranges : firstBad (fields (recordRow r)) (valuesOf r) 0 ≡ 0
 
 -- ---- the end
 

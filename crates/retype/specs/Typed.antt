@@ -6,7 +6,7 @@ use mathlib.Core.List.{List, [], _∷_, _++_}
 use Rattle.codec.specs.Codec.{Bytes}
 use Rattle.names.specs.Names.{kindName, valueText}
 use Rattle.account.specs.declared.Account.{Account}
-use Rattle.account.specs.Judge.{WholeRecord, kindOf, valuesOf, judge}
+use Rattle.account.specs.Judge.{WholeRecord, recordRow, valuesOf, judge}
 use Rattle.account.specs.Line.{joined}
 use Rattle.book.specs.declared.State.{State}
 use Rattle.book.specs.State.{holding}
@@ -26,7 +26,7 @@ lineTyped k v = kindName k ++ (valuesTyped k 0 v ++ (10 ∷ []))
 -- the text of some records: their lines, one after the other
 unfoldable pub textTyped : List (List ℕ) → List ℕ
 textTyped [] = []
-textTyped (r ∷ rs) = lineTyped (kindOf r) (valuesOf r) ++ textTyped rs
+textTyped (r ∷ rs) = lineTyped (recordRow r) (valuesOf r) ++ textTyped rs
 
 -- r is a whole record of bytes that is accepted after the account a, while the book is open
 pub record Accepted (a : Account) (r : List ℕ) : Type 0 where

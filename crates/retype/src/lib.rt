@@ -19,7 +19,7 @@ ghost use Rattle.printing.specs.Decimal.{joined, Put};
 ghost use Rattle.printing.specs.Said.{Said};
 ghost use Rattle.codec.specs.Table.{fields, Of};
 ghost use Rattle.codec.specs.Codec.{firstBad};
-ghost use Rattle.account.specs.Judge.{kindOf, valuesOf};
+ghost use Rattle.account.specs.Judge.{recordRow, valuesOf};
 ghost use Rattle.account.specs.Range.{AccountInRange};
 ghost use Rattle.retype.specs.Typed.{valuesTyped, lineTyped};
 ghost use Rattle.retype.specs.Book.{typedBy, retypedBy, Retypes, Typable, valueMost, lineMost};
@@ -41,7 +41,7 @@ pub struct Retyped {
 // The row of a record in the table.
 fn row_at(bytes: &[u8]) -> u64
     requires { ⌜ 4 ≤ length (now bytes) ⌝ }
-    ensures { λ r. ⌜ r ≡ kindOf (now (bytes .entry)) ⌝ }
+    ensures { λ r. ⌜ r ≡ recordRow (now (bytes .entry)) ⌝ }
 {
     let row = codec::kinds::row_of(bytes[2], bytes[3]);
     row as u64
@@ -69,7 +69,7 @@ fn put_values(out: &mut [u8], at: usize, row: u64, values: &[u64]) -> usize
 fn put_record(out: &mut [u8], at: usize, bytes: &[u8]) -> usize
     requires { ⌜ Typable (now bytes) ⌝ }
     requires { ⌜ at + lineMost ≤ length (now out) ⌝ }
-    ensures { λ r. ⌜ Put (now (out .entry)) (now (out .exit)) at (lineTyped (kindOf (now (bytes .entry))) (valuesOf (now (bytes .entry)))) r ⌝ }
+    ensures { λ r. ⌜ Put (now (out .entry)) (now (out .exit)) at (lineTyped (recordRow (now (bytes .entry))) (valuesOf (now (bytes .entry)))) r ⌝ }
     ensures { λ r. ⌜ r ≤ at + lineMost ⌝ }
 {
     let row = row_at(bytes);

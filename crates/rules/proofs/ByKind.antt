@@ -14,7 +14,7 @@ use Rattle.codec.specs.Table.{fields, lengthOf, lastKind, isKind}
 use Rattle.codec.specs.Codec.{valuesAt}
 use Rattle.account.specs.declared.Account.{Account}
 use Rattle.account.specs.declared.Judged.{Judged}
-use Rattle.account.specs.Judge.{kindOf, weigh, judge}
+use Rattle.account.specs.Judge.{recordRow, weigh, judge}
 use Rattle.account.specs.Told.{TellsIn, Kind}
 use Rattle.rules.specs.Right.{Right}
 use Rattle.account.proofs.Told.{right-length}
@@ -33,7 +33,7 @@ module _ (k : ℕ) where
       let most = ltb-false lastKind k (or-r (ltb k 1) (ltb lastKind k) e) in
       rw (le-leb 1 k least, le-leb k lastKind most) refl
 
-module _ {r : List ℕ} (s : Right r) (k : ℕ) (e : kindOf r ≡ k) where
+module _ {r : List ℕ} (s : Right r) (k : ℕ) (e : recordRow r ≡ k) where
   -- the bytes that the kind's function reads are there
   pub there : (n : ℕ) → 2 + lengthOf k ≡ n → n ≤ length r
   there n f =
@@ -44,7 +44,7 @@ module _ {r : List ℕ} (s : Right r) (k : ℕ) (e : kindOf r ≡ k) where
   pub by-kind : (room : ℕ) (a : Account) (v : List ℕ) (j : Judged) → v ≡ valuesAt (fields k) r 4 → TellsIn room a (weigh a k v) j
       → TellsIn room a (judge a r) j
   by-kind room a v j q t =
-      let is : Kind (kindOf r) r =
+      let is : Kind (recordRow r) r =
       record { whole = s .whole; version = first-version r (s .version); listed = rw (← own-row r (s .version), s .kinds) refl; kind = refl } in
-      let size : lengthOf (kindOf r) + 2 ≡ length r = omega (arith, s .long) in
-      rw (right-length a (kindOf r) r (length r) is size refl, e, ← q) t
+      let size : lengthOf (recordRow r) + 2 ≡ length r = omega (arith, s .long) in
+      rw (right-length a (recordRow r) r (length r) is size refl, e, ← q) t

@@ -8,7 +8,7 @@ use borrow.Author.Tests.{eqb-true, ne-eqb}
 use lib.Dec.{eqb}
 use Rattle.base.proofs.Tests.{no-bool}
 use Rattle.codec.specs.Table.{lastRow}
-use Rattle.account.specs.Judge.{WholeRecord, versionOf, kindByte, kindOf, wrongVersion, wrongKind}
+use Rattle.account.specs.Judge.{WholeRecord, versionOf, kindByte, recordRow, wrongVersion, wrongKind}
 use Rattle.account.specs.Told.{Kind}
 
 module _ (r : List ℕ) where
@@ -16,7 +16,7 @@ module _ (r : List ℕ) where
   pub first-version : versionOf r ≡ 1 → wrongVersion r ≡ false
   first-version e = rw e refl
 
-  pub own-row : versionOf r ≡ 1 → kindOf r ≡ kindByte r
+  pub own-row : versionOf r ≡ 1 → recordRow r ≡ kindByte r
   own-row e = rw e refl
 
   -- neither 1, nor 2 of a farm record
@@ -49,5 +49,5 @@ module _ (r : List ℕ) where
       listed : wrongKind r ≡ false
       listed = rw (eqb-true (kindByte r) 1 one) refl
 
-      row : kindOf r ≡ lastRow
+      row : recordRow r ≡ lastRow
       row = rw (eqb-true (versionOf r) 2 two, eqb-true (kindByte r) 1 one) refl

@@ -6,11 +6,11 @@ use mathlib.Core.List.{List}
 use mathlib.Core.Bool.{true}
 use lib.ListN.{length}
 use Rattle.codec.specs.Table.{lengthOf, isKind}
-use Rattle.account.specs.Judge.{WholeRecord, versionOf, kindOf}
+use Rattle.account.specs.Judge.{WholeRecord, versionOf, recordRow}
 
 -- r is a whole record of version 1, of one of the kinds, and as long as its kind
 pub record Right (r : List ℕ) : Type 0 where
   pub whole : WholeRecord r
   pub version : versionOf r ≡ 1
-  pub kinds : isKind (kindOf r) ≡ true
-  pub long : length r ≡ 2 + lengthOf (kindOf r)
+  pub kinds : isKind (recordRow r) ≡ true
+  pub long : length r ≡ 2 + lengthOf (recordRow r)

@@ -34,14 +34,14 @@ use refusals::wrong;
 ghost use mathlib.Core.Path.{_≡_};
 ghost use Prim.Native.Nat.{_<_};
 ghost use Rattle.account.specs.Range.{AccountInRange};
-ghost use Rattle.account.specs.Judge.{WholeRecord, versionOf, kindOf, judge};
+ghost use Rattle.account.specs.Judge.{WholeRecord, versionOf, recordRow, judge};
 ghost use Rattle.account.specs.Told.{TellsIn};
 ghost use Rattle.rules.specs.Right.{Right};
 
 // What the values of a record do that is as long as its row says: a function of its own, else the compiler keeps copies of the account. No kind is
 // left for the last arm; with it the compiler sees that the row needs no further test.
 fn by_kind(a: Account, row: u64, r: &[u8], room: usize) -> Judged
-    requires { ⌜ AccountInRange a × (a .stage < 2) × Right (now r) × (row ≡ kindOf (now r)) ⌝ }
+    requires { ⌜ AccountInRange a × (a .stage < 2) × Right (now r) × (row ≡ recordRow (now r)) ⌝ }
     ensures { λ j. ⌜ TellsIn room a (judge a (now (r .entry))) j ⌝ }
 {
     match row {

@@ -18,7 +18,7 @@ use Rattle.account.specs.Range.{AccountInRange}
 use Rattle.account.specs.declared.sort.Sort.the-variants.{Opens, Heads, OfGroup, OfFarm, Closes}
 use Rattle.account.specs.Sorts.{isFarm, sortOf, isOfGroup}
 use Rattle.account.specs.Account.{closed}
-use Rattle.account.specs.Judge.{versionOf, kindByte, kindOf, valuesOf, headingServes, inPlace, first, refusals, Step, accepted, judge}
+use Rattle.account.specs.Judge.{versionOf, kindByte, recordRow, valuesOf, headingServes, inPlace, first, refusals, Step, accepted, judge}
 use Rattle.account.proofs.Sorts.{by-sort}
 use Rattle.account.proofs.Refusals.{not-refused}
 use Rattle.account.proofs.Keeps.{in-range-judge}
@@ -57,28 +57,28 @@ grown a k v =
     (λ e. record { refusal = refl; records = refl; early = λ n h. h })
     (λ e. record { refusal = refl; records = refl; early = λ n h. absurd (n (closes-eight k e)) })
 
-pub accepts : (a : Account) (r : List ℕ) → wouldGet a r ≡ 0 → judge a r ≡ accepted a (kindOf r) (valuesOf r)
+pub accepts : (a : Account) (r : List ℕ) → wouldGet a r ≡ 0 → judge a r ≡ accepted a (recordRow r) (valuesOf r)
 unfolding judge
 accepts a r e = rw (eq-eqb _ _ e)
 
-pub grows : (a : Account) (r : List ℕ) → wouldGet a r ≡ 0 → Grown a (kindOf r) (judge a r)
-grows a r e = rw (accepts a r e) (grown a (kindOf r) (valuesOf r))
+pub grows : (a : Account) (r : List ℕ) → wouldGet a r ≡ 0 → Grown a (recordRow r) (judge a r)
+grows a r e = rw (accepts a r e) (grown a (recordRow r) (valuesOf r))
 
 -- it stands in the account that the reader makes of the record
 pub code-is : (a : Account) (r : List ℕ) → AccountInRange a → a .stage < 2 → judge a r .account .refusal .code ≡ wouldGet a r
 unfolding judge
 code-is a r f h =
     of-choice (λ (j : Step). j .account .refusal .code ≡ wouldGet a r) (eqb (wouldGet a r) 0)
-    (λ e. grown a (kindOf r) (valuesOf r) .refusal ∙ f .ended .unrefused (λ z. omega arith) .code ∙ sym (eqb-true _ _ e)) (λ e. refl)
+    (λ e. grown a (recordRow r) (valuesOf r) .refusal ∙ f .ended .unrefused (λ z. omega arith) .code ∙ sym (eqb-true _ _ e)) (λ e. refl)
 
 pub below-4096 : (a : Account) (r : List ℕ) → wouldGet a r ≡ 0 → a .records < 4096
 below-4096 a r e = leb-false _ _ (not-refused a r e .values .room)
 
 -- a close has the right count
-pub right-count : (a : Account) (r : List ℕ) → wouldGet a r ≡ 0 → kindOf r ≡ 8 → getD (valuesOf r) 0 0 ≡ a .records
+pub right-count : (a : Account) (r : List ℕ) → wouldGet a r ≡ 0 → recordRow r ≡ 8 → getD (valuesOf r) 0 0 ≡ a .records
 right-count a r e k =
     let t = not-refused a r e .values .count in
-    eqb-true _ _ (not-false _ (and-no (eqb (kindOf r) 8) (not (eqb (getD (valuesOf r) 0 0) (a .records))) t (eq-eqb _ _ k)))
+    eqb-true _ _ (not-false _ (and-no (eqb (recordRow r) 8) (not (eqb (getD (valuesOf r) 0 0) (a .records))) t (eq-eqb _ _ k)))
 
 -- the version of a close and the length are right
 pub right-version : (a : Account) (r : List ℕ) → wouldGet a r ≡ 0 → kindByte r ≡ 8 → versionOf r ≡ 1
@@ -91,7 +91,7 @@ right-version a r e k =
     go false true p = p
     go false false p = p
 
-pub right-size : (a : Account) (r : List ℕ) → wouldGet a r ≡ 0 → valAt r 0 2 ≡ lengthOf (kindOf r)
+pub right-size : (a : Account) (r : List ℕ) → wouldGet a r ≡ 0 → valAt r 0 2 ≡ lengthOf (recordRow r)
 right-size a r e = eqb-true _ _ (not-false _ (not-refused a r e .long))
 
 -- where it is not 0, the book is refused
@@ -100,7 +100,7 @@ unfolding judge
 refuses a r n = rw (ne-eqb _ _ n)
 
 -- a close closes it
-pub closes-book : (a : Account) (r : List ℕ) → wouldGet a r ≡ 0 → kindOf r ≡ 8 → judge a r .account ≡ closed a
+pub closes-book : (a : Account) (r : List ℕ) → wouldGet a r ≡ 0 → recordRow r ≡ 8 → judge a r .account ≡ closed a
 unfolding accepted sortOf
 closes-book a r e k = rw (accepts a r e, k)
 
@@ -109,11 +109,11 @@ pub first-farm : (a : Account) (r : List ℕ) → wouldGet a r ≡ 0 → a .reco
 unfolding inPlace
 first-farm a r e z =
     farm-row (versionOf r) (kindByte r) (not-false _ (not-refused a r e .kind))
-    (go (isFarm (kindOf r)) (not-false _ (not-refused a r e .values .place)))
+    (go (isFarm (recordRow r)) (not-false _ (not-refused a r e .values .place)))
   where
-    go : (b : Bool) → pick b (eqb (a .records) 0) (headingServes (a .heading .class) (kindOf r) && not (eqb (a .records) 0)) ≡ true → b ≡ true
+    go : (b : Bool) → pick b (eqb (a .records) 0) (headingServes (a .heading .class) (recordRow r) && not (eqb (a .records) 0)) ≡ true → b ≡ true
     go true p = refl
-    go false p = no-bool ((ap (λ (n : ℕ). not (eqb n 0)) (sym z)) ∙ and-r (headingServes (a .heading .class) (kindOf r)) _ p)
+    go false p = no-bool ((ap (λ (n : ℕ). not (eqb n 0)) (sym z)) ∙ and-r (headingServes (a .heading .class) (recordRow r)) _ p)
 
 -- ---- the number that drops a record
 
@@ -170,7 +170,7 @@ module _ (s : Reading) (r : List ℕ) where
                           λ z. inr refl,
                           (
                             λ z. inr refl,
-                            (λ z. absurd (k (row-eight (versionOf r) (kindByte r) (eqb-true _ _ (and-l (eqb (kindOf r) 8) _ z)))), tt),
+                            (λ z. absurd (k (row-eight (versionOf r) (kindByte r) (eqb-true _ _ (and-l (eqb (recordRow r) 8) _ z)))), tt),
                           ),
                         ),
                       ),

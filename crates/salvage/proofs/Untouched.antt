@@ -19,7 +19,7 @@ use Rattle.codec.proofs.BigEndian.{one-byte}
 use Rattle.codec.proofs.Round.{record-again}
 use Rattle.account.specs.declared.Account.{Account}
 use Rattle.account.specs.Account.{noRecord, closed}
-use Rattle.account.specs.Judge.{WholeRecord, versionOf, kindByte, kindOf, judge}
+use Rattle.account.specs.Judge.{WholeRecord, versionOf, kindByte, recordRow, judge}
 use Rattle.book.specs.Front.{Front, unfinished, badLength, whole, need, front}
 use Rattle.book.specs.State.{noRecordYet}
 use Rattle.book.specs.Run.{Run, run}
@@ -87,7 +87,7 @@ never-closed a xs h n d = let b = begins a xs h d in omega (arith, below-4096 a 
 same-close : (a : Account) (r : List ℕ) → Bytes r → WholeRecord r → wouldGet a r ≡ 0 → kindByte r ≡ 8 → recordBytes 8 (a .records ∷ []) ≡ r
 unfolding table valuesAt
 same-close a r b w e k =
-    let q : kindOf r ≡ 8 = eight-row (versionOf r) (kindByte r) k in
+    let q : recordRow r ≡ 8 = eight-row (versionOf r) (kindByte r) k in
     let size : _ ≡ lengthOf 8 = rw q at (right-size a r e) in
     let v = rw q at (right-count a r e q) in
     let again = record-again 8 r (record {
@@ -128,7 +128,7 @@ module _ (s : Reading) (xs : List ℕ) (o : Open s) (l : s .lost ≡ false) (b :
   -- the close
   at-close : Bytes xs → kindByte (leading xs) ≡ 8 → Same s xs
   at-close y k =
-      let q : kindOf (leading xs) ≡ 8 = eight-row (versionOf (leading xs)) (kindByte (leading xs)) k in
+      let q : recordRow (leading xs) ≡ 8 = eight-row (versionOf (leading xs)) (kindByte (leading xs)) k in
       let d : rest xs ≡ [] =
       rw (closes-book (s .account) (leading xs) (b .gets) q, book-ended (closed (s .account)) (rest xs) (omega arith)) at (b .behind .left) in
       let t : leading xs ≡ xs = sym (append-nil (leading xs)) ∙ ap (λ (z : List ℕ). leading xs ++ z) (sym d) ∙ take-append-drop (need xs) xs in

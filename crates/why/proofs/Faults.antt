@@ -19,7 +19,7 @@ use Rattle.account.specs.declared.Account.{Account}
 use Rattle.account.specs.declared.Judged.{Judged}
 use Rattle.account.specs.Sorts.{sortOf}
 use Rattle.account.specs.Account.{refused}
-use Rattle.account.specs.Judge.{WholeRecord, versionOf, kindByte, kindOf, valuesOf, first, refusals, NotRefused, Step, accepted, judge}
+use Rattle.account.specs.Judge.{WholeRecord, versionOf, kindByte, recordRow, valuesOf, first, refusals, NotRefused, Step, accepted, judge}
 use Rattle.account.specs.Told.{TellsIn}
 use Rattle.account.specs.Compared.{badField, sharesOf, partsOf, grazedWith}
 use Rattle.account.proofs.Told.{tells-fit, lines-short}
@@ -71,7 +71,7 @@ grown a k v =
     (λ e. record { records = refl; stage = λ h. omega arith })
 
 module _ (a : Account) (r : List ℕ) where
-  accepts : numberOf a r ≡ 0 → judge a r ≡ accepted a (kindOf r) (valuesOf r)
+  accepts : numberOf a r ≡ 0 → judge a r ≡ accepted a (recordRow r) (valuesOf r)
   unfolding judge
   accepts e = rw (eq-eqb _ _ e)
 
@@ -80,21 +80,21 @@ module _ (a : Account) (r : List ℕ) where
   passes h = judged-passes a r h
 
   pub counted : (judge a r .account .stage ≡ 3 → ⊥) → judge a r .account .records ≡ a .records + 1
-  counted h = rw (accepts (none-refuses a r (passes h))) (grown a (kindOf r) (valuesOf r) .records)
+  counted h = rw (accepts (none-refuses a r (passes h))) (grown a (recordRow r) (valuesOf r) .records)
 
   -- it is refused: by a number, which is stored with the field
   stopped : a .stage < 2 → judge a r .account .stage ≡ 3 → numberOf a r ≡ 0 → ⊥
   stopped h s e =
-      let g = grown a (kindOf r) (valuesOf r) .stage h in
-      let z : accepted a (kindOf r) (valuesOf r) .account .stage ≡ 3 = rw (accepts e) at s in
+      let g = grown a (recordRow r) (valuesOf r) .stage h in
+      let z : accepted a (recordRow r) (valuesOf r) .account .stage ≡ 3 = rw (accepts e) at s in
       omega (arith, g, z)
 
-  stored : (numberOf a r ≡ 0 → ⊥) → judge a r .account ≡ refused a (numberOf a r) (pick (eqb (numberOf a r) 7) (badField (kindOf r) (valuesOf r)) 0)
+  stored : (numberOf a r ≡ 0 → ⊥) → judge a r .account ≡ refused a (numberOf a r) (pick (eqb (numberOf a r) 7) (badField (recordRow r) (valuesOf r)) 0)
   unfolding judge
   stored n = rw (ne-eqb _ _ n)
 
   module _ (h : a .stage < 2) (s : judge a r .account .stage ≡ 3) where
-    account-is : judge a r .account ≡ refused a (numberOf a r) (pick (eqb (numberOf a r) 7) (badField (kindOf r) (valuesOf r)) 0)
+    account-is : judge a r .account ≡ refused a (numberOf a r) (pick (eqb (numberOf a r) 7) (badField (recordRow r) (valuesOf r)) 0)
     account-is = stored (stopped h s)
 
     pub refused-is : judge a r .account ≡ refused a (judge a r .account .refusal .code) (judge a r .account .refusal .field)
@@ -124,51 +124,51 @@ faulty-told {a} {r} e b w h s = rw (e, b) (faulty a r h (rw e at s) w)
 
 module _ {a : Account} {r : List ℕ} {code field : ℕ} (f : Faulty a r code field) where
   -- from 4 on it has a row of the table, from 5 on its length is the row's
-  pub row-in : 4 ≤ code → isRow (kindOf r) ≡ true
+  pub row-in : 4 ≤ code → isRow (recordRow r) ≡ true
   row-in h = row-of-kind (versionOf r) (kindByte r) (not-false _ (f .broken .kind .0 (omega arith)))
 
   pub sized : 5 ≤ code → Sized r
   sized h =
       let k = row-in (omega arith) in
       let l = eqb-true _ _ (not-false _ (f .broken .long .0 (omega arith))) in
-      record { least = row-least (kindOf r) k; most = row-most (kindOf r) k; long = f .whole .long ∙ ap (λ (n : ℕ). n + 2) l }
+      record { least = row-least (recordRow r) k; most = row-most (recordRow r) k; long = f .whole .long ∙ ap (λ (n : ℕ). n + 2) l }
 
   -- the position of a field out of its range
-  pub position-is : code ≡ 7 → (field ≡ badField (kindOf r) (valuesOf r)) × (1 ≤ field) × (field ≤ 12)
+  pub position-is : code ≡ 7 → (field ≡ badField (recordRow r) (valuesOf r)) × (1 ≤ field) × (field ≤ 12)
   position-is e =
-      let p : field ≡ badField (kindOf r) (valuesOf r) = f .position ∙ rw e refl in
-      let n : badField (kindOf r) (valuesOf r) ≡ 0 → ⊥ = eqb-false _ _ (not-true _ (f .broken .values .inRange .1 (sym e))) in
-      let m = bad-position (fields (kindOf r)) (valuesOf r) 0 in
-      (p, omega (arith, p, n), omega (arith, p, m, fields-few (kindOf r)))
+      let p : field ≡ badField (recordRow r) (valuesOf r) = f .position ∙ rw e refl in
+      let n : badField (recordRow r) (valuesOf r) ≡ 0 → ⊥ = eqb-false _ _ (not-true _ (f .broken .values .inRange .1 (sym e))) in
+      let m = bad-position (fields (recordRow r)) (valuesOf r) 0 in
+      (p, omega (arith, p, n), omega (arith, p, m, fields-few (recordRow r)))
 
   -- from 8 on each value is in its range
-  pub in-range : 8 ≤ code → (i : ℕ) → i < length (fields (kindOf r)) → Within (getD (fields (kindOf r)) i (0, 0, 0)) (getD (valuesOf r) (0 + i) 0)
-  in-range h = ranges (valuesOf r) (fields (kindOf r)) 0 (eqb-true _ _ (not-false _ (f .broken .values .inRange .0 (omega arith))))
+  pub in-range : 8 ≤ code → (i : ℕ) → i < length (fields (recordRow r)) → Within (getD (fields (recordRow r)) i (0, 0, 0)) (getD (valuesOf r) (0 + i) 0)
+  in-range h = ranges (valuesOf r) (fields (recordRow r)) 0 (eqb-true _ _ (not-false _ (f .broken .values .inRange .0 (omega arith))))
 
   -- 10 is of kind 4, 5 or 10
-  pub of-parts : code ≡ 10 → Parted (kindOf r)
-  of-parts e = go (eqb (kindOf r) 4) (eqb (kindOf r) 5) (eqb (kindOf r) 10) refl refl refl (f .broken .values .together .1 (sym e))
+  pub of-parts : code ≡ 10 → Parted (recordRow r)
+  of-parts e = go (eqb (recordRow r) 4) (eqb (recordRow r) 5) (eqb (recordRow r) 10) refl refl refl (f .broken .values .together .1 (sym e))
     where
       v : List ℕ
       v = valuesOf r
 
-      go : (x y z : Bool) → eqb (kindOf r) 4 ≡ x → eqb (kindOf r) 5 ≡ y → eqb (kindOf r) 10 ≡ z
+      go : (x y z : Bool) → eqb (recordRow r) 4 ≡ x → eqb (recordRow r) 5 ≡ y → eqb (recordRow r) 10 ≡ z
           → pick x (not (eqb (sharesOf v) 10000)) (pick y (ltb 1000 (partsOf v)) false) || (z && ltb 10000 (grazedWith (a .used .grazed) v)) ≡ true
-          → Parted (kindOf r)
+          → Parted (recordRow r)
       go true y z p q s t = inl (eqb-true _ _ p)
       go false true z p q s t = inr (inl (eqb-true _ _ q))
       go false false true p q s t = inr (inr (eqb-true _ _ s))
       go false false false p q s t = no-bool t
 
   -- 9 is of kind 3, 4 or 5
-  pub of-days : code ≡ 9 → (kindOf r ≡ 3) ⊎ ((kindOf r ≡ 4) ⊎ (kindOf r ≡ 5))
-  of-days e = go (eqb (kindOf r) 3) (eqb (kindOf r) 4) (eqb (kindOf r) 5) refl refl refl (f .broken .values .days .1 (sym e))
+  pub of-days : code ≡ 9 → (recordRow r ≡ 3) ⊎ ((recordRow r ≡ 4) ⊎ (recordRow r ≡ 5))
+  of-days e = go (eqb (recordRow r) 3) (eqb (recordRow r) 4) (eqb (recordRow r) 5) refl refl refl (f .broken .values .days .1 (sym e))
     where
-      go : (x y z : Bool) → eqb (kindOf r) 3 ≡ x → eqb (kindOf r) 4 ≡ y → eqb (kindOf r) 5 ≡ z
+      go : (x y z : Bool) → eqb (recordRow r) 3 ≡ x → eqb (recordRow r) 4 ≡ y → eqb (recordRow r) 5 ≡ z
           → pick x (ltb 366 (a .used .enteric + getD (valuesOf r) 0 0))
           (pick y (ltb 366 (a .used .nitrogen + getD (valuesOf r) 0 0)) (pick z (ltb 366 (a .used .pig + getD (valuesOf r) 0 0)) false))
           ≡ true
-          → (kindOf r ≡ 3) ⊎ ((kindOf r ≡ 4) ⊎ (kindOf r ≡ 5))
+          → (recordRow r ≡ 3) ⊎ ((recordRow r ≡ 4) ⊎ (recordRow r ≡ 5))
       go true y z p q s t = inl (eqb-true _ _ p)
       go false true z p q s t = inr (inl (eqb-true _ _ q))
       go false false true p q s t = inr (inr (eqb-true _ _ s))
@@ -187,4 +187,4 @@ first-small k v (inr (inl e)) h = let w = rw e at h in w 0 (omega arith) .below
 first-small k v (inr (inr e)) h = let w = rw e at h in w 0 (omega arith) .below
 
 pub days-small : {a : Account} {r : List ℕ} {code field : ℕ} → Faulty a r code field → code ≡ 9 → getD (valuesOf r) 0 0 ≤ 366
-days-small {a} {r} f e = first-small (kindOf r) (valuesOf r) (of-days f e) (in-range f (omega arith))
+days-small {a} {r} f e = first-small (recordRow r) (valuesOf r) (of-days f e) (in-range f (omega arith))

@@ -19,7 +19,7 @@ use Rattle.codec.proofs.Values.{values-length}
 use Rattle.codec.proofs.Rows.{fields-few}
 use Rattle.codec.proofs.Columns.{twelve-at}
 use Rattle.account.specs.declared.Account.{Account}
-use Rattle.account.specs.Judge.{versionOf, kindByte, kindOf, valuesOf}
+use Rattle.account.specs.Judge.{versionOf, kindByte, recordRow, valuesOf}
 use Rattle.account.specs.Compared.{noNumbers, numbers, outside, badField, rangeOf, valueAt, daysWith, valuesCompared, compared}
 use Rattle.book.specs.Front.{unfinished, badLength, whole, front, bad}
 use Rattle.book.proofs.Fronts.{length-take-two}
@@ -31,7 +31,7 @@ use Rattle.why.specs.Inner.{told, Sized, Parted, partsTold, versionTold,
 
 -- ---- one value of a record
 
-module _ (r : List ℕ) {row : ℕ} (f : row ≡ kindOf r) where
+module _ (r : List ℕ) {row : ℕ} (f : row ≡ recordRow r) where
   -- its values are there
   pub values-there : Sized r → (row ≤ lastRow) × (4 + size (fields row) ≤ length r)
   values-there s = rw f (s .most, omega (arith, s .long))
@@ -43,7 +43,7 @@ module _ (r : List ℕ) {row : ℕ} (f : row ≡ kindOf r) where
 
   pub no-value : (i : ℕ) → 12 ≤ i → 0 ≡ getD (valuesOf r) i 0
   no-value i h =
-      sym (List·getD-eq-default (valuesOf r) 0 (omega (arith, values-length (fields (kindOf r)) r 4, fields-few (kindOf r))))
+      sym (List·getD-eq-default (valuesOf r) 0 (omega (arith, values-length (fields (recordRow r)) r 4, fields-few (recordRow r))))
 
 -- ---- shares and parts
 
@@ -124,11 +124,11 @@ module _ (a : Account) (r : List ℕ) {c : ℕ} {n : Numbers} where
   unfolding compared
   by-three e p t = t ∙ rw (e, p, sym (one-byte r 3 (kindByte r) refl)) refl
 
-  pub by-four : {x y : ℕ} → c ≡ 4 → x ≡ valAt r 0 2 → y ≡ lengthOf (kindOf r) → n ≡ told (numbers x y) → n ≡ told (compared c a r)
+  pub by-four : {x y : ℕ} → c ≡ 4 → x ≡ valAt r 0 2 → y ≡ lengthOf (recordRow r) → n ≡ told (numbers x y) → n ≡ told (compared c a r)
   unfolding compared
   by-four e p q t = t ∙ rw (e, p, q) refl
 
-  pub by-values : 5 ≤ c → n ≡ told (valuesCompared c a (kindOf r) (valuesOf r)) → n ≡ told (compared c a r)
+  pub by-values : 5 ≤ c → n ≡ told (valuesCompared c a (recordRow r) (valuesOf r)) → n ≡ told (compared c a r)
   unfolding compared
   by-values h t =
       t ∙ rw (ne-eqb c 1 (λ z. omega arith), ne-eqb c 2 (λ z. omega arith), ne-eqb c 3 (λ z. omega arith), ne-eqb c 4 (λ z. omega arith)) refl

@@ -9,7 +9,7 @@ use lib.Dec.{ltb, eqb}
 use Rattle.base.specs.Choice.{pick}
 use Rattle.codec.specs.Table.{lastRow, lengthOf}
 use Rattle.account.specs.declared.Account.{Account}
-use Rattle.account.specs.Judge.{WholeRecord, versionOf, kindByte, kindOf, valuesOf, RefusedBy}
+use Rattle.account.specs.Judge.{WholeRecord, versionOf, kindByte, recordRow, valuesOf, RefusedBy}
 use Rattle.account.specs.Compared.{Compared, numbers, outside, badField, sharesOf, partsOf, grazedWith}
 use Rattle.book.specs.Front.{Front, unfinished, badLength, whole}
 use Rattle.why.specs.declared.Verdict.{Verdict}
@@ -23,9 +23,9 @@ told x = record { some = x .some; value = x .value; limit = x .limit }
 
 -- r is a record of a row of the table, with the length of its row
 pub record Sized (r : List ℕ) : Type 0 where
-  pub least : 1 ≤ kindOf r
-  pub most : kindOf r ≤ lastRow
-  pub long : length r ≡ lengthOf (kindOf r) + 2
+  pub least : 1 ≤ recordRow r
+  pub most : recordRow r ≤ lastRow
+  pub long : length r ≡ lengthOf (recordRow r) + 2
 
 -- a kind whose shares, parts or fractions are compared
 abbrev pub Parted : ℕ → Type 0
@@ -45,7 +45,7 @@ pub record Faulty (a : Account) (r : List ℕ) (code field : ℕ) : Type 0 where
   pub broken : RefusedBy code a r
   pub some : 2 ≤ code
   pub most : code ≤ 12
-  pub position : field ≡ pick (eqb code 7) (badField (kindOf r) (valuesOf r)) 0
+  pub position : field ≡ pick (eqb code 7) (badField (recordRow r) (valuesOf r)) 0
 
 -- the answer where no whole record stands at the front of rest, which begins at the byte at, behind the account a
 abbrev pub unread : Front → Account → ℕ → List ℕ → Verdict

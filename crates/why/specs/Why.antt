@@ -8,7 +8,7 @@ use lib.Dec.{ltb, eqb}
 use Rattle.base.specs.Choice.{pick}
 use Rattle.account.specs.declared.Account.{Account}
 use Rattle.account.specs.declared.Refusal.{Refusal}
-use Rattle.account.specs.Judge.{kindByte, kindOf}
+use Rattle.account.specs.Judge.{kindByte, recordRow}
 use Rattle.account.specs.Line.{joined}
 use Rattle.account.specs.Compared.{compared}
 use Rattle.book.specs.declared.State.{State}
@@ -36,7 +36,7 @@ reason code number field first a r =
       last = first + length r - 1;
       field = field;
       kind = kindByte r;
-      row = kindOf r;
+      row = recordRow r;
       group = a .heading .group;
       some = compared code a r .some;
       value = compared code a r .value;

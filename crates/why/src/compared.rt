@@ -17,7 +17,7 @@ ghost use mathlib.Core.Path.{_≡_};
 ghost use Prim.Native.Nat.{_≤_};
 ghost use lib.ListN.{length};
 ghost use Rattle.codec.specs.Table.{lengthOf, lastRow};
-ghost use Rattle.account.specs.Judge.{kindOf, valuesOf};
+ghost use Rattle.account.specs.Judge.{recordRow, valuesOf};
 ghost use Rattle.account.specs.Compared.{noNumbers, numbers, outside, badField, rangeOf, valueAt, daysWith, valuesCompared, compared};
 ghost use Rattle.why.specs.Inner.{told, Sized, Parted, partsTold, versionTold, Faulty};
 
@@ -80,7 +80,7 @@ fn length_of(row: u8) -> u64
 
 // The value of the field at that position, and the end of its range that it crossed.
 fn out_of_range(r: &[u8], row: u8, position: u8) -> Numbers
-    requires { ⌜ Sized (now r) × (row ≡ kindOf (now r)) × (1 ≤ position) × (position ≤ 12) ⌝ }
+    requires { ⌜ Sized (now r) × (row ≡ recordRow (now r)) × (1 ≤ position) × (position ≤ 12) ⌝ }
     ensures { λ n. ⌜ n ≡ told (outside (rangeOf row position .1) (rangeOf row position .2) (valueAt (valuesOf (now (r .entry))) position)) ⌝ }
 {
     let i = position as usize - 1;
@@ -104,7 +104,7 @@ fn days_with(used: Used, kind: u8, more: u64) -> u64
 
 // A cattle record's shares together, a pig record's parts, or the grazed fractions with this record's.
 fn together(grazed: u32, r: &[u8], kind: u8) -> Numbers
-    requires { ⌜ Sized (now r) × (kind ≡ kindOf (now r)) × (badField kind (valuesOf (now r)) ≡ 0) × Parted kind ⌝ }
+    requires { ⌜ Sized (now r) × (kind ≡ recordRow (now r)) × (badField kind (valuesOf (now r)) ≡ 0) × Parted kind ⌝ }
     ensures { λ n. ⌜ n ≡ partsTold grazed kind (valuesOf (now (r .entry))) ⌝ }
 {
     if kind == CATTLE as u8 {
@@ -122,7 +122,7 @@ fn together(grazed: u32, r: &[u8], kind: u8) -> Numbers
 // The numbers from 5 on: what is compared of the values.
 fn of_values(a: Account, r: &[u8], code: u8, field: u8) -> Numbers
     requires { ⌜ Faulty a (now r) code field × (5 ≤ code) ⌝ }
-    ensures { λ n. ⌜ n ≡ told (valuesCompared code a (kindOf (now (r .entry))) (valuesOf (now (r .entry)))) ⌝ }
+    ensures { λ n. ⌜ n ≡ told (valuesCompared code a (recordRow (now (r .entry))) (valuesOf (now (r .entry)))) ⌝ }
 {
     let row = row_of(r[2], r[3]);
     let heading = a.heading;

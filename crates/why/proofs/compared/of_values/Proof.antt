@@ -3,7 +3,7 @@ use native.Mathlib.Omega.{arith}
 use borrow.Author.Tests.{eqb-true}
 use borrow.Author.Needs.{needs}
 use Rattle.base.proofs.Tests.{not-false}
-use Rattle.account.specs.Judge.{kindOf}
+use Rattle.account.specs.Judge.{recordRow}
 use Rattle.why.proofs.Faults.{sized, position-is, of-parts, days-small}
 use Rattle.why.proofs.ValuesFound.{by-seven, by-eight, by-nine, by-ten, by-twelve, by-other}
 use Rattle.why.proofs.compared.of_values.Statement.{statement}
@@ -14,7 +14,7 @@ module _ (c : tie.After-value-at) where
   abbrev entry : tie.Start
   entry = c .before .before .before .before .before .before .before
 
-  row-is : c .before .before .before .row-of .result ≡ kindOf (entry .args .r .now)
+  row-is : c .before .before .before .row-of .result ≡ recordRow (entry .args .r .now)
   row-is = c .before .before .before .row-of .ensures
 
 pub of-values-spec : {M : Type 1} → statement M
