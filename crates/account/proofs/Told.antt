@@ -30,6 +30,7 @@ use Rattle.account.specs.declared.Figures.{Figures}
 use Rattle.account.specs.declared.Subtotal.{Subtotal}
 use Rattle.account.specs.declared.Used.{Used}
 use Rattle.account.specs.declared.Judged.{Judged}
+use Rattle.account.specs.declared.line.Line.{Line}
 use Rattle.account.specs.Figures.{listed, groupFigures, ch4Alone, co2Alone, grazingAlone, cattleFigures, pigFigures}
 use Rattle.account.specs.Line.{joined, bytesOf, lineWith, totalWith, co2eIn, subtotals, totalOf}
 use Rattle.account.specs.Range.{UsedMost, Bounded, Grouped, AccountInRange}
@@ -178,6 +179,19 @@ in-fit room a j h = rw (le-leb (j .line .given) room h) refl
 
 pub in-full : (room : ℕ) (a : Account) (j : Judged) → room < j .line .given → inRoom room a j ≡ record { account = a; line = j .line }
 in-full room a j h = rw (lt-leb (j .line .given) room h) refl
+
+-- the same of an answer by its account and its line
+pub stays-full : (room : ℕ) (a : Account) (j r : Judged) (l : Line) → r ≡ record { account = a; line = l } → l ≡ j .line → room < l .given
+    → r ≡ inRoom room a j
+stays-full room a j r l q e h =
+    let h2 : room < j .line .given = rw e at h in
+    q ∙ rw e (sym (in-full room a j h2))
+
+pub fits-whole : (room : ℕ) (a : Account) (j r : Judged) → r .account ≡ j .account → r .line ≡ j .line → r .line .given ≤ room → r ≡ inRoom room a j
+fits-whole room a j r p e h =
+    let h2 : j .line .given ≤ room = rw e at h in
+    let same : r ≡ j = rw (p, e) refl in
+    same ∙ sym (in-fit room a j h2)
 
 pub told-in : (room : ℕ) (a : Account) (s : Step) (r w : Judged) → r ≡ inRoom room a w → Tells s w → TellsIn room a s r
 told-in room a s r w e t = record { whole = w; tells = t; is = e }

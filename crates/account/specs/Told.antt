@@ -9,6 +9,7 @@ use lib.Dec.{leb, eqb}
 use Rattle.base.specs.Choice.{pick}
 use Rattle.line_bytes.specs.Lines.{lineSize, totalSize, linesMost, subtotalKind}
 use Rattle.grams.specs.Units.{noCo2}
+use Rattle.grams.specs.declared.units.Co2.{Co2}
 use Rattle.account.specs.declared.Account.{Account}
 use Rattle.account.specs.declared.Figures.{Figures}
 use Rattle.account.specs.declared.Subtotal.{Subtotal}
@@ -52,6 +53,15 @@ Small f = Bounded f 1
 abbrev pub noLine : Line
 noLine = record { given = 0; kind = 0; group = 0; figures = noFigures; co2e = noCo2 }
 
+-- a detail's line or a subtotal
+abbrev pub oneLine : ℕ → ℕ → Figures → Line
+oneLine kind group f = record { given = lineSize; kind = kind; group = group; figures = f; co2e = noCo2 }
+
+-- the close's: the total, and before it the subtotal of the last group, where there is one
+abbrev pub closingLine : ℕ → Figures → Co2 → Line
+closingLine group f co2e =
+    record { given = pick (eqb group 0) totalSize linesMost; kind = subtotalKind; group = group; figures = f; co2e = co2e }
+
 abbrev pub quiet : Account → Judged
 quiet a = record { account = a; line = noLine }
 
@@ -60,18 +70,14 @@ refusing a code field = quiet (refused a code field)
 
 abbrev pub detailing : Account → ℕ → ℕ → Used → Subtotal → Figures → Judged
 detailing a kind group used subtotal f =
-    record { account = withDetail a used subtotal f; line = record { given = lineSize; kind = kind; group = group; figures = f; co2e = noCo2 } }
+    record { account = withDetail a used subtotal f; line = oneLine kind group f }
 
 abbrev pub groupLine : Account → Line
 groupLine a =
-    pick (eqb (a .heading .group) 0) noLine (record { given = lineSize; kind = subtotalKind; group = a .heading .group; figures = groupFigures (a .subtotal); co2e = noCo2 })
+    pick (eqb (a .heading .group) 0) noLine (oneLine subtotalKind (a .heading .group) (groupFigures (a .subtotal)))
 
 abbrev pub heading : Account → ℕ → ℕ → ℕ → Judged
 heading a group class head = record { account = underHeading a group class head; line = groupLine a }
 
 abbrev pub closing : Account → Judged
-closing a =
-    record {
-      account = closed a;
-      line = record { given = pick (eqb (a .heading .group) 0) totalSize linesMost; kind = subtotalKind; group = a .heading .group; figures = groupFigures (a .subtotal); co2e = co2eIn a };
-    }
+closing a = record { account = closed a; line = closingLine (a .heading .group) (groupFigures (a .subtotal)) (co2eIn a) }

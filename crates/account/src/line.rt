@@ -8,12 +8,14 @@ ghost use mathlib.Core.Path.{_≡_};
 ghost use Prim.Native.Nat.{_+_, _≤_};
 ghost use lib.ListN.{length};
 ghost use lib.Seq.{sets, paste};
-ghost use Rattle.line_bytes.specs.Lines.{lineSize, totalSize};
+ghost use lib.Dec.{eqb};
+ghost use Rattle.base.specs.Choice.{pick};
+ghost use Rattle.line_bytes.specs.Lines.{lineSize, totalSize, linesMost};
 ghost use Rattle.account.specs.Line.{lineWith, totalWith, bytesOf};
-ghost use Rattle.account.specs.Told.{noLine};
+ghost use Rattle.account.specs.Told.{noLine, oneLine, closingLine};
 
 // given: how many bytes, and by that what they are: 0 none, LINE_SIZE a detail's line or a subtotal, TOTAL_SIZE the total (the account's sums
-// and co2e), LINES_MOST a subtotal and the total.
+// and co2e), LINES_MOST a subtotal and the total. Only this file goes by it: an enum of the four would cost the reader 1 to 10 % more instructions.
 pub struct Line {
     pub given: usize,
     pub kind: u8,
@@ -31,6 +33,44 @@ pub fn none() -> Line
         group: 0,
         figures: NO_FIGURES,
         co2e: NO_CO2,
+    }
+}
+
+// A detail's line or a subtotal.
+pub fn one(kind: u8, group: u16, f: Figures) -> Line
+    ensures { λ r. ⌜ r ≡ oneLine kind group f ⌝ }
+{
+    Line {
+        given: line_bytes::LINE_SIZE,
+        kind: kind,
+        group: group,
+        figures: f,
+        co2e: NO_CO2,
+    }
+}
+
+// The bytes of the close's lines.
+fn closing_size(group: u16) -> usize
+    ensures { λ r. ⌜ r ≡ pick (eqb group 0) totalSize linesMost ⌝ }
+{
+    if group == 0 {
+        line_bytes::TOTAL_SIZE
+    } else {
+        line_bytes::LINES_MOST
+    }
+}
+
+// The close's: the total, and before it the subtotal of the last group, where there is one.
+pub fn closing(group: u16, f: Figures, co2e: Co2) -> Line
+    ensures { λ r. ⌜ r ≡ closingLine group f co2e ⌝ }
+{
+    let given = closing_size(group);
+    Line {
+        given: given,
+        kind: line_bytes::SUBTOTAL,
+        group: group,
+        figures: f,
+        co2e: co2e,
     }
 }
 

@@ -7,29 +7,15 @@ use crate::refusals::stopped;
 use crate::refusals::wrong;
 use account::Account;
 use account::Judged;
-use account::line::Line;
+use account::line;
 use grams::farm::Factors;
 ghost use mathlib.Core.Path.{_≡_};
 ghost use Prim.Native.Nat.{_<_};
-ghost use lib.Dec.{eqb};
-ghost use Rattle.base.specs.Choice.{pick};
-ghost use Rattle.line_bytes.specs.Lines.{totalSize, linesMost};
 ghost use Rattle.grams.specs.Farm.{FactorsMost};
 ghost use Rattle.account.specs.Account.{factorsOf};
 ghost use Rattle.account.specs.Range.{AccountInRange, Bounded};
 ghost use Rattle.account.specs.Judge.{weigh};
 ghost use Rattle.account.specs.Told.{TellsIn, inRoom, closing};
-
-// The total alone, or with the last group's subtotal before it.
-fn closing_length(group: u16) -> usize
-    ensures { λ r. ⌜ r ≡ pick (eqb group 0) totalSize linesMost ⌝ }
-{
-    if group == 0 {
-        line_bytes::TOTAL_SIZE
-    } else {
-        line_bytes::LINES_MOST
-    }
-}
 
 // The close's lines: the last group's subtotal, where there is a heading, and the sums with their CO2e.
 fn totalled(a: Account, room: usize) -> Judged
@@ -49,15 +35,8 @@ fn totalled(a: Account, room: usize) -> Judged
     let h = a.heading;
     let s = a.subtotal;
     let f = group_figures(s);
-    let len = closing_length(h.group);
-    let line = Line {
-        given: len,
-        kind: line_bytes::SUBTOTAL,
-        group: h.group,
-        figures: f,
-        co2e: co2e,
-    };
-    if room < len {
+    let line = line::closing(h.group, f, co2e);
+    if room < line.given {
         return full(a, line);
     }
     let mut next = a.by_fields();

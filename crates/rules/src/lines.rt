@@ -8,16 +8,14 @@ use account::Subtotal;
 use account::Used;
 use account::line;
 use account::line::Line;
-use grams::units::NO_CO2;
 ghost use mathlib.Core.Path.{_≡_};
 ghost use Prim.Native.Nat.{_<_};
 ghost use lib.Dec.{eqb};
 ghost use Rattle.base.specs.Choice.{pick};
-ghost use Rattle.line_bytes.specs.Lines.{lineSize};
-ghost use Rattle.grams.specs.Units.{noCo2};
+ghost use Rattle.line_bytes.specs.Lines.{subtotalKind};
 ghost use Rattle.account.specs.Figures.{grouped, groupFigures};
 ghost use Rattle.account.specs.Range.{Bounded, Grouped};
-ghost use Rattle.account.specs.Told.{Small, inRoom, noLine, quiet, detailing};
+ghost use Rattle.account.specs.Told.{Small, inRoom, noLine, oneLine, quiet, detailing};
 
 // No line.
 pub(crate) fn silent(a: Account) -> Judged
@@ -54,13 +52,7 @@ pub(crate) fn detailed(
     requires { ⌜ (a .records < 4096) × Bounded (a .sums) 4096 × Small f ⌝ }
     ensures { λ r. ⌜ r ≡ inRoom room a (detailing a kind group used subtotal f) ⌝ }
 {
-    let line = Line {
-        given: line_bytes::LINE_SIZE,
-        kind: kind,
-        group: group,
-        figures: f,
-        co2e: NO_CO2,
-    };
+    let line = line::one(kind, group, f);
     if room < line_bytes::LINE_SIZE {
         return full(a, line);
     }
@@ -96,17 +88,11 @@ pub(crate) fn grouped_detail(
 
 // The line of a group with this subtotal; no line where there was no heading.
 pub(crate) fn group_line(group: u16, s: Subtotal) -> Line
-    ensures { λ r. ⌜ r ≡ pick (eqb group 0) noLine (record { given = lineSize; kind = 16; group = group; figures = groupFigures s; co2e = noCo2 }) ⌝ }
+    ensures { λ r. ⌜ r ≡ pick (eqb group 0) noLine (oneLine subtotalKind group (groupFigures s)) ⌝ }
 {
     if group == 0 {
         return line::none();
     }
     let f = group_figures(s);
-    Line {
-        given: line_bytes::LINE_SIZE,
-        kind: line_bytes::SUBTOTAL,
-        group: group,
-        figures: f,
-        co2e: NO_CO2,
-    }
+    line::one(line_bytes::SUBTOTAL, group, f)
 }

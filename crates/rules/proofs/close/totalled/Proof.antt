@@ -1,10 +1,16 @@
 -- The lines do not fit, or they do. Assumes nothing.
-use mathlib.Core.Path.{refl}
+use mathlib.Core.Path.{_≡_, refl}
 use native.Mathlib.Omega.{arith}
 use borrow.Author.Needs.{needs}
-use borrow.Author.Tests.{le-leb, lt-leb}
+use Rattle.account.specs.Told.{closing}
+use Rattle.account.proofs.Told.{stays-full, fits-whole}
 use Rattle.rules.proofs.close.totalled.Statement.{statement}
 use Rattle.rules.proofs.close.totalled.Tie as tie
+
+-- the lines of the group and of the sums as they stand
+lines : (c : tie.After-closing)
+    → c .closing .result ≡ closing (c .before .before .before .before .before .before .before .before .before .args .a) .line
+lines c = rw (c .before .group-figures .ensures, c .before .before .before .before .co2e .ensures) at (c .closing .ensures)
 
 pub totalled-spec : {M : Type 1} → statement M
 totalled-spec =
@@ -14,20 +20,8 @@ totalled-spec =
     (λ c κs. tt)
     (λ c κs. tt)
     (λ c κs. tt)
-    (λ c.
-    rw (
-      ← c .before .before .closing-length .ensures,
-      lt-leb _ _ (c .before .if1 .taken),
-      ← c .before .before .before .group-figures .ensures,
-      ← c .before .before .before .before .before .before .co2e .ensures,
-    ) (c .full .ensures))
+    (λ c. stays-full _ _ _ _ _ (c .full .ensures) (lines (c .before .before .before)) (c .before .if1 .taken))
     (λ c κs. tt)
-    (λ c. omega (arith, c .before .before .before .before .before .before .before .before .before .before .before .before .pre .0))
+    (λ c. omega (arith, c .before .before .before .before .before .before .before .before .before .before .before .before .before .pre .0))
     (λ c.
-    rw (
-      ← c .before .before .before .closing-length .ensures,
-      le-leb _ _ (c .before .before .if1 .left),
-      ← c .before .before .before .before .group-figures .ensures,
-      ← c .before .before .before .before .before .before .before .co2e .ensures,
-      c .before .by-fields .ensures,
-    ) refl))
+    fits-whole _ _ _ _ (rw (c .before .by-fields .ensures) refl) (lines (c .before .before .before .before)) (c .before .before .if1 .left)))

@@ -1,10 +1,8 @@
 -- The line does not fit, or it does. Assumes nothing.
-use Prim.Native.Nat.{_<_}
-use mathlib.Core.Path.{refl, sym, _∙_}
+use Prim.Native.Nat.{_≤_, _<_}
+use mathlib.Core.Path.{refl}
 use borrow.Author.Needs.{needs}
-use borrow.Author.Tests.{le-leb}
-use Rattle.account.proofs.Told.{in-full}
-use Rattle.line_bytes.specs.Lines.{lineSize}
+use Rattle.account.proofs.Told.{stays-full, fits-whole}
 use Rattle.rules.proofs.lines.detailed.Statement.{statement}
 use Rattle.rules.proofs.lines.detailed.Tie as tie
 
@@ -13,8 +11,16 @@ detailed-spec =
     tie.close
     (tie.spec
     (λ c κs. tt)
-    (λ c. let short : c .before .before .args .room < lineSize = c .before .if1 .taken in c .full .ensures ∙ sym (in-full _ _ _ short))
+    (λ c κs. tt)
+    (λ c.
+    let e = c .before .before .one .ensures in
+    let short : c .before .before .before .args .room < c .before .before .one .result .given = rw e (c .before .if1 .taken) in
+    stays-full _ _ _ _ _ (c .full .ensures) e short)
     (λ c κs. search needs)
     (λ c κs. tt)
     (λ c. search needs)
-    (λ c. rw (le-leb _ _ (c .before .before .before .before .if1 .left), c .before .by-fields .ensures, c .before .before .plus .ensures) refl))
+    (λ c.
+    let left = c .before .before .before .before in
+    let e = left .before .one .ensures in
+    let room : left .before .one .result .given ≤ left .before .before .args .room = rw e (left .if1 .left) in
+    fits-whole _ _ _ _ (rw (c .before .by-fields .ensures, c .before .before .plus .ensures) refl) e room))
