@@ -100,7 +100,8 @@ found-same (suc n) s xs ys p q = go (front xs) refl (λ e s′ h. found-same n s
     by-end : front xs ≡ whole → (b : Bool) → ends s r ≡ b
         → ((s′ : Reading) → bytesRead s′ rest + (lengthMost + 2) ≤ length rest → foundIn s′ (rest ++ ys) ≡ foundIn s′ rest)
         → foundIn s (xs ++ ys) ≡ foundIn s xs
-    by-end e true d ih = rw (first-with xs ys e, records-whole xs e) (found-ends s r (recordsOf (rest ++ ys)) d ∙ sym (found-ends s r (recordsOf rest) d))
+    by-end e true d ih =
+        rw (first-with xs ys e, records-whole xs e) (found-ends s r (recordsOf (rest ++ ys)) d ∙ sym (found-ends s r (recordsOf rest) d))
     by-end e false d ih =
         let m = meaning xs whole e in
         let g : foundIn s xs ≡ with (droppedBy s r) (s .number) r (foundIn (readingAfter s r) rest) =

@@ -1,5 +1,5 @@
--- How far the reading of a damaged book goes: document 02, W5, "a close that none of these drops, code 1, the end of the bytes or 4,095 kept records end
--- the reading".
+-- How far the reading of a damaged book goes: document 02, W5, "a close that none of these drops, code 1, the end of the bytes or 4,095 kept records
+-- end the reading".
 -- Assumes nothing.
 use Prim.Native.Nat.{ℕ}
 use mathlib.Core.List.{List}

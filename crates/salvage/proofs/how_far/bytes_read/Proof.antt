@@ -15,8 +15,8 @@ abbrev μ-loop : tie.MeasureT-loop
 
 -- the turn, and that it takes a record
 turned : (c : tie.After-turn Inv-loop μ-loop)
-    → Turned (c .before .before .before .loop .s) (drop (c .before .before .before .loop .at) (c .before .before .before .before .before .before .args .damaged .now))
-    (c .turn .result)
+    → Turned (c .before .before .before .loop .s)
+    (drop (c .before .before .before .loop .at) (c .before .before .before .before .before .before .args .damaged .now)) (c .turn .result)
 turned c = rw (c .before .rest-of .ensures) at (c .turn .ensures)
 
 some : (c : tie.Else1 Inv-loop μ-loop) → 0 < c .before .before .turn .result .n
@@ -42,7 +42,9 @@ bytes-read-spec =
     let l = c .before .before .loop .inv in
     (l .opened, omega (arith, l .numbered, c .before .loop-test .taken, c .before .before .before .before .before .good)))
     (λ c. let t = c .before .before in going-ends _ _ (t .before .before .before .loop .inv) (turned t .ended (c .if1 .taken)))
-    (λ c. let m = on (c .before .before) in omega (arith, m .within, c .before .before .before .before .before .before .before .before .before .before .good))
+    (λ c.
+    let m = on (c .before .before) in
+    omega (arith, m .within, c .before .before .before .before .before .before .before .before .before .before .good))
     (λ c. let m = on (c .before .before) in omega (arith, m .within, some (c .before .before)))
     (λ c. on (c .before .before))
     (λ c. let l = c .before .loop in going-ends _ _ (l .inv) (nothing-left (l .s) _ (l .at) (c .loop-test .left))))
