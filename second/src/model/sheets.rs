@@ -7,8 +7,11 @@ use crate::model::words::sentence;
 
 pub const HEADER: &str = "kind,group,ch4,n2o,co2,excreted,land,grazing,co2e\r\n";
 
-/// The most bytes that the programs read.
-const MOST: usize = 131_072;
+/// The most bytes of a sheet that `unsheet` reads: 4,096 rows, the header among them, none of a book as long as 64 bytes.
+const MOST_SHEET: usize = 4_096 * 64;
+
+/// The most bytes of lines that `sheet_lines` reads: what a book of 4,096 records gives at most, 4,094 lines and the close's.
+const MOST_LINES: usize = 4_094 * 54 + 62;
 
 /// A refusal's number, and its row where it has one.
 pub struct Refusal {
@@ -134,14 +137,14 @@ fn refused(Refusal { code, row }: Refusal) -> Told {
     (Vec::new(), format!("{head}{}\nrefused {code}{row}\n", sentence(code)), false)
 }
 
-fn too_long(what: &str) -> Told {
-    (Vec::new(), format!("the {what} longer than {MOST} bytes: nothing is written\n"), false)
+fn too_long(what: &str, most: usize) -> Told {
+    (Vec::new(), format!("the {what} longer than {most} bytes: nothing is written\n"), false)
 }
 
 /// What `sheet_lines` does with these bytes.
 pub fn sheeted(lines: &[u8]) -> Told {
-    if lines.len() > MOST {
-        return too_long("lines are");
+    if lines.len() > MOST_LINES {
+        return too_long("lines are", MOST_LINES);
     }
     match export(lines) {
         Ok(text) => {
@@ -154,8 +157,8 @@ pub fn sheeted(lines: &[u8]) -> Told {
 
 /// What `unsheet` does with this text.
 pub fn unsheeted(text: &[u8]) -> Told {
-    if text.len() > MOST {
-        return too_long("sheet is");
+    if text.len() > MOST_SHEET {
+        return too_long("sheet is", MOST_SHEET);
     }
     match import(text) {
         Ok((lines, count)) => (lines, format!("{count} lines\n"), true),
