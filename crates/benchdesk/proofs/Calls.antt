@@ -59,13 +59,13 @@ pub record Going (book lines₀ : List ℕ) (part : ℕ) (lines : List ℕ) (s :
   pub long : length lines ≡ length lines₀
   pub so : List ℕ
   pub wrote : length so ≡ w
-  pub linesLaid : lines ≡ so ++ drop w lines₀
+  pub laid : lines ≡ so ++ drop w lines₀
   pub on : benched book part (length lines₀) ≡ andThen so (benchBy n s (drop i book) part (length lines₀ - w))
 
 pub going-none : (book lines : List ℕ) (part : ℕ) (s : State) → s ≡ noRecordYet → Going book lines part lines s 0 0 (length book)
 going-none book lines part s e =
     let r : length lines - 0 ≡ length lines = omega arith in
-    record { inside = omega arith; fits = omega arith; long = refl; so = []; wrote = refl; linesLaid = refl; on = rw (r, e) refl }
+    record { inside = omega arith; fits = omega arith; long = refl; so = []; wrote = refl; laid = refl; on = rw (r, e) refl }
 
 -- what the function gives: its number and its buffer
 abbrev pub Gives : List ℕ → List ℕ → ℕ → List ℕ → ℕ → Type 0
@@ -184,6 +184,6 @@ module _ {book lines₀ : List ℕ} {part : ℕ} {lines : List ℕ} {s : State} 
           long = long-on;
           so = g .so ++ c .bytes;
           wrote = wrote-on;
-          linesLaid = laid-on;
+          laid = laid-on;
           on = (rw (b, q, d, st) at step) ∙ rw append-assoc refl;
         }
