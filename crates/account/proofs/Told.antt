@@ -38,7 +38,7 @@ use Rattle.account.specs.Judge.{wrongVersion, wrongKind, judge, first, i
 use Rattle.account.specs.Judge.{wrongCount, valueRefusals}
 use Rattle.account.specs.Account.{refused, underHeading, withDetail, closed}
 use Rattle.account.specs.Judge.{Step, accepted, weigh}
-use Rattle.account.specs.Told.{Tells, TellsIn, inRoom, Kind, Small, noLine, quiet, refusing, detailing, heading, closing}
+use Rattle.account.specs.Told.{Tells, TellsIn, inRoom, Kind, Small, noLine, quiet, refusing, detailing, heading, closing, outsideBy, refusingOutside}
 use Rattle.account.proofs.Sums.{ch4-small, co2-small, grazing-small, cattle-small, pig-small, bounded-more, grouped-more}
 use Rattle.account.proofs.Under.{head-in, used-in}
 use Rattle.account.proofs.First.{three-clear, three-first}
@@ -257,6 +257,14 @@ module _ (a : Account) (k : ℕ) (v : List ℕ) (placed : Bool) (bad code : ℕ)
       let same : first (valueRefusals a k v) ≡ code =
       rw (← p, ← b) (three-first (leb 4096 (a .records)) (not placed) (not (eqb bad 0)) (laterRefusals a k v) (λ z. n (c ∙ z)) ∙ sym c) in
       quiet-in room a _ (weigh a k v) r e (rw (same, ne-eqb code 0 n, ← b, e) (tells-quiet (refused a code (pick (eqb code 7) bad 0))))
+
+-- a value out of its range at that position: one of 5, 6 and 7 refuses
+pub outside-tells : (a : Account) (row : ℕ) (v : List ℕ) (position : ℕ) (r : Judged) → (position ≡ 0 → ⊥) → position ≡ firstBad (fields row) v 0
+    → r ≡ refusingOutside a row position → Tells (weigh a row v) r
+outside-tells a row v position r n e q =
+    let some : outsideBy a row position ≡ 0 → ⊥ = λ z. n (e ∙ passes a row v (inPlace a row) position (outsideBy a row position) refl e refl z .ranges) in
+    let t = stops a row v (inPlace a row) position (outsideBy a row position) refl e refl linesMost r some q in
+    tells-fit t (lines-short t)
 
 -- what is left are the refusals from 8 on
 module _ (a : Account) (k : ℕ) (v : List ℕ) (p : Passes a k v) where

@@ -2,8 +2,8 @@
 -- Assumes nothing.
 use Prim.Native.Nat.{ℕ, _≤_}
 use mathlib.Core.Path.{_≡_}
-use mathlib.Core.List.{List}
-use mathlib.Core.Bool.{false}
+use mathlib.Core.List.{List, [], _∷_}
+use mathlib.Core.Bool.{false, not}
 use lib.ListN.{length}
 use lib.Dec.{leb, eqb}
 use Rattle.base.specs.Choice.{pick}
@@ -20,7 +20,7 @@ use Rattle.account.specs.Figures.{noFigures, groupFigures}
 use Rattle.account.specs.Range.{Bounded}
 use Rattle.account.specs.Line.{joined, bytesOf, co2eIn}
 use Rattle.account.specs.Account.{refused, underHeading, withDetail, closed}
-use Rattle.account.specs.Judge.{Step, WholeRecord, recordRow, wrongVersion, wrongKind}
+use Rattle.account.specs.Judge.{Step, WholeRecord, recordRow, wrongVersion, wrongKind, bookFull, outOfPlace, first}
 
 -- r tells what j says: the account, and j's lines one after the other
 pub record Tells (j : Step) (r : Judged) : Type 0 where
@@ -67,6 +67,14 @@ quiet a = record { account = a; line = noLine }
 
 abbrev pub refusing : Account → ℕ → ℕ → Judged
 refusing a code field = quiet (refused a code field)
+
+-- the number that refuses a record of the row with a value out of its range at that position: the first of 5, 6 and 7 that holds
+abbrev pub outsideBy : Account → ℕ → ℕ → ℕ
+outsideBy a row position = first ((bookFull a, 5) ∷ (outOfPlace a row, 6) ∷ (not (eqb position 0), 7) ∷ [])
+
+-- refused by it, with the position for 7
+abbrev pub refusingOutside : Account → ℕ → ℕ → Judged
+refusingOutside a row position = refusing a (outsideBy a row position) (pick (eqb (outsideBy a row position) 7) position 0)
 
 abbrev pub detailing : Account → ℕ → ℕ → Used → Subtotal → Figures → Judged
 detailing a kind group used subtotal f =

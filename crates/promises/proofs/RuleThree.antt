@@ -2,16 +2,18 @@
 use Prim.Native.Nat.{ℕ, _≤_}
 use mathlib.Core.Path.{_≡_, refl, ap, sym, _∙_}
 use mathlib.Core.List.{List, [], _∷_, _++_, append-assoc, append-nil}
+use mathlib.Core.Bool.{false}
 use mathlib.Core.Logic.{⊎-elim}
 use lib.ListN.{take, drop}
 use Rattle.book.specs.declared.State.{State}
-use Rattle.book.specs.State.{InRange}
+use Rattle.book.specs.State.{InRange, inRange}
 use Rattle.book.specs.Run.{then, Outcome, outcome, run}
 use Rattle.book.specs.Call.{call}
 use Rattle.book.specs.Way.{Part, calledThen, way, Ended}
 use Rattle.book.proofs.Runs.{run-append, run-none, run-ended}
 use Rattle.book.proofs.Outcomes.{join}
 use Rattle.promises.proofs.Calls.{call-range, call-goes}
+use Rattle.promises.proofs.StaysInRange.{outside-answer}
 
 -- A run may be broken anywhere: a run of xs and ys gives the lines of the run of xs, and then what a run from the state reached gives
 -- for what was left of xs, and ys.
@@ -48,3 +50,10 @@ ways-agree s xs ps qs v d e = rule-three s xs ps v d ∙ sym (rule-three s xs qs
 -- A series of calls from a state in range ends in one.
 pub way-range : (s : State) (xs : List ℕ) (ps : List Part) → InRange s → InRange (way s xs ps .state)
 way-range s xs ps v = way-goes ps s xs v .range
+
+-- From a state outside the ranges every series of calls leaves the state as it was, gives nothing and keeps all bytes; each call's answer is 13
+-- (`outside-answer`).
+pub outside-ways : (s : State) (xs : List ℕ) (ps : List Part) → inRange s ≡ false → way s xs ps ≡ record { state = s; bytes = []; left = xs }
+unfolding way
+outside-ways s xs [] e = refl
+outside-ways s xs (p ∷ ps) e = rw (outside-answer s (take (p .offered) xs) (p .room) e .0) (rw (outside-ways s xs ps e) refl)

@@ -9,12 +9,8 @@ use codec::kinds::FARM;
 use codec::kinds::FARM_FACTORS;
 use codec::kinds::PIG;
 ghost use mathlib.Core.Path.{_≡_};
-ghost use mathlib.Core.List.{List};
-ghost use Prim.Native.Nat.{ℕ};
-ghost use Rattle.codec.specs.Table.{fields};
-ghost use Rattle.codec.specs.Codec.{firstBad};
-ghost use Rattle.account.specs.Judge.{headingServes, inPlace, weigh};
-ghost use Rattle.account.specs.Told.{Tells};
+ghost use Rattle.account.specs.Judge.{headingServes, inPlace};
+ghost use Rattle.account.specs.Told.{refusingOutside};
 
 // A heading of the class serves a record of the row.
 fn serves(class: u8, row: u64) -> bool
@@ -40,10 +36,10 @@ fn placed(a: Account, row: u64) -> bool
     serves(h.class, row) & !(a.records == 0)
 }
 
-// What values of the row do whose first out of its range stands at that position.
+// What values of the row do whose first out of its range stands at that position: the first of 5, 6 and 7 that holds refuses them.
 pub fn weigh(a: Account, row: u64, position: u8) -> Judged
     requires { ⌜ (position ≡ 0 → ⊥) ⌝ }
-    ensures { λ j. ⌜ ((v : List ℕ) → position ≡ firstBad (fields row) v 0 → Tells (weigh a row v) j) ⌝ }
+    ensures { λ j. ⌜ j ≡ refusingOutside a row position ⌝ }
 {
     let code = barred(a.records, placed(a, row), position);
     stopped(a, code, position)

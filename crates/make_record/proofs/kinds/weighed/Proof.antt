@@ -9,6 +9,7 @@ use lib.Seq.{length-sets}
 use Rattle.codec.specs.Table.{lengthOf}
 use Rattle.codec.specs.Codec.{recordBytes}
 use Rattle.codec.proofs.Rows.{length-most}
+use Rattle.account.proofs.Told.{outside-tells}
 use Rattle.codec.proofs.Round.{record-length}
 use Rattle.make_record.proofs.AsRecord.{at-start, whole, told}
 use Rattle.make_record.proofs.kinds.weighed.Statement.{statement}
@@ -37,7 +38,7 @@ weighed-spec =
     (tie.spec
     (λ c κs. search needs)
     (λ c κs. search needs)
-    (λ c. c .weigh .ensures _ (c .before .before .first-bad .ensures))
+    (λ c. outside-tells _ _ _ _ _ (c .before .if1 .taken) (c .before .before .first-bad .ensures) (c .weigh .ensures))
     (λ c. search needs)
     (λ c κs. let s = c .before .before .before .before in (omega (arith, length-most (s .args .row)), s .pre .2))
     (λ c κs. search needs)
