@@ -29,7 +29,8 @@
                      are untouched and *taken is 0. herd_start gives 13 for a wrong length alone
 
    A closed or refused image gives its code again, takes nothing and writes nothing. However a book is cut into parts, and whatever
-   the rooms are, the lines one after the other and the last code are those of herd_desk on the whole book.
+   the rooms are, the lines one after the other and the last code are those of herd_desk on the whole book, where herd_desk has room for
+   all lines; but where bytes stand behind the close the code is 0, and not 18.
 
    The layout, each number big-endian:
 
@@ -131,14 +132,37 @@ static inline size_t herd_desk_written(uint64_t answer) {
     return (size_t)(answer & 0xffffffff);
 }
 
-/* The grams of CO2 or CO2e at eight bytes of a line: of CO2 at line + 22, of a total's CO2e at line + 54. */
-static inline int64_t herd_desk_signed(const uint8_t *bytes) {
+/* The number in some bytes. */
+static inline uint64_t herd_desk_number(const uint8_t *bytes, int count) {
     uint64_t word = 0;
-    for (int i = 0; i < 8; i++) {
+    for (int i = 0; i < count; i++) {
         word = word << 8 | bytes[i];
     }
+    return word;
+}
+
+/* The grams of CO2 or CO2e at eight bytes of a line: of CO2 at line + 22, of a total's CO2e at line + 54. */
+static inline int64_t herd_desk_signed(const uint8_t *bytes) {
+    uint64_t word = herd_desk_number(bytes, 8);
     return word <= INT64_MAX ? (int64_t)word : -(int64_t)(UINT64_MAX - word) - 1;
 }
+
+/* A line: its bytes, kind and group, and its grams. Of CO2e there is one in the total alone, whose kind is 8. */
+static inline size_t herd_line_bytes(const uint8_t *line) { return 2 + (size_t)herd_desk_number(line, 2); }
+static inline unsigned herd_line_kind(const uint8_t *line) { return line[3]; }
+static inline unsigned herd_line_group(const uint8_t *line) { return (unsigned)herd_desk_number(line + 4, 2); }
+static inline uint64_t herd_line_ch4(const uint8_t *line) { return herd_desk_number(line + 6, 8); }
+static inline uint64_t herd_line_n2o(const uint8_t *line) { return herd_desk_number(line + 14, 8); }
+static inline int64_t herd_line_co2(const uint8_t *line) { return herd_desk_signed(line + 22); }
+static inline uint64_t herd_line_excreted(const uint8_t *line) { return herd_desk_number(line + 30, 8); }
+static inline uint64_t herd_line_land(const uint8_t *line) { return herd_desk_number(line + 38, 8); }
+static inline uint64_t herd_line_grazing(const uint8_t *line) { return herd_desk_number(line + 46, 8); }
+static inline int64_t herd_line_co2e(const uint8_t *total) { return herd_desk_signed(total + 54); }
+
+/* The refusal in an image: its code, 0 where the book is not refused, the records accepted before it, and the field, 0 but for code 7. */
+static inline uint32_t herd_image_code(const uint8_t *image) { return image[128]; }
+static inline unsigned herd_image_accepted(const uint8_t *image) { return (unsigned)herd_desk_number(image + 129, 2); }
+static inline unsigned herd_image_field(const uint8_t *image) { return image[131]; }
 
 /* The words of a code; they are never freed, and have no line's end. */
 static inline const char *herd_desk_words(uint32_t code) {

@@ -12,10 +12,11 @@ static uint8_t images[FARMS][HERD_IMAGE_BYTES], part[PART], lines[4096];
 static uint32_t codes[FARMS];
 static int heard[FARMS];
 
+/* 1 where a number is there, 0 where the input ends before it, -1 where it ends after one byte of it. */
 static int get16(size_t *number) {
     int high = getchar(), low = high == EOF ? EOF : getchar();
     *number = (size_t)(high & 255) << 8 | (size_t)(low & 255);
-    return low != EOF;
+    return low != EOF ? 1 : high == EOF ? 0 : -1;
 }
 
 static void put16(size_t number) {
@@ -42,8 +43,9 @@ static void deliver(size_t farm, size_t part_len) {
 
 int main(void) {
     size_t farm, part_len;
-    while (get16(&farm)) {
-        if (!get16(&part_len) || farm >= FARMS || fread(part, 1, part_len, stdin) != part_len) {
+    int got;
+    while ((got = get16(&farm)) != 0) {
+        if (got < 0 || get16(&part_len) <= 0 || farm >= FARMS || fread(part, 1, part_len, stdin) != part_len) {
             fputs("no such delivery\n", stderr);
             return 1;
         }
