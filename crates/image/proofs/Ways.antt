@@ -11,7 +11,7 @@ use Rattle.book.specs.State.{noRecordYet}
 use Rattle.book.specs.Run.{outcome, run}
 use Rattle.book.specs.Call.{call}
 use Rattle.book.specs.Way.{Part, way, Ended}
-use Rattle.promises.proofs.RuleThree.{rule-three}
+use Rattle.promises.proofs.RuleThree.{way-is-run}
 use Rattle.promises.proofs.StaysInRange.{new-in-range}
 use Rattle.image.specs.Image.{imageSize, imageOf, Possible}
 use Rattle.image.specs.Calls.{onImage, afterOn, wayOn}
@@ -32,7 +32,7 @@ way-on-image (q ∷ qs) s xs p =
 -- Rule 3: a series of calls on an image that is at its end gives the lines of the uncut run, leaves its bytes, and the image of its state.
 pub rule-three-on-image : (s : State) (xs : List ℕ) (ps : List Part) → Possible s → Ended (way s xs ps)
     → wayOn (imageOf s) xs ps ≡ onImage (outcome (run s xs))
-rule-three-on-image s xs ps p e = way-on-image ps s xs p ∙ ap onImage (rule-three s xs ps (p .range) e)
+rule-three-on-image s xs ps p e = way-on-image ps s xs p ∙ ap onImage (way-is-run s xs ps (p .range) e)
 
 -- The state before any record is possible, and its image is zeros: so a desk may begin with zeros.
 pub new-possible : Possible noRecordYet

@@ -8,7 +8,7 @@ use Rattle.book.specs.declared.State.{State}
 use Rattle.book.specs.State.{InRange, noRecordYet}
 use Rattle.book.specs.Run.{run, Outcome}
 use Rattle.book.specs.Way.{Part, way, Ended}
-use Rattle.promises.proofs.RuleThree.{rule-three}
+use Rattle.promises.proofs.RuleThree.{way-is-run}
 use Rattle.promises.proofs.StaysInRange.{new-in-range}
 use Rattle.lister.specs.Listing.{endText, textOf, listingFrom, listingOf, printed}
 use Rattle.in_parts.proofs.Rows.{rows-in-parts}
@@ -17,7 +17,7 @@ use Rattle.in_parts.proofs.Rows.{rows-in-parts}
 pub printed-in-parts : (s : State) (xs : List ℕ) (ps : List Part) → InRange s → Ended (way s xs ps) → printed s xs ps ≡ listingFrom s xs
 printed-in-parts s xs ps v e =
     ap (λ (t : List ℕ). t ++ endText (way s xs ps .state .account)) (rows-in-parts Listing s xs ps v e)
-    ∙ ap (λ (o : Outcome). textOf Listing (run s xs .lines) ++ endText (o .state .account)) (rule-three s xs ps v e)
+    ∙ ap (λ (o : Outcome). textOf Listing (run s xs .lines) ++ endText (o .state .account)) (way-is-run s xs ps v e)
 
 -- However a book is cut, the parts put together print its listing.
 pub listed-in-parts : (xs : List ℕ) (ps : List Part) → Ended (way noRecordYet xs ps) → printed noRecordYet xs ps ≡ listingOf xs

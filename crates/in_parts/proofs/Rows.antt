@@ -27,7 +27,7 @@ use Rattle.book.specs.Run.{run, Outcome}
 use Rattle.book.specs.Call.{call}
 use Rattle.book.specs.Way.{Part, way, Ended}
 use Rattle.promises.proofs.EachLine.{LineKind, kind-small, Each, run-each, OfLines, call-each}
-use Rattle.promises.proofs.RuleThree.{rule-three}
+use Rattle.promises.proofs.RuleThree.{way-is-run}
 use Rattle.lister.specs.Listing.{textOf, rowsOn}
 
 -- ---- a line is as long as its kind says
@@ -132,5 +132,5 @@ module _ (form : Form) where
       → rowsOn form s xs ps ≡ textOf form (run s xs .lines)
   rows-in-parts s xs ps v e =
       rows-way s xs ps
-      ∙ ap (λ (o : Outcome). rowsText form (o .bytes)) (rule-three s xs ps v e)
+      ∙ ap (λ (o : Outcome). rowsText form (o .bytes)) (way-is-run s xs ps v e)
       ∙ rows-all form (run s xs .lines) (run-whole s xs)

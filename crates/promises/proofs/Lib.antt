@@ -18,3 +18,4 @@ pub mod WholeLines
 pub mod SameLine
 pub mod Warming
 pub mod EachLine
+pub mod ThreeRules

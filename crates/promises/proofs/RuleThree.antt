@@ -34,8 +34,8 @@ way-goes (p ∷ ps) s xs v =
     record { range = i .range; on = call-goes s xs (p .offered) (p .room) v ∙ ap (calledThen c) (i .on) ∙ rw append-assoc }
 
 -- Rule 3: a series of calls from a state in range that is at its end has the state, the lines and the bytes left of the uncut run.
-pub rule-three : (s : State) (xs : List ℕ) (ps : List Part) → InRange s → Ended (way s xs ps) → way s xs ps ≡ outcome (run s xs)
-rule-three s xs ps v e =
+pub way-is-run : (s : State) (xs : List ℕ) (ps : List Part) → InRange s → Ended (way s xs ps) → way s xs ps ≡ outcome (run s xs)
+way-is-run s xs ps v e =
     let w = way s xs ps in
     let g = way-goes ps s xs v in
     let done : outcome (run (w .state) (w .left)) ≡ record { state = w .state; bytes = []; left = w .left } =
@@ -45,7 +45,7 @@ rule-three s xs ps v e =
 
 -- Two series of calls over one run, each at its end, give the same state, the same lines, and leave the same bytes.
 pub ways-agree : (s : State) (xs : List ℕ) (ps qs : List Part) → InRange s → Ended (way s xs ps) → Ended (way s xs qs) → way s xs ps ≡ way s xs qs
-ways-agree s xs ps qs v d e = rule-three s xs ps v d ∙ sym (rule-three s xs qs v e)
+ways-agree s xs ps qs v d e = way-is-run s xs ps v d ∙ sym (way-is-run s xs qs v e)
 
 -- A series of calls from a state in range ends in one.
 pub way-range : (s : State) (xs : List ℕ) (ps : List Part) → InRange s → InRange (way s xs ps .state)

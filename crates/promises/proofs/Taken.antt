@@ -15,7 +15,7 @@ use Rattle.book.specs.Way.{Part, way, Ended}
 use Rattle.book.proofs.Calls.{call-at}
 use Rattle.promises.specs.Taken.{takenBy}
 use Rattle.promises.proofs.Fitting.{longest-most}
-use Rattle.promises.proofs.RuleThree.{rule-three}
+use Rattle.promises.proofs.RuleThree.{way-is-run}
 use Rattle.promises.proofs.StaysInRange.{stays-in-range}
 
 -- a call takes no more than it is offered
@@ -48,7 +48,7 @@ pub taken-by-rule-two : (s : State) (xs : List ℕ) (ps : List Part) → InRange
     → takenBy s xs ps ≡ length xs - length (run s xs .left)
 taken-by-rule-two s xs ps v e =
     let w = way-leaves ps s xs v in
-    let l : run s xs .left ≡ drop (takenBy s xs ps) xs = sym (ap (λ (o : Outcome). o .left) (rule-three s xs ps v e)) ∙ w .left in
+    let l : run s xs .left ≡ drop (takenBy s xs ps) xs = sym (ap (λ (o : Outcome). o .left) (way-is-run s xs ps v e)) ∙ w .left in
     omega (arith, w .most, ap length l, length-drop (takenBy s xs ps) xs)
 
 -- Two series of calls over one run, each at its end, have taken equally many bytes.
