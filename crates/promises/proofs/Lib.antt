@@ -19,3 +19,4 @@ pub mod SameLine
 pub mod Warming
 pub mod EachLine
 pub mod ThreeRules
+pub mod PigNitrogen
