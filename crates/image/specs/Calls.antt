@@ -4,14 +4,14 @@
 -- Assumes nothing.
 use Prim.Native.Nat.{ℕ}
 use mathlib.Core.List.{List, [], _∷_, _++_}
-use lib.ListN.{length, take, drop}
+use lib.ListN.{length, getD, take, drop}
 use lib.Dec.{eqb}
 use Rattle.base.specs.Choice.{pick}
 use Rattle.book.specs.declared.Answer.{Answer}
-use Rattle.book.specs.declared.Answer.the-variants.{More, Full, Closed, Refused}
+use Rattle.book.specs.declared.Answer.the-variants.{Refused}
 use Rattle.book.specs.State.{noRecordYet}
 use Rattle.book.specs.Run.{Outcome}
-use Rattle.book.specs.Call.{Call, call, outside}
+use Rattle.book.specs.Call.{numbers, Call, call, outside}
 use Rattle.book.specs.Way.{Part}
 use Rattle.image.specs.declared.Called.{Called}
 use Rattle.image.specs.Image.{imageSize, imageOf, stateIn, isImage}
@@ -32,12 +32,9 @@ imageAfter image xs room = pick (isImage image) (imageOf (callOn image xs room .
 abbrev pub calledOf : Call → Called
 calledOf c = record { taken = c .taken; written = length (c .bytes); answer = c .answer }
 
--- the number of an answer: 0 closed, 16 full, 17 more, else the refusal's
+-- the number of an answer: the first of its numbers, 0 closed, 16 full, 17 more, else the refusal's
 abbrev pub answerCode : Answer → ℕ
-answerCode Closed = 0
-answerCode Full = 16
-answerCode More = 17
-answerCode (Refused r) = r .code
+answerCode a = getD (numbers a) 0 0
 
 -- refusal 13, nothing taken or written
 abbrev pub noImage : Called

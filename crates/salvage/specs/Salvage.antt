@@ -112,6 +112,11 @@ unfoldable pub farmAmong : List (List ℕ) → Bool
 farmAmong [] = false
 farmAmong (r ∷ rs) = eqb (kindByte r) 1 || farmAmong rs
 
+-- this paper's number and values for each answer: 0 and both lengths, or the number of the refusal
+abbrev pub numbers : Salvaged → List ℕ
+numbers (Saved l) = 0 ∷ l .book ∷ l .list ∷ []
+numbers (Refused number) = number ∷ []
+
 -- what the tool gives: its answer, the bytes of the clean book and those of the list
 pub record Salvage : Type 0 where
   pub answer : Salvaged

@@ -77,6 +77,11 @@ importOf text = pick (startsWith (header Sheet) text) (each rowItem 2 (drop (len
 
 -- ---- into a buffer
 
+-- this paper's number and values for each answer: 0 and the bytes written, or the refusal's number with its row, 0 where it has none
+abbrev pub numbers : Answer → List ℕ
+numbers (Written n) = 0 ∷ n ∷ []
+numbers (Refused code row) = code ∷ row ∷ []
+
 -- the answer with a buffer of so many bytes
 unfoldable pub answer : Made → ℕ → Answer
 answer (made t) room = pick (leb (length t) room) (Written (length t)) (Refused 16 0)

@@ -2,7 +2,7 @@
 -- limit it crossed, ..". All of it is said over rule 2's result for the book, its whole records, and what the reader's own tests compare.
 -- Assumes nothing.
 use Prim.Native.Nat.{ℕ, _+_, _-_}
-use mathlib.Core.List.{List}
+use mathlib.Core.List.{List, [], _∷_}
 use lib.ListN.{length, take, drop}
 use lib.Dec.{ltb, eqb}
 use Rattle.base.specs.Choice.{pick}
@@ -61,6 +61,14 @@ abbrev pub unfinishedBy : List ℕ → Verdict
 unfinishedBy h = pick (ltb (length h) 2) NextLength (Missing (need h - length h))
 
 -- ---- any book
+
+-- this paper's number and values for each verdict: 0 and the first byte after the close; 17 and the bytes missing, where they are known; or the
+-- refusal's number, the record, its first and last byte, the field, the value and the limit
+abbrev pub numbers : Verdict → List ℕ
+numbers (Accepted end more) = 0 ∷ end ∷ []
+numbers (Missing n) = 17 ∷ n ∷ []
+numbers NextLength = 17 ∷ []
+numbers (Refused w) = w .code ∷ w .number ∷ w .first ∷ w .last ∷ w .field ∷ w .value ∷ w .limit ∷ []
 
 -- a closed book: the first byte after the close, and whether there is one, by the bytes that rule 2 leaves
 abbrev pub acceptedBy : List ℕ → List ℕ → Verdict
