@@ -2,7 +2,7 @@
 -- stands in a file below.
 -- Assumes nothing.
 use Prim.Native.Nat.{ℕ, _≤_}
-use mathlib.Core.Path.{_≡_}
+use mathlib.Core.Path.{_≡_, refl}
 use mathlib.Core.Bool.{true, false}
 use mathlib.Core.List.{List}
 use borrow.Author.Tests.{ltb-false}
@@ -19,12 +19,11 @@ use Rattle.grams.specs.TillageTable.{lessTillage, lessOf, pairOf}
 use Rattle.grams.specs.CarbonRate.{steps, expOf, rateOf, mgOf}
 use Rattle.grams.specs.Tillage.{co2Of, tillageOf}
 use Rattle.grams.specs.Grazing.{pastureTable, pastureFactor, grazingOf}
-use Rattle.grams.specs.declared.units.Co2.{Co2}
 use Rattle.account.specs.declared.Figures.{Figures}
 use Rattle.account.specs.declared.Heading.{Heading}
 use Rattle.account.specs.declared.sort.Sort.the-variants.{OfFarm}
 use Rattle.account.specs.Sorts.{sortOf}
-use Rattle.account.specs.Figures.{co2Alone, figuresOf}
+use Rattle.account.specs.Figures.{figuresOf}
 use Rattle.account.specs.Judge.{partsWrong}
 use Rattle.account.specs.Told.{Small}
 use Rattle.account.proofs.Sorts.{not-of-group}
@@ -75,12 +74,22 @@ figures-small h v m =
       ),
     )
 
--- a detail of the farm gives CO2 alone
-pub of-farm : (P : Figures → Type 0) (h : Heading) (k : ℕ) (v : List ℕ) → sortOf k ≡ OfFarm → ((g : Co2) → P (co2Alone g)) → P (figuresOf h k v)
+-- none of the figures that a group has
+pub record NotOfGroup (f : Figures) : Type 0 where
+  pub ch4 : f .ch4 ≡ 0
+  pub n2o : f .n2o .0 ≡ 0
+  pub excreted : f .excreted ≡ 0
+  pub land : f .land ≡ 0
+
+-- a detail of the farm gives none
+pub of-farm : (h : Heading) (k : ℕ) (v : List ℕ) → sortOf k ≡ OfFarm → NotOfGroup (figuresOf h k v)
 unfolding figuresOf
-of-farm P h k v e p =
+of-farm h k v e =
     let n = not-of-group k e in
-    rw (n .0, n .1 .0, n .1 .1 .0, n .1 .1 .1) (of-choice P (eqb k 6) (λ e. p _) (λ e. of-choice P (eqb k 7) (λ e. p _) (λ e. p _)))
+    rw (n .0, n .1 .0, n .1 .1 .0, n .1 .1 .1)
+    (of-choice NotOfGroup (eqb k 6) (λ e. record { ch4 = refl; n2o = refl; excreted = refl; land = refl })
+    (λ e. of-choice NotOfGroup (eqb k 7) (λ e. record { ch4 = refl; n2o = refl; excreted = refl; land = refl })
+    (λ e. record { ch4 = refl; n2o = refl; excreted = refl; land = refl })))
 
 -- the figures down to their grams: who computes a book unfolds this
 unfoldable pub computed : Heading → ℕ → List ℕ → Figures

@@ -16,18 +16,17 @@ use Rattle.codec.proofs.EachKind.{row-most}
 use Rattle.codec.specs.Table.{isRow}
 use Rattle.codec.specs.Codec.{valAt}
 use Rattle.account.specs.declared.Account.{Account}
-use Rattle.grams.specs.declared.units.Co2.{Co2}
 use Rattle.account.specs.declared.Figures.{Figures}
 use Rattle.account.specs.declared.Subtotal.{Subtotal}
 use Rattle.account.specs.declared.sort.Sort.{Sort}
 use Rattle.account.specs.declared.sort.Sort.the-variants.{Opens, Heads, OfGroup, OfFarm, Closes}
 use Rattle.account.specs.Sorts.{sortOf, bySort}
-use Rattle.account.specs.Figures.{noFigures, noSubtotal, added, grouped, groupFigures, co2Alone}
+use Rattle.account.specs.Figures.{noFigures, noSubtotal, added, grouped, groupFigures}
 use Rattle.account.specs.Line.{lineWith, subtotals, totalOf}
 use Rattle.account.specs.Range.{Ungrouped, AccountInRange}
 use Rattle.account.specs.Judge.{recordRow, valuesOf, first, refusals, Step, accepted, judge}
 use Rattle.account.proofs.Sorts.{by-sort}
-use Rattle.account.proofs.EachFigure.{of-farm}
+use Rattle.account.proofs.EachFigure.{NotOfGroup, of-farm}
 use Rattle.account.proofs.Keeps.{in-range-judge}
 use Rattle.book.specs.declared.State.{State}
 use Rattle.book.specs.Front.{Front, unfinished, badLength, whole, need, front}
@@ -76,7 +75,7 @@ pub record Gas : Type 0 where
   pub adds : (f g : Figures) → farm (added f g) ≡ farm f + farm g
   pub groups : (s : Subtotal) (f : Figures) → group (grouped s f) ≡ group s + farm f
   pub none : group noSubtotal ≡ 0
-  pub air : (g : Co2) → farm (co2Alone g) ≡ 0
+  pub other : (f : Figures) → NotOfGroup f → farm f ≡ 0
   pub ungrouped : (s : Subtotal) → Ungrouped s → group s ≡ 0
 
 -- whether a record closes the book
@@ -208,12 +207,9 @@ ended-group a f x = go (eqb (a .heading .group) 0) refl
 
 -- the balance of one record that does not close the book: what the farm gains is what its groups gain
 module _ (a : Account) (r : List ℕ) (f : AccountInRange a) (x : Gas) where
-  abbrev Nothing : Figures → Type 0
-  Nothing g = x .farm g ≡ 0
-
-  -- a detail of the farm gives CO2 alone
+  -- a detail of the farm gives none of a group's figures
   air-alone : sortOf (recordRow r) ≡ OfFarm → x .farm (detailOf (a .heading) r) ≡ 0
-  air-alone e = of-farm Nothing (a .heading) (recordRow r) (valuesOf r) e (x .air)
+  air-alone e = x .other _ (of-farm (a .heading) (recordRow r) (valuesOf r) e)
 
   abbrev Balanced : Sort → Type 0
   Balanced s =
@@ -372,7 +368,7 @@ ch4 =
       adds = λ f g. refl;
       groups = λ s f. refl;
       none = refl;
-      air = λ g. refl;
+      other = λ f n. n .ch4;
       ungrouped = λ s u. u .ch4;
     }
 
@@ -384,7 +380,7 @@ n2o =
       adds = λ f g. refl;
       groups = λ s f. refl;
       none = refl;
-      air = λ g. refl;
+      other = λ f n. n .n2o;
       ungrouped = λ s u. u .n2o;
     }
 
@@ -396,7 +392,7 @@ excreted =
       adds = λ f g. refl;
       groups = λ s f. refl;
       none = refl;
-      air = λ g. refl;
+      other = λ f n. n .excreted;
       ungrouped = λ s u. u .excreted;
     }
 
@@ -408,7 +404,7 @@ land =
       adds = λ f g. refl;
       groups = λ s f. refl;
       none = refl;
-      air = λ g. refl;
+      other = λ f n. n .land;
       ungrouped = λ s u. u .land;
     }
 

@@ -15,11 +15,10 @@ use Rattle.codec.specs.Table.{lengthOf}
 use Rattle.codec.specs.Codec.{valAt}
 use Rattle.account.specs.declared.Account.{Account}
 use Rattle.account.specs.Range.{AccountInRange}
-use Rattle.account.specs.declared.sort.Sort.the-variants.{Opens, Heads, OfGroup, OfFarm, Closes}
 use Rattle.account.specs.Sorts.{isFarm, sortOf, isOfGroup}
 use Rattle.account.specs.Account.{closed}
 use Rattle.account.specs.Judge.{versionOf, kindByte, recordRow, valuesOf, headingServes, inPlace, first, refusals, Step, accepted, judge}
-use Rattle.account.proofs.Sorts.{by-sort}
+use Rattle.account.proofs.Sorts.{by-sort, closes-eight}
 use Rattle.account.proofs.Refusals.{not-refused}
 use Rattle.account.proofs.Keeps.{in-range-judge}
 use Rattle.salvage.specs.declared.Reading.{Reading}
@@ -34,18 +33,6 @@ pub record Grown (a : Account) (k : ℕ) (j : Step) : Type 0 where
   pub refusal : j .account .refusal .code ≡ a .refusal .code
   pub records : j .account .records ≡ a .records + 1
   pub early : (k ≡ 8 → ⊥) → a .stage < 2 → j .account .stage < 2
-
--- only kind 8 closes
-closes-eight : (k : ℕ) → sortOf k ≡ Closes → k ≡ 8
-unfolding sortOf
-closes-eight k e = go (isFarm k) (eqb k 2) (eqb k 3 || (eqb k 4 || (eqb k 5 || eqb k 10))) (eqb k 8) refl e
-  where
-    go : (a b c d : Bool) → eqb k 8 ≡ d → pick a Opens (pick b Heads (pick c OfGroup (pick d Closes OfFarm))) ≡ Closes → k ≡ 8
-    go true b c d q e = let z : _≡_ {A = ℕ} 0 1 = cc in absurd (omega arith)
-    go false true c d q e = let z : _≡_ {A = ℕ} 0 1 = cc in absurd (omega arith)
-    go false false true d q e = let z : _≡_ {A = ℕ} 0 1 = cc in absurd (omega arith)
-    go false false false true q e = eqb-true _ _ q
-    go false false false false q e = let z : _≡_ {A = ℕ} 0 1 = cc in absurd (omega arith)
 
 grown : (a : Account) (k : ℕ) (v : List ℕ) → Grown a k (accepted a k v)
 unfolding accepted

@@ -12,22 +12,22 @@ use Rattle.codec.proofs.kinds.field_at.Tie as tie
 there : (c : tie.Else1) → c .before .before .args .i < length (fields (c .before .before .args .row))
 there c = omega (arith, c .if1 .left, c .before .values-of .ensures)
 
-inside : (c : tie.Else1) → getD (begins 0 table) (c .before .before .args .row) 0 + c .before .before .args .i < 48
-unfolding allFields table
+inside : (c : tie.Else1) → getD (begins 0 table) (c .before .before .args .row) 0 + c .before .before .args .i < length (allFields table)
+unfolding table
 inside c =
     let row = c .before .before .args .row in
     omega (arith, there c, ends-within table 0 row (omega (arith, c .before .before .pre)))
 
 add-f : tie.Need-add-f
-unfolding begins table
+unfolding begins allFields table
 add-f c = omega (arith, inside c)
 
 mul-f-2 : tie.Need-mul-f-2
-unfolding begins table
+unfolding begins allFields table
 mul-f-2 c = omega (arith, inside c)
 
 array-copy-out-f : tie.Need-array-copy-out-f
-unfolding begins table
+unfolding begins allFields table
 array-copy-out-f c = inside c
 
 returns-2 : tie.Need-returns-2
