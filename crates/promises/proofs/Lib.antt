@@ -16,7 +16,8 @@ pub mod Totals
 pub mod SoFar
 pub mod WholeLines
 pub mod SameLine
+pub mod PigNitrogen
+pub mod WholeNumbers
 pub mod Warming
 pub mod EachLine
 pub mod ThreeRules
-pub mod PigNitrogen

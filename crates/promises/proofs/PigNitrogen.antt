@@ -1,5 +1,5 @@
--- Document 02, W9, of a book: volatilised, leached and land nitrogen of an accepted pig record, each rounded for itself from the excreted grams, add up
--- to within 1 g of them.
+-- Document 02, W9, of a book: volatilised, leached and land nitrogen of an accepted pig record, each rounded for itself from the excreted grams, add
+-- up to within 1 g of them.
 -- Assumes nothing.
 use Prim.Native.Nat.{ℕ, _+_, _≤_}
 use mathlib.Core.Path.{_≡_, subst}
@@ -39,7 +39,7 @@ parts-of : (row : ℕ) (v : List ℕ) → row ≡ 5 → partsWrong row v ≡ fal
 parts-of row v e h = ltb-false _ _ (rw e at h)
 
 -- a record that is counted is not refused
-unrefused : (a : Account) (r : List ℕ) → judge a r .account .records ≡ a .records + 1 → first (refusals a r) ≡ 0
+pub unrefused : (a : Account) (r : List ℕ) → judge a r .account .records ≡ a .records + 1 → first (refusals a r) ≡ 0
 unfolding judge
 unrefused a r =
     of-choice (λ (j : Step). j .account .records ≡ a .records + 1 → first (refusals a r) ≡ 0) (eqb (first (refusals a r)) 0) (λ e n. eqb-true _ _ e)

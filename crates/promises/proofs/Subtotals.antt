@@ -110,7 +110,8 @@ module _ (a : Account) (r : List ℕ) (f : AccountInRange a) (kinds : isRow (rec
   detail-line : (g : ℕ) → g < 65536 → subtotalLines (lineWith (recordRow r) g (detailOf (a .heading) r) ∷ []) ≡ []
   detail-line g b =
       let most = row-most (recordRow r) kinds in
-      other-line (lineWith (recordRow r) g (detailOf (a .heading) r)) (recordRow r) (line-kind (recordRow r) _ _ (omega arith) b) (λ q. omega (arith, q, most))
+      other-line (lineWith (recordRow r) g (detailOf (a .heading) r)) (recordRow r) (line-kind (recordRow r) _ _ (omega arith) b)
+      (λ q. omega (arith, q, most))
 
   total-line : subtotalLines (totalOf a ∷ []) ≡ []
   total-line = other-line (totalOf a) 8 (ap (λ (m : Mark). m .kind) (total-mark _ _)) (λ q. omega (arith, q))
@@ -312,6 +313,12 @@ judged a r f =
     of-choice (λ (j : Step). Stopped a j ⊎ Made a r j) (eqb (first (refusals a r)) 0)
     (λ e. inr (made a r f (kind-in a r (eqb-true _ _ e))))
     (λ e. inl (record { stage = refl; counted = refl; sums = refl; none = refl }))
+
+-- the sums after a record that is counted
+pub sums-after : (a : Account) (r : List ℕ) → AccountInRange a → judge a r .account .records ≡ a .records + 1
+    → judge a r .account .sums ≡ farmAfter (a .heading) (a .sums) r
+sums-after a r f n =
+    ⊎-elim (λ (s : Stopped a (judge a r)). absurd (omega (arith, n, s .counted))) (λ (m : Made a r (judge a r)). m .sums) (judged a r f)
 
 summed-at : (a : Account) (xs : List ℕ) → AccountInRange a → a .stage < 2
     → ((t : Account) (zs : List ℕ) → length zs < length xs → AccountInRange t → Grows t zs (book t zs))

@@ -1,5 +1,6 @@
 -- The three rules of the farm book, each as one theorem. What a rule says stands in a record, clause by clause; the theorem gives the record for
--- every input. Definitions: book specs/State, Run, Call, Way; account specs/Judge, Line, Figures; promises specs/Headings, Endings, Subtotals.
+-- every input. Definitions: book specs/State, Run, Call, Way; account specs/Judge, Line, Figures; promises specs/Headings, Endings,
+-- Subtotals, WholeNumbers.
 -- Assumes nothing.
 use Prim.Native.Nat.{ℕ, _-_, _≤_, _<_}
 use mathlib.Core.Path.{_≡_, refl, sym, ap, _∙_}
@@ -11,6 +12,9 @@ use contract.Lifetimes.{Lfts}
 use borrow.Fn.Kinds.{Dens, endedOf}
 use denote.Ref.{now}
 use denote.Triple.Clauses.{AtExit}
+use lib.IntN.{_+ℤ_}
+use Rattle.grams.specs.Units.{co2Grams}
+use Rattle.account.specs.Account.{factorsOf}
 use Rattle.account.specs.Line.{lineOf, totalOf}
 use Rattle.account.specs.Judge.{recordRow, valuesOf}
 use Rattle.book.specs.declared.State.{State}
@@ -27,6 +31,7 @@ use Rattle.promises.specs.Subtotals.{groupsOf, farmOf, lineOfGroup, subt
 use Rattle.promises.specs.Taken.{takenBy}
 use Rattle.promises.specs.Totals.{lastOf}
 use Rattle.promises.specs.WholeLines.{isDetail, lastHeading, Among}
+use Rattle.promises.specs.WholeNumbers.{co2Sum, wholeCo2e, lastSigned}
 use Rattle.promises.proofs.Endings.{refusal-keeps}
 use Rattle.promises.proofs.RuleThree.{way-is-run, outside-ways}
 use Rattle.promises.proofs.SoFar.{call-so-far, way-headings}
@@ -35,6 +40,7 @@ use Rattle.promises.proofs.Subtotals.{subtotal-lines, sums-of-farm}
 use Rattle.promises.proofs.Taken.{taken-by-rule-two}
 use Rattle.promises.proofs.Totals.{ends-with-total}
 use Rattle.promises.proofs.WholeLines.{line-of-record}
+use Rattle.promises.proofs.WholeNumbers.{co2-in-whole-numbers, total-in-whole-numbers}
 
 -- ---- Rule 1
 
@@ -89,6 +95,14 @@ pub record RuleTwo (s : State) (xs : List ℕ) : Type 0 where
       ≡ map lineOfGroup (groupsOf (s .account .heading) (s .account .subtotal) (acceptedRecords s xs))
   pub sums : run s xs .state .account .sums ≡ farmOf (s .account .heading) (s .account .sums) (acceptedRecords s xs)
   pub total : s .account .stage < 2 → run s xs .state .account .stage ≡ 2 → lastOf (run s xs .lines) ≡ totalOf (run s xs .state .account)
+  -- in whole numbers: the sum of CO2, and CO2e in the last eight bytes of a closed book
+  pub co2 : co2Grams (run s xs .state .account .sums .co2)
+      ≡ co2Grams (s .account .sums .co2) +ℤ co2Sum (s .account .heading) (acceptedRecords s xs)
+  pub co2e : s .account .stage < 2 → run s xs .state .account .stage ≡ 2
+      → lastSigned (lastOf (run s xs .lines))
+      ≡ wholeCo2e (factorsOf (run s xs .state .account .farm))
+      (co2Grams (s .account .sums .co2) +ℤ co2Sum (s .account .heading) (acceptedRecords s xs))
+      (farmOf (s .account .heading) (s .account .sums) (acceptedRecords s xs))
   -- refused: by the first of the listed tests that refuses the record, or by its length, at the byte that decides
   pub refuses : s .account .stage < 2 → run s xs .state .account .stage ≡ 3 → EndsBy refusing s xs
 
@@ -99,6 +113,8 @@ rule-two s xs v =
       subtotals = subtotal-lines s xs v;
       sums = sums-of-farm s xs v;
       total = ends-with-total s xs v;
+      co2 = co2-in-whole-numbers s xs v;
+      co2e = total-in-whole-numbers s xs v;
       refuses = refusal-keeps s xs v;
     }
 

@@ -1,9 +1,11 @@
--- W11: the factors of a book are its farm record's; those of a set give what the set gives; the rules before refuse version 2.
+-- W11: the factors of a book are its farm record's; an old book gives its old total; the factors of a set give what the set gives; the rules before
+-- refuse version 2.
 -- Assumes nothing.
 use Prim.Native.Nat.{ℕ, zero, suc, _+_, _≤_}
 use mathlib.Core.Path.{_≡_, refl, sym, ap, _∙_}
 use mathlib.Core.List.{List, [], _++_}
-use mathlib.Core.Bool.{Bool, true, false, _||_}
+use mathlib.Core.Bool.{Bool, true, false}
+use mathlib.Core.Logic.{_⊎_, inl, inr, ⊎-elim}
 use native.Mathlib.Omega.{arith}
 use borrow.Author.Tests.{eqb-true}
 use lib.ListN.{length, getD, take, drop}
@@ -13,12 +15,14 @@ use Rattle.base.proofs.Tests.{of-choice, not-false}
 use Rattle.codec.specs.Table.{table, fields, size, lengthOf, lastRow}
 use Rattle.codec.specs.Codec.{valAt, be, bytesOf, firstBad, recordBytes}
 use Rattle.codec.proofs.Round.{record-length, record-back}
-use Rattle.grams.specs.Farm.{setFactors}
+use Rattle.grams.specs.Farm.{setFactors, co2eOf}
 use Rattle.grams.specs.declared.farm.Factors.{Factors}
 use Rattle.account.specs.declared.Account.{Account}
+use Rattle.account.specs.declared.Figures.{Figures}
 use Rattle.account.specs.declared.sort.Sort.the-variants as sort
 use Rattle.account.specs.Sorts.{isFarm, sortOf}
-use Rattle.account.specs.Account.{opened, refused, noRecord, farmOf, factorsOf}
+use Rattle.account.specs.Account.{opened, noRecord, farmFactors, farmOf, factorsOf}
+use Rattle.account.specs.Line.{totalWith}
 use Rattle.account.specs.Judge.{WholeRecord, versionOf, kindByte, recordRow, valuesOf, refusals, first, inPlace, Step}
 use Rattle.account.specs.Judge.{accepted, weigh, judge}
 use Rattle.account.specs.Told.{Kind}
@@ -28,8 +32,16 @@ use Rattle.account.proofs.Told.{right-length}
 use Rattle.book.specs.Front.{Front, unfinished, badLength, whole, need, front}
 use Rattle.book.specs.State.{noRecordYet}
 use Rattle.book.specs.Run.{Run, then, ended, byFront, bookBy, book, run}
-use Rattle.promises.specs.Warming.{refusalsBefore, bySet, byFactors}
+use Rattle.book.proofs.Runs.{book-ended}
+use Rattle.promises.specs.Headings.{acceptedRecords}
+use Rattle.promises.specs.Subtotals.{farm}
+use Rattle.promises.specs.WholeNumbers.{co2Sum, wholeCo2e}
+use Rattle.promises.specs.Warming.{refusalsBefore, setOf, OldTotal, bySet, byFactors}
 use Rattle.promises.proofs.SameLine.{book-record}
+use Rattle.promises.proofs.StaysInRange.{new-in-range}
+use Rattle.promises.proofs.Subtotals.{sums-of-farm}
+use Rattle.promises.proofs.Totals.{ends-with-total}
+use Rattle.promises.proofs.WholeNumbers.{book-in-whole-numbers}
 
 -- ---- the factors stay
 
@@ -73,43 +85,76 @@ book-keeps (suc n) a xs h =
     go true badLength ih = refl
     go true whole ih = ih
 
--- ---- a farm record of version 1
+-- ---- the farm record that opens the book
 
--- what it leaves where it opens the book
-Opens : List ℕ → Step → Type 0
-Opens v s = s .account .stage ≡ 1 → (factorsOf (s .account .farm) ≡ setFactors (getD v 2 0)) × (1 ≤ s .account .records)
+-- what it leaves
+Opens : ℕ → List ℕ → Step → Type 0
+Opens row v s = s .account .stage ≡ 1 → (factorsOf (s .account .farm) ≡ farmFactors row v) × (1 ≤ s .account .records)
 
-unopened : (v : List ℕ) (s : Step) → s .account .stage ≡ 3 → Opens v s
-unfolding Opens
-unopened v s e = λ o. absurd (omega arith)
+-- no other record brings a new book to stage 1
+record-opens : (r : List ℕ) → Opens (recordRow r) (valuesOf r) (judge noRecord r)
+unfolding judge accepted Opens
+record-opens r =
+    of-choice (Opens (recordRow r) (valuesOf r)) (eqb (first (refusals noRecord r)) 0)
+    (λ e. by-sort (Opens (recordRow r) (valuesOf r)) (sortOf (recordRow r)) (λ k o. (refl, omega arith)) (λ k o. absurd (omega (arith, o)))
+    (λ k o. absurd (omega (arith, o))) (λ k o. absurd (omega (arith, o))) (λ k o. absurd (omega (arith, o))))
+    (λ e o. absurd (omega (arith, o)))
 
-accepted-opens : (k : ℕ) (v : List ℕ) → k ≡ 1 → Opens v (accepted noRecord k v)
-unfolding accepted sortOf Opens
-accepted-opens k v e = rw e (λ o. (refl, omega arith))
-
-set-opens : (r : List ℕ) → recordRow r ≡ 1 → Opens (valuesOf r) (judge noRecord r)
-unfolding judge
-set-opens r k =
-    of-choice (Opens (valuesOf r)) (eqb (first (refusals noRecord r)) 0) (λ e. accepted-opens (recordRow r) (valuesOf r) k) (λ e. never e)
-  where
-    never : eqb (first (refusals noRecord r)) 0 ≡ false
-        → Opens (valuesOf r) (record {
-          account = refused noRecord (first (refusals noRecord r))
-              (pick (eqb (first (refusals noRecord r)) 7) (firstBad (fields (recordRow r)) (valuesOf r) 0) 0);
-          lines = [];
-        })
-    never e = unopened (valuesOf r) _ refl
-
--- A book whose farm record is of version 1 has the factors of its set at every point, and so the totals that it had.
-pub old-books : (r xs : List ℕ) → WholeRecord r → versionOf r ≡ 1 → kindByte r ≡ 1 → judge noRecord r .account .stage ≡ 1
-    → factorsOf (run noRecordYet (r ++ xs) .state .account .farm) ≡ setFactors (getD (valuesOf r) 2 0)
+-- The factors of a book, at every point, are those of the farm record that opens it: its set's, or its own.
+pub book-factors : (r xs : List ℕ) → WholeRecord r → judge noRecord r .account .stage ≡ 1
+    → factorsOf (run noRecordYet (r ++ xs) .state .account .farm) ≡ farmFactors (recordRow r) (valuesOf r)
 unfolding run book Opens
-old-books r xs w v k o =
-    let row : recordRow r ≡ 1 = rw (v, k) refl in
-    let first-one = set-opens r row o in
+book-factors r xs w o =
+    let first-one = record-opens r o in
     ap (λ (x : Run). factorsOf (x .state .account .farm)) (book-record noRecord r xs w (omega arith))
     ∙ ap factorsOf (book-keeps (suc (length xs)) (judge noRecord r .account) xs (first-one .1))
     ∙ first-one .0
+
+-- ---- old books
+
+-- a farm record opens a new book, or is refused
+opens-or-not : (r : List ℕ) → recordRow r ≡ 1 → (judge noRecord r .account .stage ≡ 1) ⊎ (judge noRecord r .account .stage ≡ 3)
+unfolding judge accepted sortOf
+opens-or-not r row =
+    of-choice (λ (s : Step). (s .account .stage ≡ 1) ⊎ (s .account .stage ≡ 3)) (eqb (first (refusals noRecord r)) 0) (λ e. rw row (inl refl))
+    (λ e. inr refl)
+
+-- in a closed book it has opened it
+has-opened : (r xs : List ℕ) → WholeRecord r → recordRow r ≡ 1 → run noRecordYet (r ++ xs) .state .account .stage ≡ 2
+    → judge noRecord r .account .stage ≡ 1
+unfolding run
+has-opened r xs w row q =
+    ⊎-elim (λ (o : judge noRecord r .account .stage ≡ 1). o)
+    (λ (o : judge noRecord r .account .stage ≡ 3).
+    let e : run noRecordYet (r ++ xs) .state .account .stage ≡ judge noRecord r .account .stage =
+    rw (book-record noRecord r xs w (omega arith), book-ended (judge noRecord r .account) xs (omega (arith, o))) refl in
+    absurd (omega (arith, e, o, q)))
+    (opens-or-not r row)
+
+-- the total line of some figures, by any factors
+abbrev totalBy : Factors → Figures → List ℕ
+totalBy w f = totalWith f (co2eOf w (f .co2) (f .ch4) (f .n2o) (f .grazing))
+
+-- A closed book whose farm record is of version 1 gives the total that it gave before, by the factors of its set.
+pub old-books : (r xs : List ℕ) → WholeRecord r → versionOf r ≡ 1 → kindByte r ≡ 1 → run noRecordYet (r ++ xs) .state .account .stage ≡ 2
+    → OldTotal (setOf r) (r ++ xs)
+old-books r xs w v k q =
+    let row : recordRow r ≡ 1 = rw (v, k) refl in
+    let b = run noRecordYet (r ++ xs) .state .account in
+    let own = book-factors r xs w (has-opened r xs w row q) in
+    let factors : factorsOf (b .farm) ≡ setFactors (setOf r) = own ∙ by-row (recordRow r) (valuesOf r) row in
+    record {
+      line =
+          ends-with-total noRecordYet (r ++ xs) new-in-range (omega arith) q
+          ∙ ap (totalBy (factorsOf (b .farm))) (sums-of-farm noRecordYet (r ++ xs) new-in-range)
+          ∙ ap (λ (f : Factors). totalBy f (farm (r ++ xs))) factors;
+      co2e =
+          book-in-whole-numbers (r ++ xs) q
+          ∙ ap (λ (f : Factors). wholeCo2e f (co2Sum (noRecord .heading) (acceptedRecords noRecordYet (r ++ xs))) (farm (r ++ xs))) factors;
+    }
+  where
+    by-row : (k : ℕ) (v : List ℕ) → k ≡ 1 → farmFactors k v ≡ setFactors (getD v 2 0)
+    by-row k v e = rw e refl
 
 -- ---- the same factors by version 2
 

@@ -11,4 +11,5 @@ pub mod WholeLines
 pub mod Answers
 pub mod Endings
 pub mod SameLine
+pub mod WholeNumbers
 pub mod Warming
