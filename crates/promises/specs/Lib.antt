@@ -5,6 +5,7 @@ pub mod Paper
 pub mod Rows
 pub mod EveryKind
 pub mod Limits
+pub mod StateLimits
 pub mod Halves
 pub mod Totals
 pub mod WholeLines

@@ -66,6 +66,10 @@ firstTold =
     -- each before the next, where a record breaks two
     rowAfter [] (0 ∷ 27 ∷ 2 ∷ []) (refused 0 1 0)
     ∷ rowAfter [] (0 ∷ 5 ∷ 1 ∷ 3 ∷ 0 ∷ 0 ∷ 0 ∷ []) (refused 0 4 0)
+    ∷ from 4096 (0 ∷ 5 ∷ 1 ∷ 7 ∷ 0 ∷ 0 ∷ 0 ∷ []) (refused 4096 4 0)
+    ∷ from 4096 (enteric 10) (refused 4096 5 0)
+    ∷ from 4096 (recordBytes 1 (7 ∷ 2010 ∷ 1 ∷ [])) (refused 4096 5 0)
+    ∷ from 4096 (recordBytes 7 (10000001 ∷ [])) (refused 4096 5 0)
     ∷ rowAfter farm (enteric 0) (refused 1 6 0)
     ∷ rowAfter farm (recordBytes 1 (7 ∷ 1899 ∷ 3 ∷ [])) (refused 1 6 0)
     ∷ rowAfter cow (recordBytes 2 (1 ∷ 5 ∷ 20001 ∷ [])) (refused 2 7 2)
