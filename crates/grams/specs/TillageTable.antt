@@ -1,6 +1,7 @@
 -- Source document 002, table A4-4, "lumCmax and k values for tillage practice change": the changes 1 to 3, the mirror rule for the changes
 -- 4 to 6 with its exceptions, and the whole table as printed. Assumes nothing.
 use Prim.Native.Nat.{ℕ, _+_, _-_, _*_, _≤_}
+use mathlib.Core.Path.{_≡_}
 use mathlib.Core.Bool.{Bool, false}
 use mathlib.Core.List.{List, [], _∷_}
 use lib.Dec.{eqb, ltb}
@@ -92,6 +93,15 @@ exception zone texture change is = record { zone = zone; texture = texture; chan
 -- Pacific Maritime, from no tillage to reduced tillage: medium and fine
 abbrev pub exceptions : List Exception
 exceptions = exception 8 2 5 (minus 1256 219) ∷ exception 8 3 5 (minus 441 310) ∷ []
+
+-- an exception says something else than the mirror rule
+abbrev pub Differs : Exception → Type 0
+Differs e = e .is ≡ mirrored (e .zone) (e .texture) (e .change) → ⊥
+
+-- so does each of these
+abbrev pub EachDiffers : List Exception → Type 0
+EachDiffers [] = Unit
+EachDiffers (e ∷ es) = Differs e × EachDiffers es
 
 -- the exception stands at this place
 abbrev pub stands : Exception → ℕ → ℕ → ℕ → Bool

@@ -11,7 +11,7 @@ step-most x (suc i) e h = step-most x i (scale - e * x / (10000 * suc i)) (sub-l
 
 exp-most : (x : ℕ) → expOf x ≤ scale
 unfolding expOf
-exp-most x = step-most x 20 scale (num _)
+exp-most x = step-most x _ scale (num _)
 
 pub rate-most : {lum : ℕ} → lum ≤ 1570 → (k y : ℕ) → rateOf lum k y ≤ 1570000
 unfolding rateOf

@@ -1,16 +1,16 @@
--- Laws of table A4-4, each a test over all its places that antt computes: the mirror rule and its exceptions give the print, how the code
--- finds a pair, its sign and its bounds. Assumes nothing.
-use mathlib.Core.Path.{_≡_, refl}
+-- Laws of table A4-4, most of them a test over all its places that antt computes: the mirror rule and its exceptions give the print, each exception
+-- differs from the mirror rule, how the code finds a pair, its sign and its bounds. Assumes nothing.
+use mathlib.Core.Path.{_≡_, refl, ap}
 use mathlib.Core.Logic.{_≢_}
 use mathlib.Core.Bool.{Bool, false}
 use Prim.Native.Nat.{ℕ, _+_, _-_, _*_, _%_, _<_, _≤_}
 use native.Mathlib.Omega.{arith}
 use lib.Dec.{T, eqb, leb, ltb, eqb→eq, leb→le}
 use lib.IntN.{ℤ, pos, negsuc, negℤ, natAbs}
-use borrow.Author.Tests.{eq-eqb, ne-eqb, lt-ltb, le-ltb}
+use borrow.Author.Tests.{eq-eqb, ne-eqb, eqb-false, lt-ltb, le-ltb}
 use Rattle.base.specs.Choice.{pick}
 use Rattle.grams.specs.declared.tillage_table.Entry.{Entry}
-use Rattle.grams.specs.TillageTable.{Pair, PlaceIn, lessTillage, lessOf, pairOf, printed, printedAt}
+use Rattle.grams.specs.TillageTable.{Pair, PlaceIn, lessTillage, lessOf, EachDiffers, exceptions, pairOf, printed, printedAt}
 use Rattle.grams.specs.Tillage.{entryOf}
 use Rattle.grams.proofs.Places.{both, left, right, every, every-place, at-place}
 
@@ -52,6 +52,16 @@ all-printed = tt
 pub as-printed : (zone texture change : ℕ) → PlaceIn zone texture change → pairOf zone texture change ≡ printedAt zone texture change
 unfolding at-print
 as-printed zone texture change i = same-is _ _ (at-place at-print all-printed zone texture change i)
+
+-- ---- the exceptions
+
+-- Each exception that is listed differs from the mirror rule: here by its k.
+pub exceptions-differ : EachDiffers exceptions
+unfolding lessOf lessTillage
+exceptions-differ = ((λ e. other-k 219 131 refl (ap (λ (p : Pair). p .k) e)), ((λ e. other-k 310 106 refl (ap (λ (p : Pair). p .k) e)), tt))
+  where
+    other-k : (a b : ℕ) → eqb a b ≡ false → a ≡ b → ⊥
+    other-k a b n = eqb-false a b n
 
 -- ---- as the code finds it
 

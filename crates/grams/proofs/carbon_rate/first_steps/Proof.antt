@@ -9,10 +9,14 @@ use Rattle.grams.proofs.carbon_rate.first_steps.Statement.{statement}
 use Rattle.grams.proofs.carbon_rate.first_steps.Tie as tie
 
 abbrev Inv-loop : tie.InvT-loop
-Inv-loop x e₀ i₀ e i = (4 ≤ i) × (i ≤ 20) × (e ≤ scale) × (steps x i e ≡ steps x 20 scale)
+Inv-loop x e₀ i₀ e i = (4 ≤ i) × (i ≤ 20) × (e ≤ scale) × (steps x i e ≡ expOf x)
 
 abbrev μ-loop : tie.MeasureT-loop
 μ-loop x e₀ i₀ e i = i
+
+holds : tie.Need-loop-holds Inv-loop μ-loop
+unfolding expOf
+holds c = (omega arith, omega arith, omega arith, refl)
 
 again : tie.Need-loop-again Inv-loop μ-loop
 again c =
@@ -21,7 +25,6 @@ again c =
     (omega arith, omega arith, omega arith, sym (turn x (l .i) (l .e) (omega arith)) ∙ l .inv .3)
 
 returns : tie.Need-returns Inv-loop μ-loop
-unfolding expOf
 returns c =
     let l = c .before .loop in
     let done : l .i ≡ 4 = omega arith in
@@ -33,7 +36,7 @@ first-steps-spec =
     (tie.spec
     Inv-loop
     μ-loop
-    (λ c. (omega arith, omega arith, omega arith, refl))
+    holds
     (λ c. fits (c .before .loop .inv .2 ⊗ c .before .before .pre) tt)
     (λ c. omega arith)
     (λ c. omega arith)
