@@ -6,7 +6,8 @@ use native.Mathlib.Nat.{le-refl, le-trans, sub-le, add-le-add, mul-le-mul, lt-of
 use mir.Val.{Fits}
 use mir.Syntax.{w64}
 use lib.Dec.{T, leb, ltb, lit<, lit≤}
-use Rattle.grams.specs.Round.{roundDiv, round-le}
+use Rattle.grams.specs.Round.{roundDiv}
+use Rattle.grams.proofs.Round.{round-le}
 use Rattle.grams.specs.Figure.{Figure, Gas, Carbon, Pasture}
 use Rattle.grams.specs.Units.{Co2Within}
 use Rattle.grams.specs.declared.units.Co2.{Co2}

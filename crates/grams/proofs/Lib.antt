@@ -1,3 +1,4 @@
+pub mod Round
 pub mod Bounds
 pub mod Places
 pub mod Cases

@@ -3,7 +3,8 @@
 use Prim.Native.Nat.{ℕ, _+_, _-_, _*_, _<_, _≤_}
 use mathlib.Core.Path.{_≡_}
 use native.Mathlib.Omega.{arith}
-use Rattle.grams.specs.Round.{roundDiv, half-low, half-high}
+use Rattle.grams.specs.Round.{roundDiv}
+use Rattle.grams.proofs.Round.{half-low, half-high}
 use Rattle.grams.specs.Pig.{PigIn, AddUp, manureOf}
 use Rattle.grams.specs.declared.pig.PigRation.{PigRation}
 

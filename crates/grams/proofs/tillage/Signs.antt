@@ -5,7 +5,8 @@ use native.Mathlib.Nat.{zero-mul}
 use native.Mathlib.Omega.{arith}
 use lib.IntN.{ℤ, pos, negsuc, negℤ, natAbs}
 use Rattle.base.proofs.Signed.{abs-negated}
-use Rattle.grams.specs.Round.{roundDiv, round-le}
+use Rattle.grams.specs.Round.{roundDiv}
+use Rattle.grams.proofs.Round.{round-le}
 use Rattle.grams.specs.CarbonRate.{expOf, rateOf, withSign, mgOf}
 use Rattle.grams.specs.Tillage.{co2Of}
 

@@ -4,7 +4,8 @@ use native.Mathlib.Omega.{arith}
 use mathlib.Core.Path.{_≡_, ap, _∙_}
 use Prim.Native.Nat.{ℕ, _*_}
 use lib.Dec.{lit<}
-use Rattle.grams.specs.Round.{roundDiv, round-scale}
+use Rattle.grams.specs.Round.{roundDiv}
+use Rattle.grams.proofs.Round.{round-scale}
 use Rattle.grams.specs.Units.{gramsN2o, partsN2oN, asN2o}
 use Rattle.grams.specs.Pig.{directOf}
 use Rattle.grams.proofs.Bounds.{_⊗_, num, fits, gas}

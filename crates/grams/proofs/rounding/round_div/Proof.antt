@@ -9,7 +9,8 @@ use mathlib.Core.Path.{_≡_, refl}
 use Prim.Native.Nat.{ℕ, _+_, _*_, _/_, _%_, _<_, _≤_}
 use lib.Dec.{eqb}
 use Rattle.base.specs.Choice.{pick}
-use Rattle.grams.specs.Round.{Rounded, rounded-is}
+use Rattle.grams.specs.Round.{Rounded}
+use Rattle.grams.proofs.Round.{rounded-is}
 use Rattle.grams.proofs.rounding.round_div.Statement.{statement}
 use Rattle.grams.proofs.rounding.round_div.Tie as tie
 
