@@ -17,3 +17,4 @@ pub mod Details
 pub mod EachFigure
 pub mod Keeps
 pub mod Counts
+pub mod OneAnswer

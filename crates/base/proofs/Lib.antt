@@ -1,3 +1,4 @@
+pub mod OneAnswer
 pub mod Signed
 pub mod Slices
 pub mod Tests

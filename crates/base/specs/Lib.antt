@@ -1,2 +1,3 @@
 pub mod Choice
 pub mod Signed
+pub mod Answers

@@ -12,3 +12,4 @@ pub mod OneTurn
 pub mod RunLeaves
 pub mod NextRecords
 pub mod Walks
+pub mod OneAnswer

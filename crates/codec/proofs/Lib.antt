@@ -8,4 +8,5 @@ pub mod Columns
 pub mod FieldByField
 pub mod EachKind
 pub mod Round
+pub mod OneAnswer
 pub mod Sample

@@ -1,4 +1,5 @@
 pub mod Rows
 pub mod Laid
 pub mod AnyLine
+pub mod OneAnswer
 pub mod Sample

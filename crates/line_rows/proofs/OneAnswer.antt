@@ -1,13 +1,7 @@
--- One answer: two answers that meet the contract of a public function are equal, and so is the buffer at the end where one is lent. The contracts
--- are those of the source itself: Learnt is what a caller learns from a function's `ensures`.
--- Assumes nothing.
-use Prim.Native.Nat.{ℕ}
-use mathlib.Core.Path.{_≡_, sym, _∙_}
-use mathlib.Core.Bool.{Bool}
-use contract.Lifetimes.{Lfts}
-use borrow.Fn.Kinds.{Dens, endedOf}
+-- One answer of each public function, with the buffer at the end where one is lent (base, specs/Answers). Assumes nothing.
+use mathlib.Core.Path.{sym, _∙_}
 use denote.Ref.{now}
-use denote.Triple.Clauses.{AtExit}
+use Rattle.base.specs.Answers.{AsksNothing, OneAnswer, OneAnswerWith}
 use Rattle.printing.proofs.Examples.{one-put}
 use Rattle.line_rows.proofs.is_signed.Kinds as sign
 use Rattle.line_rows.proofs.is_signed.Reads as sign-contract
@@ -18,22 +12,21 @@ use Rattle.line_rows.proofs.put_lines.Reads as lines-contract
 use Rattle.line_rows.proofs.put_header.Kinds as head
 use Rattle.line_rows.proofs.put_header.Reads as head-contract
 
+pub is-signed-asks-nothing : AsksNothing sign.ps sign-contract.Asked
+is-signed-asks-nothing κs args = tt
+
 -- Whether a column is signed.
-pub one-is-signed : (κs : Lfts 0) (args : Dens κs sign.ps) (f g : Bool) (e e′ : AtExit (endedOf 0 sign.ps sign.r) κs)
-    → sign-contract.Learnt κs args f e → sign-contract.Learnt κs args g e′ → f ≡ g
+pub one-is-signed : OneAnswer sign.ps sign.r sign-contract.Learnt
 one-is-signed κs args f g e e′ p q = p ∙ sym q
 
 -- A line's row: the index past it, and the buffer at the end.
-pub one-put-line : (κs : Lfts 2) (args : Dens κs line.ps) (f g : ℕ) (e e′ : AtExit (endedOf 2 line.ps line.r) κs)
-    → line-contract.Learnt κs args f e → line-contract.Learnt κs args g e′ → (f ≡ g) × (now (e .0) ≡ now (e′ .0))
+pub one-put-line : OneAnswerWith line.ps line.r line-contract.Learnt (λ κs e. now (e .0))
 one-put-line κs args f g e e′ p q = one-put (p .0) (q .0)
 
 -- The rows of lines: their bytes, and the buffer at the end.
-pub one-put-lines : (κs : Lfts 2) (args : Dens κs lines.ps) (f g : ℕ) (e e′ : AtExit (endedOf 2 lines.ps lines.r) κs)
-    → lines-contract.Learnt κs args f e → lines-contract.Learnt κs args g e′ → (f ≡ g) × (now (e .0) ≡ now (e′ .0))
+pub one-put-lines : OneAnswerWith lines.ps lines.r lines-contract.Learnt (λ κs e. now (e .0))
 one-put-lines κs args f g e e′ p q = one-put p q
 
 -- What stands before them.
-pub one-put-header : (κs : Lfts 1) (args : Dens κs head.ps) (f g : ℕ) (e e′ : AtExit (endedOf 1 head.ps head.r) κs)
-    → head-contract.Learnt κs args f e → head-contract.Learnt κs args g e′ → (f ≡ g) × (now (e .0) ≡ now (e′ .0))
+pub one-put-header : OneAnswerWith head.ps head.r head-contract.Learnt (λ κs e. now (e .0))
 one-put-header κs args f g e e′ p q = one-put p q

@@ -1,41 +1,34 @@
--- Hints: one answer, worked inputs, and that the first 13 bytes of an input are enough. The contracts are those of the source itself: Learnt is what
--- a caller learns from a function's `ensures`, Asked what its `requires` ask.
--- Assumes nothing.
+-- Hints: one answer (base, specs/Answers), worked inputs, and that the first 13 bytes of an input are enough. Assumes nothing.
 use Prim.Native.Nat.{ℕ, zero, suc, _≤_, _<_}
 use mathlib.Core.Path.{_≡_, refl, sym, _∙_}
 use mathlib.Core.List.{List, [], _∷_}
 use mathlib.Core.Bool.{false}
-use contract.Lifetimes.{Lfts}
-use borrow.Fn.Kinds.{Dens, endedOf}
 use denote.Ref.{now}
-use denote.Triple.Clauses.{AtExit}
 use native.Mathlib.Omega.{arith}
 use borrow.Author.Tests.{ne-eqb}
 use lib.Dec.{eqb}
 use lib.ListN.{length, take}
 use lib.Seq.{take-take}
+use Rattle.base.specs.Answers.{AsksNothing, OneAnswer, OneAnswerWith}
 use Rattle.printing.specs.Ascii.{ascii}
 use Rattle.printing.proofs.Examples.{one-put}
 use Rattle.typed_words.specs.Words.{sameText}
-use Rattle.names.specs.declared.hints.Given.{Given}
 use Rattle.names.specs.declared.hints.Given.the-variants.{Book, Nothing, Typed, Sheet}
-use Rattle.names.specs.Hints.{columns, looksLike}
+use Rattle.names.specs.Hints.{looksLike}
 use Rattle.names.proofs.hints.look.Kinds as look
 use Rattle.names.proofs.hints.look.Reads as look-contract
 use Rattle.names.proofs.hints.say_hint.Kinds as hint
 use Rattle.names.proofs.hints.say_hint.Reads as hint-contract
 
-pub look-asks-nothing : (κs : Lfts 1) (args : Dens κs look.ps) → look-contract.Asked κs args
+pub look-asks-nothing : AsksNothing look.ps look-contract.Asked
 look-asks-nothing κs args = tt
 
 -- What an input looks like.
-pub one-look : (κs : Lfts 1) (args : Dens κs look.ps) (f g : Given) (e e′ : AtExit (endedOf 1 look.ps look.r) κs)
-    → look-contract.Learnt κs args f e → look-contract.Learnt κs args g e′ → f ≡ g
+pub one-look : OneAnswer look.ps look.r look-contract.Learnt
 one-look κs args f g e e′ p q = p ∙ sym q
 
 -- The hint: its end, and the buffer at the end.
-pub one-say-hint : (κs : Lfts 1) (args : Dens κs hint.ps) (f g : ℕ) (e e′ : AtExit (endedOf 1 hint.ps hint.r) κs)
-    → hint-contract.Learnt κs args f e → hint-contract.Learnt κs args g e′ → (f ≡ g) × (now (e .0) ≡ now (e′ .0))
+pub one-say-hint : OneAnswerWith hint.ps hint.r hint-contract.Learnt (λ κs e. now (e .0))
 one-say-hint κs args f g e e′ p q = one-put (p .put) (q .put)
 
 some : (xs : List ℕ) → 0 < length xs → eqb (length xs) 0 ≡ false

@@ -1,13 +1,7 @@
--- One answer: two answers that meet the contract of a public function are equal: the index past the text, and the buffer at the end (the first
--- parameter, out). Each asks its caller for room: the functions named put for all of the text, those named say for where it begins. The contracts
--- are those of the source itself: Learnt is what a caller learns from a function's `ensures`, Asked what its `requires` ask.
--- Assumes nothing.
-use Prim.Native.Nat.{ℕ}
-use mathlib.Core.Path.{_≡_}
-use contract.Lifetimes.{Lfts}
-use borrow.Fn.Kinds.{Dens, endedOf}
+-- One answer of each public function (base, specs/Answers): the index past the text, and the buffer at the end (the first parameter, out). Each asks
+-- its caller for room: the functions named put for all of the text, those named say for where it begins. Assumes nothing.
 use denote.Ref.{now}
-use denote.Triple.Clauses.{AtExit}
+use Rattle.base.specs.Answers.{OneAnswerWith}
 use Rattle.printing.proofs.Examples.{one-put}
 use Rattle.printing.proofs.put_byte.Kinds as byte
 use Rattle.printing.proofs.put_byte.Reads as byte-contract
@@ -31,51 +25,41 @@ use Rattle.printing.proofs.say_pointed.Kinds as shown
 use Rattle.printing.proofs.say_pointed.Reads as shown-contract
 
 -- A byte.
-pub one-put-byte : (κs : Lfts 1) (args : Dens κs byte.ps) (f g : ℕ) (e e′ : AtExit (endedOf 1 byte.ps byte.r) κs)
-    → byte-contract.Learnt κs args f e → byte-contract.Learnt κs args g e′ → (f ≡ g) × (now (e .0) ≡ now (e′ .0))
+pub one-put-byte : OneAnswerWith byte.ps byte.r byte-contract.Learnt (λ κs e. now (e .0))
 one-put-byte κs args f g e e′ p q = one-put p q
 
 -- A number.
-pub one-put-decimal : (κs : Lfts 1) (args : Dens κs number.ps) (f g : ℕ) (e e′ : AtExit (endedOf 1 number.ps number.r) κs)
-    → number-contract.Learnt κs args f e → number-contract.Learnt κs args g e′ → (f ≡ g) × (now (e .0) ≡ now (e′ .0))
+pub one-put-decimal : OneAnswerWith number.ps number.r number-contract.Learnt (λ κs e. now (e .0))
 one-put-decimal κs args f g e e′ p q = one-put (p .0) (q .0)
 
 -- A signed number.
-pub one-put-signed : (κs : Lfts 1) (args : Dens κs signed.ps) (f g : ℕ) (e e′ : AtExit (endedOf 1 signed.ps signed.r) κs)
-    → signed-contract.Learnt κs args f e → signed-contract.Learnt κs args g e′ → (f ≡ g) × (now (e .0) ≡ now (e′ .0))
+pub one-put-signed : OneAnswerWith signed.ps signed.r signed-contract.Learnt (λ κs e. now (e .0))
 one-put-signed κs args f g e e′ p q = one-put (p .0) (q .0)
 
 -- A line of numbers.
-pub one-put-numbers : (κs : Lfts 2) (args : Dens κs numbers.ps) (f g : ℕ) (e e′ : AtExit (endedOf 2 numbers.ps numbers.r) κs)
-    → numbers-contract.Learnt κs args f e → numbers-contract.Learnt κs args g e′ → (f ≡ g) × (now (e .0) ≡ now (e′ .0))
+pub one-put-numbers : OneAnswerWith numbers.ps numbers.r numbers-contract.Learnt (λ κs e. now (e .0))
 one-put-numbers κs args f g e e′ p q = one-put (p .0) (q .0)
 
 -- Thousandths.
-pub one-put-thousandths : (κs : Lfts 1) (args : Dens κs thousandths.ps) (f g : ℕ) (e e′ : AtExit (endedOf 1 thousandths.ps thousandths.r) κs)
-    → thousandths-contract.Learnt κs args f e → thousandths-contract.Learnt κs args g e′ → (f ≡ g) × (now (e .0) ≡ now (e′ .0))
+pub one-put-thousandths : OneAnswerWith thousandths.ps thousandths.r thousandths-contract.Learnt (λ κs e. now (e .0))
 one-put-thousandths κs args f g e e′ p q = one-put (p .0) (q .0)
 
 -- A text.
-pub one-put-text : (κs : Lfts 2) (args : Dens κs text.ps) (f g : ℕ) (e e′ : AtExit (endedOf 2 text.ps text.r) κs)
-    → text-contract.Learnt κs args f e → text-contract.Learnt κs args g e′ → (f ≡ g) × (now (e .0) ≡ now (e′ .0))
+pub one-put-text : OneAnswerWith text.ps text.r text-contract.Learnt (λ κs e. now (e .0))
 one-put-text κs args f g e e′ p q = one-put p q
 
 -- A text, as far as there is room.
-pub one-say : (κs : Lfts 2) (args : Dens κs said.ps) (f g : ℕ) (e e′ : AtExit (endedOf 2 said.ps said.r) κs)
-    → said-contract.Learnt κs args f e → said-contract.Learnt κs args g e′ → (f ≡ g) × (now (e .0) ≡ now (e′ .0))
+pub one-say : OneAnswerWith said.ps said.r said-contract.Learnt (λ κs e. now (e .0))
 one-say κs args f g e e′ p q = one-put (p .put) (q .put)
 
 -- A number, as far as there is room.
-pub one-say-number : (κs : Lfts 1) (args : Dens κs told.ps) (f g : ℕ) (e e′ : AtExit (endedOf 1 told.ps told.r) κs)
-    → told-contract.Learnt κs args f e → told-contract.Learnt κs args g e′ → (f ≡ g) × (now (e .0) ≡ now (e′ .0))
+pub one-say-number : OneAnswerWith told.ps told.r told-contract.Learnt (λ κs e. now (e .0))
 one-say-number κs args f g e e′ p q = one-put (p .put) (q .put)
 
 -- A number with decimals.
-pub one-put-pointed : (κs : Lfts 1) (args : Dens κs pointed.ps) (f g : ℕ) (e e′ : AtExit (endedOf 1 pointed.ps pointed.r) κs)
-    → pointed-contract.Learnt κs args f e → pointed-contract.Learnt κs args g e′ → (f ≡ g) × (now (e .0) ≡ now (e′ .0))
+pub one-put-pointed : OneAnswerWith pointed.ps pointed.r pointed-contract.Learnt (λ κs e. now (e .0))
 one-put-pointed κs args f g e e′ p q = one-put (p .0) (q .0)
 
 -- A number with decimals, as far as there is room.
-pub one-say-pointed : (κs : Lfts 1) (args : Dens κs shown.ps) (f g : ℕ) (e e′ : AtExit (endedOf 1 shown.ps shown.r) κs)
-    → shown-contract.Learnt κs args f e → shown-contract.Learnt κs args g e′ → (f ≡ g) × (now (e .0) ≡ now (e′ .0))
+pub one-say-pointed : OneAnswerWith shown.ps shown.r shown-contract.Learnt (λ κs e. now (e .0))
 one-say-pointed κs args f g e e′ p q = one-put (p .put) (q .put)

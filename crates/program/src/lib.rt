@@ -1,8 +1,10 @@
 // What programs share: text out, the status byte, and input read in parts or as a whole.
 use libc::STDERR_FILENO;
 use libc::STDOUT_FILENO;
+ghost use mathlib.Core.Path.{_≡_};
 ghost use Prim.Native.Nat.{_-_, _≤_};
 ghost use Rattle.io.specs.Counts.{Counts};
+ghost use Rattle.program.specs.Beginning.{unread};
 
 // Where a caller that gives an argument, the word `status`, wants the status byte.
 pub const STATUS_FILENO: i32 = 3;
@@ -22,7 +24,9 @@ pub struct Reading {
 
 impl Reading {
     // A proved loop has to end, and nothing says that an input does: the turns count down from a number that no run uses up.
-    pub fn new() -> Reading {
+    pub fn new() -> Reading
+        ensures { λ r. ⌜ r ≡ unread ⌝ }
+    {
         Reading {
             len: 0,
             good: true,

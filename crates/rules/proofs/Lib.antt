@@ -1,3 +1,4 @@
 pub mod ByKind
 pub mod ByVersion
 mod Places
+pub mod OneAnswer

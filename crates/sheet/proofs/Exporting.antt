@@ -17,10 +17,10 @@ use Rattle.line_rows.specs.declared.Form.the-variants.{Sheet}
 use Rattle.line_rows.specs.Rows.{lineRow, header}
 use Rattle.line_rows.proofs.Texts.{size-least}
 use Rattle.sheet.specs.Sheets.{Item, item, wrong, Made, made, refused, before, each, lineItem, noRow, rowsOf, exportOf, answer}
-use Rattle.sheet.specs.Code.{totalOf, answerAfter, madeOf}
+use Rattle.sheet.specs.Code.{totalOf, moreBytes, answerAfter, madeOf}
 use Rattle.sheet.proofs.Runs.{not-made}
 use Rattle.sheet.proofs.RoundTrip.{other, is-line}
-use Rattle.sheet.proofs.Plans.{sized, Planned, plan-wrong, plan-more, Promised}
+use Rattle.sheet.proofs.Plans.{total-more, sized, Planned, plan-wrong, plan-more, Promised}
 use Rattle.sheet.proofs.Writing.{Run, writes-all}
 
 -- ---- one line
@@ -99,13 +99,14 @@ module _ (lines : List ℕ) (i : ℕ) {whole : Answer} {room : ℕ} {total : Tot
   going-wrong s e f = plan-wrong (g .plan) 23 some (rw (← e) (no-line s f))
 
   pub going-on : (s : List ℕ) (n size : ℕ) (t : Total) → s ≡ drop i lines → isLine s ≡ true → n ≡ frontSize s → size ≡ length (lineRow Sheet s)
-      → ((k : ℕ) → total ≡ totalOf room k → t ≡ totalOf room (k + size)) → Going whole room t (drop (i + n) lines)
+      → t ≡ moreBytes total size room → Going whole room t (drop (i + n) lines)
   going-on s n size t e l o z add =
       let p = g .plan in
       let ahead = line-ahead lines i s n e l o (omega arith) in
       let fewer : length (drop (i + n) lines) < length (drop i lines) = omega
       (arith, length-drop i lines, length-drop (i + n) lines, line-more lines i s n e l o) in
-      let sum : t ≡ totalOf room (p .sum + length (lineRow Sheet s)) = add (p .sum) (p .holds) ∙ ap (λ (m : ℕ). totalOf room (p .sum + m)) z in
+      let sum : t ≡ totalOf room (p .sum + length (lineRow Sheet s)) =
+      add ∙ total-more total room (p .sum) (p .holds) size ∙ ap (λ (m : ℕ). totalOf room (p .sum + m)) z in
       record {
         row = g .row + 1;
         plan = plan-more p (lineRow Sheet s) (drop (i + n) lines) t (g .row + 1) some

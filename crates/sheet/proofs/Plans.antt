@@ -18,7 +18,7 @@ use Rattle.sheet.specs.declared.Answer.the-variants.{Written, Refused}
 use Rattle.sheet.specs.declared.lines.Total.{Total}
 use Rattle.sheet.specs.Rows.{startsWith}
 use Rattle.sheet.specs.Sheets.{Item, item, wrong, Made, made, refused, before, goesOn, eachBy, each, rowItem, importOf, answer, buffer}
-use Rattle.sheet.specs.Code.{totalOf, madeOf}
+use Rattle.sheet.specs.Code.{totalOf, moreBytes, madeOf}
 use Rattle.base.proofs.Tests.{of-choice, by-test}
 use Rattle.sheet.proofs.Cells.{starts-text}
 use Rattle.sheet.proofs.Runs.{each-some}
@@ -43,6 +43,13 @@ module _ (t : Total) (room k : ℕ) (e : t ≡ totalOf room k) where
 
   pub total-sum : t .over ≡ false → t .sum ≡ k
   total-sum o = ap (λ (x : Total). x .sum) e ∙ rw (sym over-is ∙ o)
+
+  pub total-more : (size : ℕ) → moreBytes t size room ≡ totalOf room (k + size)
+  total-more size = go (t .over) refl
+    where
+      go : (b : Bool) → t .over ≡ b → pick b (record { over = true; sum = 0 }) (totalOf room (t .sum + size)) ≡ totalOf room (k + size)
+      go true o = over-all room (k + size) (omega (arith, total-over o))
+      go false o = ap (λ (n : ℕ). totalOf room (n + size)) (total-sum o)
 
 -- ---- the answer
 

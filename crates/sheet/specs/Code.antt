@@ -50,6 +50,10 @@ pub record IsRow (text : List ℕ) (kind : ℕ) (k : Row) (r : RowRead) : Type 0
 abbrev pub totalOf : ℕ → ℕ → Total
 totalOf room k = record { over = ltb room k; sum = pick (ltb room k) 0 k }
 
+-- a count with so many bytes more: one that is past the room stays so
+abbrev pub moreBytes : Total → ℕ → ℕ → Total
+moreBytes t size room = pick (t .over) (record { over = true; sum = 0 }) (totalOf room (t .sum + size))
+
 -- the answer where k bytes come before what is made
 abbrev pub answerAfter : ℕ → Made → ℕ → Answer
 answerAfter k (made t) room = pick (leb (k + length t) room) (Written (k + length t)) (Refused 16 0)

@@ -8,13 +8,13 @@ use line_rows::ROW_MOST;
 use printing::put_text;
 ghost use mathlib.Core.Path.{_≡_};
 ghost use mathlib.Core.Bool.{true};
-ghost use Prim.Native.Nat.{ℕ, _+_, _≤_};
+ghost use Prim.Native.Nat.{_+_, _≤_};
 ghost use lib.ListN.{length};
 ghost use Rattle.line_bytes.specs.Lines.{numbersBytes, isLine};
 ghost use Rattle.line_rows.specs.declared.Form.the-variants.{Sheet};
 ghost use Rattle.line_rows.specs.Rows.{lineRow};
 ghost use Rattle.printing.specs.Decimal.{Put};
-ghost use Rattle.sheet.specs.Code.{totalOf};
+ghost use Rattle.sheet.specs.Code.{moreBytes};
 
 // A count of bytes up to some room, or past it.
 pub struct Total {
@@ -22,8 +22,9 @@ pub struct Total {
     pub sum: usize,
 }
 
+// A count with so many bytes more.
 pub fn add(t: Total, size: usize, room: usize) -> Total
-    ensures { λ r. ⌜ ((k : ℕ) → t ≡ totalOf room k → r ≡ totalOf room (k + size)) ⌝ }
+    ensures { λ r. ⌜ r ≡ moreBytes t size room ⌝ }
 {
     if t.over {
         return Total { over: true, sum: 0 };

@@ -1,13 +1,9 @@
--- One answer of grazing: two answers that meet its contract are equal. Assumes nothing.
-use mathlib.Core.Path.{_≡_, sym, _∙_}
-use contract.Lifetimes.{Lfts}
-use borrow.Fn.Kinds.{Dens, endedOf}
-use denote.Triple.Clauses.{AtExit}
-use Rattle.grams.specs.declared.units.Grazed.{Grazed}
+-- One answer of grazing: two answers that meet its contract are equal (base, specs/Answers). Assumes nothing.
+use mathlib.Core.Path.{sym, _∙_}
+use Rattle.base.specs.Answers.{OneAnswer}
 use Rattle.grams.proofs.grazing.grazing.Kinds as grass
 use Rattle.grams.proofs.grazing.grazing.Reads as grass-contract
 
 -- Grazing.
-pub one-grazing : (κs : Lfts 0) (args : Dens κs grass.ps) (f g : Grazed) (e e′ : AtExit (endedOf 0 grass.ps grass.r) κs)
-    → grass-contract.Learnt κs args f e → grass-contract.Learnt κs args g e′ → f ≡ g
+pub one-grazing : OneAnswer grass.ps grass.r grass-contract.Learnt
 one-grazing κs args f g e e′ p q = p .exact ∙ sym (q .exact)

@@ -7,7 +7,7 @@ use native.Mathlib.Nat.{zero-add}
 use Rattle.printing.proofs.Puts.{put-length}
 use Rattle.sheet.specs.Sheets.{rowsOf, exportOf, answer}
 use Rattle.sheet.specs.Code.{answerAfter}
-use Rattle.sheet.proofs.Plans.{in-room, Promised, promised, kept, put-answer, put-buffer}
+use Rattle.sheet.proofs.Plans.{in-room, total-more, Promised, promised, kept, put-answer, put-buffer}
 use Rattle.sheet.proofs.Exporting.{after-header, rows-all, rows-fit, sheet-put}
 use borrow.Author.Needs.{needs}
 use Rattle.sheet.proofs.export.Statement.{statement}
@@ -20,7 +20,7 @@ planned c =
     let a = c .before .before .before .before .before .args in
     let size = c .before .before .header-size in
     let room = length (a .text .now) in
-    c .plan-lines .ensures (0 + size .result) (c .before .add .ensures 0 (in-room room 0 0 (omega arith) refl))
+    c .plan-lines .ensures (0 + size .result) (c .before .add .ensures ∙ total-more _ room 0 (in-room room 0 0 (omega arith) refl) _)
     ∙ ap (λ (n : ℕ). answerAfter n (rowsOf (a .lines .now)) room) (zero-add (size .result) ∙ size .ensures) ∙ after-header (a .lines .now) room
 
 refused : tie.Need-returns

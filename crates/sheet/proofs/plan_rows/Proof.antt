@@ -4,7 +4,7 @@ use native.Mathlib.Omega.{arith}
 use lib.ListN.{length, drop, length-drop, drop-of-length-le}
 use Rattle.sheet.specs.Sheets.{each, rowItem, answer}
 use Rattle.sheet.specs.Code.{totalOf}
-use Rattle.sheet.proofs.Plans.{Planned, in-room, sized-plain, plan-wrong, plan-more, plan-over, plan-written}
+use Rattle.sheet.proofs.Plans.{Planned, in-room, total-more, sized-plain, plan-wrong, plan-more, plan-over, plan-written}
 use Rattle.sheet.proofs.Items.{line-length, row-form, row-field, row-right, row-shorter}
 use borrow.Author.Needs.{needs}
 use Rattle.sheet.proofs.plan_rows.Statement.{statement}
@@ -81,7 +81,7 @@ again c =
       plan-more o _ _ (c .add .result) _ (omega (arith, length-drop (l .i) text, r .ensures .inside))
           (row-right text (l .i) (r .result) (r .ensures) (k .result) (k .ensures) g f)
           (row-shorter text (l .i) (r .result) (r .ensures) (k .result) (k .ensures) g f)
-          (c .add .ensures (o .sum) (o .holds)
+          (c .add .ensures ∙ total-more _ _ (o .sum) (o .holds) _
           ∙ ap (λ (n : ℕ). totalOf (c .before .before .before .before .before .before .before .before .before .before .before .args .room)
           (o .sum + n)) (size .ensures .0 ∙ sym (line-length (r .result .kind) (r .result .values)))) refl,
     )
