@@ -7,7 +7,7 @@ mod model;
 mod tests;
 
 use makers::{cases, damages, desk, dice, doubts, pairs, rows, texts, trial, whole_books};
-use model::{compare, feed, lister, programs, salvage, sheets, state, typed, why};
+use model::{compare, feed, kinds, lister, programs, salvage, sheets, state, typed, why};
 use std::io::{self, BufRead, BufWriter, Read, Write};
 
 const USAGE: &str = "usage:
@@ -33,6 +33,7 @@ const USAGE: &str = "usage:
   second booklines                   reads a book, writes its line records
   second compare OLD NEW             two books, says what compare says of them
   second pair SEED INDEX OLD NEW     writes two books by chance, one an edited copy of the other
+  second kinds                       the table of kinds for machines, without its help
   second doubts                      how many doubtful books reach each end of each field's range
 ";
 
@@ -63,6 +64,7 @@ fn main() {
         ["booklines"] => book_lines(),
         ["compare", old, new] => compare_books(old, new),
         ["pair", seed, index, old, new] => write_pair(seed, index, old, new),
+        ["kinds"] => write_bytes(kinds::table().as_bytes()),
         ["doubts"] => write_all(std::iter::once(format!("{}\n", doubts::enough()))),
         _ => Err(USAGE.to_string()),
     };

@@ -2,7 +2,7 @@
 use Prim.Native.Nat.{ℕ, zero, suc, _-_, min}
 use mathlib.Core.Bool.{Bool, _&&_}
 use mathlib.Core.List.{List, [], _∷_, _++_}
-use lib.ListN.{length, getD, take}
+use lib.ListN.{length, getD, take, drop}
 use lib.Dec.{leb, ltb}
 use Rattle.base.specs.Choice.{pick}
 use Rattle.codec.specs.Table.{lastKind, lastRow}
@@ -54,9 +54,13 @@ fieldTable =
 abbrev pub fieldNames : ℕ → List ℕ
 fieldNames k = tableLine noRow k fieldTable
 
--- the name of field i, counted from 0
+-- the name of field i, counted from 0, with the blank before it
 abbrev pub fieldName : ℕ → ℕ → List ℕ
 fieldName k i = nthPart 44 i (fieldNames k)
+
+-- without it
+abbrev pub labelOf : ℕ → ℕ → List ℕ
+labelOf k i = drop 1 (fieldName k i)
 
 -- ---- fields that are one of a few named things
 
@@ -147,6 +151,10 @@ unitTable =
 
 abbrev pub unitText : ℕ → ℕ → List ℕ
 unitText row i = cellOf row i unitTable
+
+-- without the blank
+abbrev pub unitOf : ℕ → ℕ → List ℕ
+unitOf row i = drop 1 (unitText row i)
 
 -- the value v as it is typed: a choice by its word, a number with all its decimals
 abbrev pub valueText : ℕ → ℕ → ℕ → List ℕ

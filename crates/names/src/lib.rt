@@ -2,6 +2,7 @@
 pub mod hints; // hints.rt: what was given in place of a book
 pub mod usual; // usual.rt: which values are usual
 
+use base::rest_of;
 use printing::say;
 use printing::say_pointed;
 use typed_words::is_name;
@@ -10,14 +11,13 @@ use typed_words::word;
 ghost use mathlib.Core.Path.{_≡_};
 ghost use mathlib.Core.List.{_++_};
 ghost use Prim.Native.Nat.{_-_, _≤_, min};
-ghost use lib.ListN.{length, getD};
-ghost use Rattle.base.specs.Choice.{pick};
+ghost use lib.ListN.{length, getD, drop};
 ghost use Rattle.codec.specs.Table.{fields};
 ghost use Rattle.printing.specs.Ascii.{ascii};
 ghost use Rattle.printing.specs.Said.{Said};
 ghost use Rattle.typed_words.specs.Words.{sameText, lowered};
 ghost use Rattle.names.specs.Names.{tableLine, kindName, kindNames, fieldNames, fieldName, cellOf, isChoice, choicesOf, wordFor, choiceWord};
-ghost use Rattle.names.specs.Names.{choicesMost, chosenFrom, chosen};
+ghost use Rattle.names.specs.Names.{choicesMost, chosenFrom, chosen, labelOf, unitOf};
 ghost use Rattle.names.specs.Names.{expectedTable, choicesText, expected, decimalsAt, unitText, valueText, className, sentence, printedByte, shown};
 
 // The line of what is no row of the book's table.
@@ -41,6 +41,20 @@ grazing
 farm
 record";
 
+// The names of each kind's fields, a line for each row, with a comma between.
+const FIELD_NAMES: [u8; 454] = *b"
+ farm number, year, warming set
+ group, class, head
+ days, GE, Ym
+ days, feed, protein, milk, milk protein, gain, solid share, liquid share, pasture share
+ days, feed, VS excretion, VS factor, MCF, protein, N factor, direct EF, volatilised part, volatilised EF, leached part, leached EF
+ source, amount, factor
+ area
+ records before it
+ zone, texture, change, years, area
+ region, column, live weight, fraction
+ farm number, year, CH4 factor, N2O factor";
+
 // The words of the fields that are one of a few named things, by row and field, with a comma between.
 const CHOICES: [u8; 434] = *b"
 
@@ -55,6 +69,20 @@ boreal-shield-west, atlantic-maritime, boreal-plains, boreal-shield-east, mixedw
 pacific-maritime, subhumid-prairies;coarse, medium, fine;\
 intensive-to-reduced, reduced-to-no, intensive-to-no, reduced-to-intensive, no-to-reduced, no-to-intensive;;
 atlantic, quebec, ontario, manitoba, saskatchewan, alberta, british-columbia;cows, heifers, calves;;
+";
+
+// The unit of each field that has one, by row and field, with a blank before it.
+const UNITS: [u8; 157] = *b"
+
+
+; MJ; per cent
+; kg; per cent; kg; per cent; g; per cent; per cent; per cent
+; kg;;;; per cent;;;;;;
+; units; g CO2 per unit
+ ha
+
+;;;; ha
+;; kg; per cent
 ";
 
 // The line k of a text, counted from 0; from the last on all are the same.
@@ -104,31 +132,12 @@ pub fn say_kinds(out: &mut [u8], at: usize) -> usize
     end
 }
 
-// The names of all the kind's fields, or that of field i.
-fn say_names(out: &mut [u8], at: usize, kind: u64, all: bool, i: usize) -> usize
+// The names of the kind's fields.
+pub fn say_fields(out: &mut [u8], at: usize, kind: u64) -> usize
     requires { ⌜ at ≤ length (now out) ⌝ }
-    ensures { λ r. ⌜ Said (now (out .entry)) (now (out .exit)) at (pick all (fieldNames kind) (fieldName kind i)) r ⌝ }
+    ensures { λ r. ⌜ Said (now (out .entry)) (now (out .exit)) at (fieldNames kind) r ⌝ }
 {
-    let names = line_of(
-        b"
- farm number, year, warming set
- group, class, head
- days, GE, Ym
- days, feed, protein, milk, milk protein, gain, solid share, liquid share, pasture share
- days, feed, VS excretion, VS factor, MCF, protein, N factor, direct EF, volatilised part, volatilised EF, leached part, leached EF
- source, amount, factor
- area
- records before it
- zone, texture, change, years, area
- region, column, live weight, fraction
- farm number, year, CH4 factor, N2O factor",
-        NO_ROW,
-        kind,
-    );
-    if all {
-        return say(out, at, names);
-    }
-    say(out, at, part(names, b',', i))
+    say(out, at, line_of(&FIELD_NAMES, NO_ROW, kind))
 }
 
 // The name of field i, counted from 0, with a blank before it.
@@ -136,14 +145,29 @@ pub fn say_field(out: &mut [u8], at: usize, kind: u64, i: usize) -> usize
     requires { ⌜ at ≤ length (now out) ⌝ }
     ensures { λ r. ⌜ Said (now (out .entry)) (now (out .exit)) at (fieldName kind i) r ⌝ }
 {
-    say_names(out, at, kind, false, i)
+    say(out, at, part(line_of(&FIELD_NAMES, NO_ROW, kind), b',', i))
 }
 
-pub fn say_fields(out: &mut [u8], at: usize, kind: u64) -> usize
-    requires { ⌜ at ≤ length (now out) ⌝ }
-    ensures { λ r. ⌜ Said (now (out .entry)) (now (out .exit)) at (fieldNames kind) r ⌝ }
+// A text without its first byte.
+fn without_first(text: &[u8]) -> &[u8]
+    ensures { λ r. ⌜ now r ≡ drop 1 (now (text .entry)) ⌝ }
 {
-    say_names(out, at, kind, true, 0)
+    if text.len() == 0 {
+        return text;
+    }
+    rest_of(text, 1)
+}
+
+// The name of field i without the blank.
+pub fn say_label(out: &mut [u8], at: usize, kind: u64, i: usize) -> usize
+    requires { ⌜ at ≤ length (now out) ⌝ }
+    ensures { λ r. ⌜ Said (now (out .entry)) (now (out .exit)) at (labelOf kind i) r ⌝ }
+{
+    say(
+        out,
+        at,
+        without_first(part(line_of(&FIELD_NAMES, NO_ROW, kind), b',', i)),
+    )
 }
 
 // The text of field i of a row, in a table with a semicolon between fields.
@@ -262,23 +286,15 @@ pub fn say_unit(out: &mut [u8], at: usize, row: u64, i: usize) -> usize
     requires { ⌜ at ≤ length (now out) ⌝ }
     ensures { λ r. ⌜ Said (now (out .entry)) (now (out .exit)) at (unitText row i) r ⌝ }
 {
-    let text = cell(
-        b"
+    say(out, at, cell(&UNITS, row, i))
+}
 
-
-; MJ; per cent
-; kg; per cent; kg; per cent; g; per cent; per cent; per cent
-; kg;;;; per cent;;;;;;
-; units; g CO2 per unit
- ha
-
-;;;; ha
-;; kg; per cent
-",
-        row,
-        i,
-    );
-    say(out, at, text)
+// The unit of field i without the blank.
+pub fn say_unit_name(out: &mut [u8], at: usize, row: u64, i: usize) -> usize
+    requires { ⌜ at ≤ length (now out) ⌝ }
+    ensures { λ r. ⌜ Said (now (out .entry)) (now (out .exit)) at (unitOf row i) r ⌝ }
+{
+    say(out, at, without_first(cell(&UNITS, row, i)))
 }
 
 // The value of field i as it is typed.

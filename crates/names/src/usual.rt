@@ -82,6 +82,14 @@ pub fn usual_range(row: u64, i: usize, who: usize) -> Usual
     }
 }
 
+// The ranges of field i as they are typed, with a bar between where they go by class or column.
+pub fn say_ranges(out: &mut [u8], at: usize, row: u64, i: usize) -> usize
+    requires { ⌜ at ≤ length (now out) ⌝ }
+    ensures { λ r. ⌜ Said (now (out .entry)) (now (out .exit)) at (usualRanges row i) r ⌝ }
+{
+    say(out, at, cell(&USUAL, row, i))
+}
+
 fn say_for(out: &mut [u8], at: usize, row: u64, i: usize, who: usize) -> usize
     requires { ⌜ at ≤ length (now out) ⌝ }
     ensures { λ r. ⌜ Said (now (out .entry)) (now (out .exit)) at (forText (usualRanges row i) who) r ⌝ }

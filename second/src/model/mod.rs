@@ -8,6 +8,7 @@ pub mod grazing;
 pub mod hints;
 pub mod judge;
 pub mod kind;
+pub mod kinds;
 pub mod lister;
 pub mod programs;
 pub mod record;

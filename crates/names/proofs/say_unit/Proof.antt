@@ -9,7 +9,7 @@ say-unit-spec =
     tie.close
     (tie.spec
     (λ c. search needs)
+    (λ c κs. search needs)
+    (λ c κs. search needs)
     (λ c. search needs)
-    (λ c. search needs)
-    (λ c. search needs)
-    (λ c. rw (c .before .before .before .before .cell .ensures) at (c .before .before .say .ensures)))
+    (λ c. rw (c .before .before .before .cell .ensures) at (c .before .before .say .ensures)))
