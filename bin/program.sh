@@ -1,9 +1,11 @@
 # shellcheck shell=sh disable=SC2154 # the script that sources this has set $here
 # Sourced first by the script of each program, which has set $here (this folder), sets what differs and calls `run "$@"`: $name, $sample, $about
 # and $example (for --help); and where they are wanted $bytes (yes where the program writes a book's bytes), $heading (names of the columns, for a
-# terminal), $usage and $count where more arguments are right, and $option (a word: with --WORD the program is given it too and reads nothing).
-name='' sample='' about='' example='' bytes='' heading='' usage='' count='' option='' # none of them comes from the environment
+# terminal), $usage and $count where other arguments are right, $option (a word: with --WORD the program is given it too and reads nothing), and
+# $files, the names for --help of the files that it may write, one or two, which are whole or not there (whole.sh).
+name='' sample='' about='' example='' bytes='' heading='' usage='' count='' option='' files='' # none of them comes from the environment
 root=${here%/*}
+. "$here/whole.sh"
 
 # A standard descriptor that is closed is opened the wrong way round: the program's first read or write of it fails, and the program says so.
 { true 9<&0; } 2>/dev/null || exec 0>/dev/null
@@ -12,16 +14,27 @@ root=${here%/*}
 
 say() { printf 'bin/%s: %s\n' "$name" "$*" >&2 || :; }
 stop() { status=$1; shift; say "$@"; exit "$status"; }
-misused() { stop 2 "$*; usage: bin/$name ${usage:-[FILE|-]}, and bin/$name --help says more"; }
+misused() { stop 2 "$*; usage: bin/$name $(arguments), and bin/$name --help says more"; }
+
+# The arguments as --help has them: [FILE|- [BOOK]] where a book may be written.
+arguments() {
+    [ -z "$usage" ] || { printf '%s' "$usage"; return; }
+    front='[FILE|-' back=']'
+    for file in $files; do front="$front [$file" back="$back]"; done
+    printf '%s%s' "$front" "$back"
+}
 
 help() {
     cat <<END
-usage: bin/$name ${usage:-[FILE|-]}
+usage: bin/$name $(arguments)
 
 $about
 
   FILE        what it reads; without an argument $sample
   -           it reads standard input
+END
+    for file in $files; do printf '  %-11s the file to write: whole, or it stays as it was\n' "$file"; done
+    cat <<END
   -h, --help  prints this; --version prints the version
 
 Exit status: 0 all right; 1 the input was refused, is unfinished or could not be
@@ -112,18 +125,38 @@ build() {
     exec 9>&-
 }
 
-# run "$@": runs the program on a file, on standard input (-) or, with no argument, on the sample; builds it where it is stale.
+# counted: how many arguments are right, in words.
+counted() {
+    case $files in
+    '') printf '%s' "${count:-one argument at most}" ;;
+    *' '*) printf 'three arguments at most' ;;
+    *) printf 'two arguments at most' ;;
+    esac
+}
+
+# run "$@": runs the program on a file, on standard input (-) or, with no argument, on the sample, and where they are named writes files; builds it where
+# it is stale.
 run() {
     program=$root/target/bin/${name}_main
-    [ $# -le 1 ] || misused "${count:-one argument at most}"
+    # shellcheck disable=SC2086 # names without blanks
+    [ $# -le $(set -- $files && echo $(($# + 1))) ] || misused "$(counted)"
     input=$(named "${1-$root/$sample}") more=
     case $input in
     -h | --help) help; exit 0 ;;
     --version) version; exit 0 ;;
-    "--${option:-help}") more=$option input=/dev/null bytes='' heading='' ;; # a text, for a terminal too
+    "--${option:-help}")
+        [ $# -eq 1 ] || misused "--$option stands alone"
+        more=$option input=/dev/null bytes='' heading='' # a text, for a terminal too
+        ;;
     *) readable "$input" ;;
     esac
-    [ "$bytes" != yes ] || [ ! -t 1 ] || stop 2 "a book's bytes are not for a terminal: write them to a file, as in $example"
+    if [ $# -gt 1 ]; then
+        shift
+        begin "$@"
+        heading=''
+    elif [ "$bytes" = yes ] && [ -t 1 ]; then
+        stop 2 "a book's bytes are not for a terminal: write them to a file, as in $example"
+    fi
     ! stale || build
 
     # Programs are for x86-64: on another machine the kit's emulator runs them.
@@ -136,13 +169,21 @@ run() {
     [ "$input" = - ] || exec <"$input"
     [ -z "$heading" ] || [ ! -t 1 ] || printf '%s\n' "$heading" >&2 || :
 
-    # A program has no exit status: with the word `status` it writes, as its last act, 0 or 1 on descriptor 3. It gets the error of a closed pipe, and
-    # reports it.
+    # A program has no exit status: with the word `status` it writes, as its last act, a digit on descriptor 3: 0; 1; or 2 for status 1 of a program whose
+    # output is whole all the same. With the word `list` it writes its list on descriptor 4. It gets the error of a closed pipe.
     trap '' PIPE
-    exec 4>&1
-    status=$("$@" status ${more:+"$more"} 3>&1 >&4 4>&-) || status=
+    if [ -n "$book" ]; then exec 7>"$book"; else exec 7>&1; fi
+    [ -z "$list" ] || more=list
+    exec 6>"${list:-/dev/null}"
+    good=yes
+    status=$("$@" status ${more:+"$more"} 3>&1 >&7 7>&- 4>&6 6>&-) || status=
+    exec 6>&- 7>&-
     case $status in
-    0 | 1) exit "$status" ;;
-    *) stop 1 "the program did not come to its end" ;;
+    0) ;;
+    1) good=no ;;
+    2) status=1 ;;
+    *) say "the program did not come to its end"; good=no status=1 ;;
     esac
+    [ -z "$book" ] || settle "$good" || status=1
+    exit "$status"
 }

@@ -64,12 +64,14 @@ fn at_most(a: usize, b: usize) -> usize
     if a < b { a } else { b }
 }
 
-// A text for standard output. Where it can't go out, that is reported.
+// A text for standard output. Where it can't go out, that is reported, unless nobody reads it any more: `head` has seen what it wanted.
 pub fn send(text: &[u8]) -> bool {
     if io::write_all(STDOUT_FILENO, text) {
         return true;
     }
-    os::fail(b"standard output");
+    if os::errno() != libc::EPIPE {
+        os::fail(b"standard output");
+    }
     false
 }
 

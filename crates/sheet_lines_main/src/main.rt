@@ -34,11 +34,11 @@ fn sheet_buffer() -> [u8; MOST_TEXT]
     [0u8; MOST_TEXT]
 }
 
-// A sentence where it is refused, and the last word.
-fn tell_end(text: &[u8], answer: Answer) {
+// A sentence where it is refused, and the last word, which is part of the answer: whether it went out.
+fn tell_end(text: &[u8], answer: Answer) -> bool {
     let mut said = [0u8; 512];
     let n = remarks::say_end(&mut said, text, answer);
-    report(&said[..n]);
+    report(&said[..n])
 }
 
 fn tell_too_long() {
@@ -55,10 +55,10 @@ fn give(answer: Answer, sheet: &[u8]) -> Done {
             written: false,
         };
     }
-    tell_end(sheet, answer);
+    let told = tell_end(sheet, answer);
     Done {
         accepted: true,
-        written: true,
+        written: told,
     }
 }
 

@@ -33,11 +33,11 @@ fn lines_buffer() -> [u8; MOST_LINES]
     [0u8; MOST_LINES]
 }
 
-// A sentence where it is refused, and the last word.
-fn tell_end(text: &[u8], answer: Answer) {
+// A sentence where it is refused, and the last word, which is part of the answer: whether it went out.
+fn tell_end(text: &[u8], answer: Answer) -> bool {
     let mut said = [0u8; 512];
     let n = remarks::say_end(&mut said, text, answer);
-    report(&said[..n]);
+    report(&said[..n])
 }
 
 fn tell_too_long() {
@@ -54,10 +54,10 @@ fn give(text: &[u8], answer: Answer, lines: &[u8]) -> Done {
             written: false,
         };
     }
-    tell_end(text, answer);
+    let told = tell_end(text, answer);
     Done {
         accepted: true,
-        written: true,
+        written: told,
     }
 }
 

@@ -11,11 +11,14 @@ ghost use Prim.Native.Nat.{_≤_};
 ghost use mathlib.Core.Path.{_≡_};
 ghost use lib.ListN.{length};
 
-// The typist and the line being read, how many bytes the last call took, and whether all was read and written.
+// The typist and the line being read, how many bytes the last call took, whether all was read and written, whether no write of the book failed, and
+// whether all remarks went out.
 struct Work {
     typing: Typing,
     taken: usize,
     good: bool,
+    sent: bool,
+    told: bool,
 }
 
 fn up_to(s: &[u8], n: usize) -> &[u8] {
@@ -29,9 +32,12 @@ fn up_to(s: &[u8], n: usize) -> &[u8] {
 fn send(record: &[u8], remark: &[u8], mut w: Work) -> Work
     ensures { λ r. ⌜ r .taken ≡ w .taken ⌝ }
 {
-    report(remark);
+    if !report(remark) {
+        w.told = false;
+    }
     if !program::send(record) {
         w.good = false;
+        w.sent = false;
     }
     w
 }
@@ -107,8 +113,11 @@ fn last_line(line: &[u8], w: Work) -> Work {
     send(up_to(&out, l.written), up_to(&remarks, l.told), next)
 }
 
-// The end of the text: a close that waits is written, where all of it was read.
+// The end of the text: a close that waits is written, where all of it was read. Of a book that can't go out nothing more is said.
 fn end_text(w: Work) -> Work {
+    if !w.sent {
+        return w;
+    }
     let mut out = [0u8; 28];
     let mut remarks = [0u8; 4096];
     let typing = w.typing;
@@ -125,13 +134,23 @@ fn end_text(w: Work) -> Work {
     send(up_to(&out, l.written), up_to(&remarks, l.told), next)
 }
 
-fn say_end(w: Work) {
+// The verdict, which is part of the answer: whether it went out.
+fn tell_verdict(w: Work) -> bool {
+    if !w.sent {
+        return false;
+    }
     let mut text = [0u8; 1024];
     let typing = w.typing;
     let t = typing.typist;
     let n = writer::remarks::say_verdict(&mut text, t, w.good);
-    report(up_to(&text, n));
-    program::tell_status(writer::remarks::status(t, w.good));
+    report(up_to(&text, n))
+}
+
+fn say_end(w: Work) {
+    let told = tell_verdict(w);
+    let typing = w.typing;
+    let t = typing.typist;
+    program::tell_status(writer::remarks::status(t, w.good & w.told & told));
 }
 
 // The kinds on a screen; the status is 0 where they were written.
@@ -158,6 +177,8 @@ fn type_book() {
             typing: typing,
             taken: 0,
             good: true,
+            sent: true,
+            told: true,
         },
     );
     say_end(end_text(last_line(&line, last)));
