@@ -24,7 +24,7 @@ pub record EntericIn (ge ym head days : ℕ) : Type 0 where
 unfoldable pub entericOf : ℕ → ℕ → ℕ → ℕ → ℕ
 entericOf ge ym head days = roundDiv (ge * ym * head * days) 55650
 
--- what `enteric` answers
+-- for the contract of grams::cattle::enteric: its figure, and how much that can be at most
 abbrev pub Enteric : ℕ → ℕ → ℕ → ℕ → ℕ → Type 0
 Enteric ge ym head days r = Figure (entericOf ge ym head days) (10 ^ 11) r
 
@@ -85,7 +85,7 @@ abbrev pub CattleSmall : CattleNitrogen → Type 0
 CattleSmall BelowZero = Unit {0}
 CattleSmall (Given m) = (m .excreted ≤ 10 ^ 11) × (m .n2o .0 ≤ 10 ^ 10)
 
--- what `nitrogen` answers
+-- for the contract of grams::cattle::nitrogen: its figures, and how much they can be at most
 pub record Nitrogen (r : CattleRation) (head : ℕ) (a : CattleNitrogen) : Type 0 where
   pub exact : a ≡ cattleNitrogenOf r head
   pub small : CattleSmall a

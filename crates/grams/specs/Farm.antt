@@ -20,7 +20,7 @@ pub record EnergyIn (amount factor : ℕ) : Type 0 where
 unfoldable pub energyOf : ℕ → ℕ → Co2
 energyOf amount factor = gramsCo2 (pos (roundDiv (amount * factor) 10))
 
--- what `energy` answers
+-- for the contract of grams::farm::energy: its figure within its bounds
 abbrev pub Energy : ℕ → ℕ → Co2 → Type 0
 Energy amount factor r = Carbon (energyOf amount factor) r
 
@@ -32,7 +32,7 @@ pub record SoilIn (area : ℕ) : Type 0 where
 unfoldable pub soilOf : ℕ → Co2
 soilOf area = gramsCo2 (pos (roundDiv (area * 550000) 3))
 
--- what `soil` answers
+-- for the contract of grams::farm::soil: the same
 abbrev pub Soil : ℕ → Co2 → Type 0
 Soil area r = Carbon (soilOf area) r
 

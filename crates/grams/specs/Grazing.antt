@@ -39,6 +39,6 @@ pub record GrazingIn (region column weight fraction head : ℕ) : Type 0 where
 unfoldable pub grazingOf : ℕ → ℕ → ℕ → ℕ → ℕ → Grazed
 grazingOf region column weight fraction head = gramsGrazed (roundDiv (pastureFactor region column * weight * fraction * head) 1000)
 
--- what `grazing` answers
+-- for the contract of grams::grazing::grazing: its figure, and how much that can be at most
 abbrev pub Grazing : ℕ → ℕ → ℕ → ℕ → ℕ → Grazed → Type 0
 Grazing region column weight fraction head r = Pasture (grazingOf region column weight fraction head) (10 ^ 11) r

@@ -77,7 +77,7 @@ manureOf p head =
     let n = recordNitrogen p head in
     figures (ch4Of (recordSolids p) (p .mcf) head (p .days)) (recordN2o n p) n (landOf n (p .volatilised) (p .leached))
 
--- what `manure` answers
+-- for the contract of grams::pig::manure: its figures, and how much they can be at most
 pub record Manure (p : PigRation) (head : ℕ) (r : PigManure) : Type 0 where
   pub exact : r ≡ manureOf p head
   pub ch4-small : r .ch4 ≤ 10 ^ 11

@@ -29,7 +29,7 @@ recordMg zone texture change years = let p = pairOf zone texture change in mgOf 
 unfoldable pub tillageOf : ℕ → ℕ → ℕ → ℕ → ℕ → Co2
 tillageOf zone texture change years area = gramsCo2 (co2Of (recordMg zone texture change years) area)
 
--- what `tillage` answers
+-- for the contract of grams::tillage::tillage: its figure within its bounds
 abbrev pub Tillage : ℕ → ℕ → ℕ → ℕ → ℕ → Co2 → Type 0
 Tillage zone texture change years area r = Carbon (tillageOf zone texture change years area) r
 
