@@ -1,2 +1,3 @@
 mod Steps
 pub mod Examples
+pub mod OneAnswer

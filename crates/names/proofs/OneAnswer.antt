@@ -32,6 +32,12 @@ use Rattle.names.proofs.say_choice.Kinds as chosen-word
 use Rattle.names.proofs.say_choice.Reads as chosen-word-contract
 use Rattle.names.proofs.say_unit.Kinds as unit
 use Rattle.names.proofs.say_unit.Reads as unit-contract
+use Rattle.names.proofs.say_label.Kinds as label
+use Rattle.names.proofs.say_label.Reads as label-contract
+use Rattle.names.proofs.say_unit_name.Kinds as unit-name
+use Rattle.names.proofs.say_unit_name.Reads as unit-name-contract
+use Rattle.names.proofs.usual.say_ranges.Kinds as ranges
+use Rattle.names.proofs.usual.say_ranges.Reads as ranges-contract
 use Rattle.names.proofs.say_value.Kinds as value
 use Rattle.names.proofs.say_value.Reads as value-contract
 use Rattle.names.proofs.usual.usual_range.Kinds as usual
@@ -120,3 +126,14 @@ one-usual-range κs args f g e e′ p q = p ∙ sym q
 
 pub one-say-usual : OneAnswerWith usual-said.ps usual-said.r usual-said-contract.Learnt (λ κs e. now (e .0))
 one-say-usual κs args f g e e′ p q = one-put (p .put) (q .put)
+
+-- A field's name and its unit without the blank before them.
+pub one-say-label : OneAnswerWith label.ps label.r label-contract.Learnt (λ κs e. now (e .0))
+one-say-label κs args f g e e′ p q = one-put (p .put) (q .put)
+
+pub one-say-unit-name : OneAnswerWith unit-name.ps unit-name.r unit-name-contract.Learnt (λ κs e. now (e .0))
+one-say-unit-name κs args f g e e′ p q = one-put (p .put) (q .put)
+
+-- Which values are usual, as they are typed.
+pub one-say-ranges : OneAnswerWith ranges.ps ranges.r ranges-contract.Learnt (λ κs e. now (e .0))
+one-say-ranges κs args f g e e′ p q = one-put (p .put) (q .put)
