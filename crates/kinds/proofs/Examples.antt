@@ -13,9 +13,9 @@ use Rattle.codec.specs.Table.{table, fields, lastRow}
 use Rattle.typed_words.specs.Words.{nthPart, nthWord, leadingOf, sameText}
 use Rattle.printing.specs.Ascii.{ascii}
 use Rattle.printing.specs.Decimal.{digitsBy, decimal, withoutLast, lastDigits, pointed}
-use Rattle.names.specs.Names.{kindTable, fieldTable, choiceTable, decimalsTable, unitTable}
+use Rattle.names.specs.Names.{kindTable, fieldTable, choiceTable, decimalsTable, unitTable, helpTable}
 use Rattle.names.specs.Usual.{usualTable}
-use Rattle.kinds.specs.Kinds.{helpTable, choicesFrom, fieldText, fieldsFrom, rowsFrom, kindsText}
+use Rattle.kinds.specs.Kinds.{choicesFrom, fieldText, fieldsFrom, rowsFrom, kindsText}
 
 -- how often the byte b stands in a text
 unfoldable pub count : ℕ → List ℕ → ℕ

@@ -7,6 +7,7 @@ use codec::kinds::version_of;
 use names::decimals;
 use names::is_choice;
 use names::say_choice;
+use names::say_help;
 use names::say_kind;
 use names::say_label;
 use names::say_unit_name;
@@ -14,7 +15,6 @@ use names::usual::say_ranges;
 use printing::say;
 use printing::say_number;
 use printing::say_pointed;
-use typed_words::part;
 ghost use mathlib.Core.List.{_++_};
 ghost use Prim.Native.Nat.{_-_, _≤_, _<_};
 ghost use lib.ListN.{length};
@@ -22,37 +22,9 @@ ghost use Rattle.codec.specs.Table.{lastRow, fields};
 ghost use Rattle.printing.specs.Ascii.{ascii};
 ghost use Rattle.printing.specs.Decimal.{decimal, pointed};
 ghost use Rattle.printing.specs.Said.{Said};
-ghost use Rattle.names.specs.Names.{kindName, labelOf, unitOf, choiceWord};
+ghost use Rattle.names.specs.Names.{kindName, labelOf, unitOf, choiceWord, helpOf};
 ghost use Rattle.names.specs.Usual.{usualRanges};
-ghost use Rattle.kinds.specs.Kinds.{helpOf, next, choicesFrom, choicesText, rowText, rangeText, wordsText, fieldText, fieldsFrom, kindsText};
-
-// What field i is.
-fn say_help(out: &mut [u8], at: usize, row: u64, i: usize) -> usize
-    requires { ⌜ at ≤ length (now out) ⌝ }
-    ensures { λ r. ⌜ Said (now (out .entry)) (now (out .exit)) at (helpOf row i) r ⌝ }
-{
-    let line = part(
-        b"
-number of the farm;year of the book;1 for the factors 21 and 310 or 2 for 23 and 296
-number of the group above those before it;what animals the group has;animals in the group
-days that the ration was fed;gross energy a head and day;part of the gross energy that becomes CH4
-days that the ration was fed;dry matter a head and day;crude protein of the dry matter;milk a head and day;protein of the milk;\
-weight gained a head and day;share of the manure stored solid;share of the manure stored liquid;share of the manure left on pasture
-days that the ration was fed;feed a head and day;volatile solids excreted by kg of feed;volatile solids adjusted to the diet;\
-methane conversion factor of the handling;crude protein of the feed;excreted nitrogen adjusted to the diet;\
-N2O-N straight from the store by kg of N;part of the N that goes into the air;N2O-N by kg of that part;\
-part of the N that is leached;N2O-N by kg of that part
-number of the energy source (the documents give no names);units used in the year;CO2 of a unit
-area of organic soil
-records before the close (left out it is filled in)
-ecozone of the land;texture of the soil;change of tillage;years since the change;area of the change
-region of the farm;which animals graze;live weight of an animal;part of the yearly intake that is grazed
-number of the farm;year of the book;CO2e of a kg of CH4;CO2e of a kg of N2O",
-        b'\n',
-        row as usize,
-    );
-    say(out, at, part(line, b';', i))
-}
+ghost use Rattle.kinds.specs.Kinds.{next, choicesFrom, choicesText, rowText, rangeText, wordsText, fieldText, fieldsFrom, kindsText};
 
 // A number, after a comma.
 fn next_number(out: &mut [u8], at: usize, n: u64) -> usize

@@ -95,7 +95,7 @@ fn answered(state: State, kind: u64, values: &[u64], room: usize) -> Written
     if values.len() != values_of(row) {
         return refused_by(state, 4);
     }
-    let j = kinds::weighed(a, row, values);
+    let j = crate::kinds::weighed(a, row, values);
     let next = j.account;
     if next.stage == 3 {
         let readers = next.refusal;

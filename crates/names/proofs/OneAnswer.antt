@@ -38,6 +38,8 @@ use Rattle.names.proofs.say_unit_name.Kinds as unit-name
 use Rattle.names.proofs.say_unit_name.Reads as unit-name-contract
 use Rattle.names.proofs.usual.say_ranges.Kinds as ranges
 use Rattle.names.proofs.usual.say_ranges.Reads as ranges-contract
+use Rattle.names.proofs.say_help.Kinds as help
+use Rattle.names.proofs.say_help.Reads as help-contract
 use Rattle.names.proofs.say_value.Kinds as value
 use Rattle.names.proofs.say_value.Reads as value-contract
 use Rattle.names.proofs.usual.usual_range.Kinds as usual
@@ -137,3 +139,7 @@ one-say-unit-name κs args f g e e′ p q = one-put (p .put) (q .put)
 -- Which values are usual, as they are typed.
 pub one-say-ranges : OneAnswerWith ranges.ps ranges.r ranges-contract.Learnt (λ κs e. now (e .0))
 one-say-ranges κs args f g e e′ p q = one-put (p .put) (q .put)
+
+-- What a field is.
+pub one-say-help : OneAnswerWith help.ps help.r help-contract.Learnt (λ κs e. now (e .0))
+one-say-help κs args f g e e′ p q = one-put (p .put) (q .put)

@@ -164,6 +164,32 @@ valueText row i v = pick (isChoice row i) (choiceWord row i v) (pointed (decimal
 abbrev pub className : ℕ → List ℕ
 className c = choiceWord 2 1 c
 
+-- ---- what a field is
+
+-- in a few words without commas
+unfoldable pub helpTable : List ℕ
+helpTable =
+    ascii "\n"
+    ++ ascii "number of the farm;year of the book;1 for the factors 21 and 310 or 2 for 23 and 296\n"
+    ++ ascii "number of the group above those before it;what animals the group has;animals in the group\n"
+    ++ ascii "days that the ration was fed;gross energy a head and day;part of the gross energy that becomes CH4\n"
+    ++ ascii "days that the ration was fed;dry matter a head and day;crude protein of the dry matter;milk a head and day;protein of the milk"
+    ++ ascii ";weight gained a head and day;share of the manure stored solid;share of the manure stored liquid;share of the manure left on pasture\n"
+    ++ ascii "days that the ration was fed;feed a head and day;volatile solids excreted by kg of feed;volatile solids adjusted to the diet"
+    ++ ascii ";methane conversion factor of the handling;crude protein of the feed;excreted nitrogen adjusted to the diet"
+    ++ ascii ";N2O-N straight from the store by kg of N;part of the N that goes into the air;N2O-N by kg of that part"
+    ++ ascii ";part of the N that is leached;N2O-N by kg of that part\n"
+    ++ ascii "number of the energy source (the documents give no names);units used in the year;CO2 of a unit\n"
+    ++ ascii "area of organic soil\n"
+    ++ ascii "records before the close (left out it is filled in)\n"
+    ++ ascii "ecozone of the land;texture of the soil;change of tillage;years since the change;area of the change\n"
+    ++ ascii "region of the farm;which animals graze;live weight of an animal;part of the yearly intake that is grazed\n"
+    ++ ascii "number of the farm;year of the book;CO2e of a kg of CH4;CO2e of a kg of N2O"
+
+-- nothing where there is no such field
+abbrev pub helpOf : ℕ → ℕ → List ℕ
+helpOf row i = cellOf row i helpTable
+
 -- ---- the numbers of refusals
 
 unfoldable pub sentenceTable : List ℕ

@@ -17,7 +17,7 @@ ghost use Rattle.printing.specs.Ascii.{ascii};
 ghost use Rattle.printing.specs.Said.{Said};
 ghost use Rattle.typed_words.specs.Words.{sameText, lowered};
 ghost use Rattle.names.specs.Names.{tableLine, kindName, kindNames, fieldNames, fieldName, cellOf, isChoice, choicesOf, wordFor, choiceWord};
-ghost use Rattle.names.specs.Names.{choicesMost, chosenFrom, chosen, labelOf, unitOf};
+ghost use Rattle.names.specs.Names.{choicesMost, chosenFrom, chosen, labelOf, unitOf, helpOf};
 ghost use Rattle.names.specs.Names.{expectedTable, choicesText, expected, decimalsAt, unitText, valueText, className, sentence, printedByte, shown};
 
 // The line of what is no row of the book's table.
@@ -295,6 +295,34 @@ pub fn say_unit_name(out: &mut [u8], at: usize, row: u64, i: usize) -> usize
     ensures { λ r. ⌜ Said (now (out .entry)) (now (out .exit)) at (unitOf row i) r ⌝ }
 {
     say(out, at, without_first(cell(&UNITS, row, i)))
+}
+
+// What field i is, in a few words.
+pub fn say_help(out: &mut [u8], at: usize, row: u64, i: usize) -> usize
+    requires { ⌜ at ≤ length (now out) ⌝ }
+    ensures { λ r. ⌜ Said (now (out .entry)) (now (out .exit)) at (helpOf row i) r ⌝ }
+{
+    let text = cell(
+        b"
+number of the farm;year of the book;1 for the factors 21 and 310 or 2 for 23 and 296
+number of the group above those before it;what animals the group has;animals in the group
+days that the ration was fed;gross energy a head and day;part of the gross energy that becomes CH4
+days that the ration was fed;dry matter a head and day;crude protein of the dry matter;milk a head and day;protein of the milk;\
+weight gained a head and day;share of the manure stored solid;share of the manure stored liquid;share of the manure left on pasture
+days that the ration was fed;feed a head and day;volatile solids excreted by kg of feed;volatile solids adjusted to the diet;\
+methane conversion factor of the handling;crude protein of the feed;excreted nitrogen adjusted to the diet;\
+N2O-N straight from the store by kg of N;part of the N that goes into the air;N2O-N by kg of that part;\
+part of the N that is leached;N2O-N by kg of that part
+number of the energy source (the documents give no names);units used in the year;CO2 of a unit
+area of organic soil
+records before the close (left out it is filled in)
+ecozone of the land;texture of the soil;change of tillage;years since the change;area of the change
+region of the farm;which animals graze;live weight of an animal;part of the yearly intake that is grazed
+number of the farm;year of the book;CO2e of a kg of CH4;CO2e of a kg of N2O",
+        row,
+        i,
+    );
+    say(out, at, text)
 }
 
 // The value of field i as it is typed.
