@@ -28,18 +28,32 @@ fn up_to(s: &[u8], n: usize) -> &[u8] {
     s
 }
 
-// Where the bytes can't go out the book would lack a record: nothing more is tried.
-fn send(record: &[u8], remark: &[u8], mut w: Work) -> Work
+// Remarks are part of the answer.
+fn tell(remark: &[u8], mut w: Work) -> Work
     ensures { λ r. ⌜ r .taken ≡ w .taken ⌝ }
 {
     if !report(remark) {
         w.told = false;
     }
+    w
+}
+
+// Where the bytes can't go out the book would lack a record: nothing more is tried.
+fn write_out(record: &[u8], mut w: Work) -> Work
+    ensures { λ r. ⌜ r .taken ≡ w .taken ⌝ }
+{
     if !program::send(record) {
         w.good = false;
         w.sent = false;
     }
     w
+}
+
+// The remarks on a line first, then its record.
+fn send(record: &[u8], remark: &[u8], w: Work) -> Work
+    ensures { λ r. ⌜ r .taken ≡ w .taken ⌝ }
+{
+    write_out(record, tell(remark, w))
 }
 
 // Up to the end of a line, or of what is left of the part.
