@@ -34,7 +34,7 @@ pub record WithinTwo (lum : ℤ) (k y : ℕ) : Type 0 where
   -- at both ends of its enclosure
   pub low : Near (over 21) (natAbs (mgOf lum k y)) (natAbs lum * 1000) (lower (k * (y - 1))) (upper (k * y))
   pub high : Near (over 21) (natAbs (mgOf lum k y)) (natAbs lum * 1000) (upper (k * (y - 1))) (lower (k * y))
-  -- which enclose the sums up to x^(20 + j) and x^(21 + j), whatever j
+  -- between these lies every later sum, at either exponent
   pub before : (j : ℕ) → Enclosed (k * (y - 1)) j
   pub after : (j : ℕ) → Enclosed (k * y) j
   -- and so by the sums up to x^(21 + j)

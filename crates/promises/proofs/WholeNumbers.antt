@@ -3,12 +3,15 @@
 use Prim.Native.Nat.{ℕ, _+_, _*_, _^_, _≤_, _<_}
 use mathlib.Core.Path.{_≡_, refl, sym, ap, _∙_}
 use mathlib.Core.List.{List, [], _∷_, _++_}
+use mathlib.Core.Bool.{Bool, true, false}
 use native.Mathlib.Omega.{arith}
 use lib.IntN.{ℤ, pos, negsuc, negℤ, natAbs, _+ℤ_, +ℤ-assoc, +ℤ-idl, +ℤ-idr}
+use lib.Dec.{eqb}
 use lib.ListN.{length, take}
 use Rattle.base.specs.Signed.{wordOf}
 use Rattle.base.proofs.Signed.{abs-plus, signed-less}
-use Rattle.base.proofs.Tests.{not-false, or-l}
+use Rattle.base.specs.Choice.{pick}
+use Rattle.base.proofs.Tests.{no-bool, not-false, of-choice, or-l}
 use Rattle.codec.specs.Table.{size}
 use Rattle.codec.specs.Codec.{bytesHold, valAt, be, bytesOf}
 use Rattle.codec.proofs.BigEndian.{valAt-be}
@@ -21,13 +24,15 @@ use Rattle.grams.specs.Units.{co2Grams, gramsCo2, co2Word}
 use Rattle.grams.specs.declared.farm.Factors.{Factors}
 use Rattle.grams.specs.declared.units.Co2.{Co2}
 use Rattle.grams.proofs.Carbon.{plus-grams, within-more}
-use Rattle.grams.proofs.farm.Small.{others-most, co2e-grams}
+use Rattle.grams.proofs.farm.Small.{energy-grams, soil-grams, others-most, co2e-grams}
+use Rattle.grams.proofs.tillage.Small.{tillage-grams}
 use Rattle.account.specs.declared.Account.{Account}
 use Rattle.account.specs.declared.Figures.{Figures}
+use Rattle.account.specs.declared.Heading.{Heading}
 use Rattle.account.specs.declared.sort.Sort.{Sort}
 use Rattle.account.specs.declared.sort.Sort.the-variants.{Opens, Heads, OfGroup, OfFarm, Closes}
-use Rattle.account.specs.Sorts.{sortOf, bySort}
-use Rattle.account.specs.Figures.{added, listed}
+use Rattle.account.specs.Sorts.{isFarm, sortOf, bySort, isOfGroup}
+use Rattle.account.specs.Figures.{added, listed, figuresOf}
 use Rattle.account.specs.Line.{co2eIn, totalWith, totalOf}
 use Rattle.account.specs.Range.{AccountInRange}
 use Rattle.account.specs.Account.{noRecord, factorsOf}
@@ -35,6 +40,9 @@ use Rattle.account.specs.Judge.{versionOf, kindByte, recordRow, valuesOf, judge
 use Rattle.account.specs.Told.{Small}
 use Rattle.account.proofs.Details.{DetailKind}
 use Rattle.account.proofs.EachFigure.{figures-small}
+use Rattle.account.proofs.EachFigure.Energy.{energy-in}
+use Rattle.account.proofs.EachFigure.Soil.{soil-in}
+use Rattle.account.proofs.EachFigure.Tillage.{tillage-in}
 use Rattle.account.proofs.Keeps.{in-range-judge}
 use Rattle.account.proofs.Refusals.{passed, not-refused}
 use Rattle.account.proofs.Told.{head-most, total-long}
@@ -46,13 +54,44 @@ use Rattle.promises.specs.Headings.{acceptedRecords}
 use Rattle.promises.specs.Paper.{sample, credit}
 use Rattle.promises.specs.Subtotals.{detailOf, headingAfter, farmAfter, farmOf, farm}
 use Rattle.promises.specs.Totals.{lastOf}
-use Rattle.promises.specs.WholeNumbers.{recordCo2, co2Sum, wholeCo2e, lastSigned}
+use Rattle.promises.specs.WholeNumbers.{Co2Worked, recordCo2, co2Sum, wholeCo2e, lastSigned}
 use Rattle.promises.proofs.StaysInRange.{new-in-range}
 use Rattle.promises.proofs.Subtotals.{sums-after, sums-of-farm}
 use Rattle.promises.proofs.Totals.{ends-with-total}
 use Rattle.promises.proofs.WholeLines.{shaped, bookRecords, next}
 use Rattle.promises.proofs.Paper.{sample-lines, credit-lines}
 use Rattle.promises.proofs.PigNitrogen.{unrefused}
+
+-- ---- the CO2 of a detail
+
+group-none : (row : ℕ) → isOfGroup row ≡ true → (h : Heading) (v : List ℕ) → co2Grams (figuresOf h row v .co2) ≡ pos 0
+unfolding sortOf figuresOf
+group-none row g h v =
+    of-choice None (eqb row 3) (λ e. refl)
+    (λ e3. of-choice None (eqb row 4) (λ e. refl)
+    (λ e4. of-choice None (eqb row 5) (λ e. refl)
+    (λ e5. of-choice None (eqb row 10) (λ e. refl)
+    (λ e10. absurd (not-of-group (isFarm row) (eqb row 2) (eqb row 8) (rw (e3, e4, e5, e10) at g))))))
+  where
+    None : Figures → Type 0
+    None f = co2Grams (f .co2) ≡ pos 0
+
+    not-of-group : (a b c : Bool) → bySort (pick a Opens (pick b Heads (pick c Closes OfFarm))) false false true false false ≡ true → ⊥
+    not-of-group true b c e = no-bool e
+    not-of-group false true c e = no-bool e
+    not-of-group false false true e = no-bool e
+    not-of-group false false false e = no-bool e
+
+-- The CO2 of a detail, read as a signed number, is the whole number that its rule works out, whatever its heading.
+pub co2-worked : (h : Heading) (v : List ℕ) → Co2Worked h v
+unfolding figuresOf
+co2-worked h v =
+    record {
+      energy = λ e. energy-grams (energy-in v e);
+      soil = λ e. soil-grams (soil-in v e);
+      tillage = λ e. tillage-grams (tillage-in v e);
+      none = λ row g. group-none row g h v;
+    }
 
 -- ---- the sum of CO2
 

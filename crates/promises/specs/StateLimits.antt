@@ -245,7 +245,7 @@ heldBytes =
     ∷ placed begun (replicate 26 0) 0 (13 ∷ 0 ∷ 0 ∷ [])
     ∷ placed begun (replicate 27 0) 0 (17 ∷ [])
     ∷ placed begun (replicate 28 0) 0 (13 ∷ 0 ∷ 0 ∷ [])
-    ∷ placed begun (replicate 27 0) 28 (13 ∷ 0 ∷ 0 ∷ [])
+    ∷ placed begun (0 ∷ 26 ∷ replicate 25 1) 28 (13 ∷ 0 ∷ 0 ∷ [])
     -- unused places zero
     ∷ placed begun (1 ∷ replicate 26 0) 0 (13 ∷ 0 ∷ 0 ∷ [])
     ∷ placed begun (1 ∷ replicate 26 0) 1 (17 ∷ [])

@@ -1,4 +1,4 @@
--- The bounds of the farm's own figures, over their ranges, and CO2e of a total as grams. Assumes nothing.
+-- The bounds of the farm's own figures, over their ranges, and these and CO2e of a total as whole numbers. Assumes nothing.
 use mathlib.Core.Path.{_≡_, ap, _∙_}
 use Prim.Native.Nat.{ℕ, _+_, _*_, _^_, _≤_}
 use native.Mathlib.Omega.{arith}
@@ -6,6 +6,7 @@ use native.Mathlib.Nat.{le-trans}
 use lib.Dec.{lit≤}
 use lib.IntN.{ℤ, pos, _+ℤ_}
 use Rattle.base.proofs.Signed.{signed-word}
+use Rattle.grams.specs.Round.{roundDiv}
 use Rattle.grams.specs.Units.{gramsCo2, co2Grams, plusCo2, Co2Within}
 use Rattle.grams.specs.Farm.{EnergyIn, SoilIn, FactorsMost, SumsIn, energyOf, soilOf, co2eOf}
 use Rattle.grams.specs.declared.units.Co2.{Co2}
@@ -22,6 +23,19 @@ energy-small i = within-grams (pos _) 1 (rounds _ _ (i .amount-in ⊗ i .factor-
 pub soil-small : {area : ℕ} → SoilIn area → Co2Within 1 (soilOf area)
 unfolding soilOf
 soil-small i = within-grams (pos _) 1 (rounds _ _ (i .area-in ⊗ num _) tt tt)
+
+-- read as a signed number, each is the number that its rule gives: none is cut by its word
+pub energy-grams : {amount factor : ℕ} → EnergyIn amount factor → co2Grams (energyOf amount factor) ≡ pos (roundDiv (amount * factor) 10)
+unfolding energyOf
+energy-grams {amount} {factor} i =
+    let most : roundDiv (amount * factor) 10 ≤ 10 ^ 13 = rounds _ _ (i .amount-in ⊗ i .factor-in) tt tt in
+    signed-word (pos (roundDiv (amount * factor) 10)) (omega (arith, most))
+
+pub soil-grams : {area : ℕ} → SoilIn area → co2Grams (soilOf area) ≡ pos (roundDiv (area * 550000) 3)
+unfolding soilOf
+soil-grams {area} i =
+    let most : roundDiv (area * 550000) 3 ≤ 10 ^ 13 = rounds _ _ (i .area-in ⊗ num _) tt tt in
+    signed-word (pos (roundDiv (area * 550000) 3)) (omega (arith, most))
 
 others-added : (c : Co2) (n : ℕ) → Co2Within 4096 c → n ≤ 49152 * 10 ^ 13 → co2Grams (plusCo2 c (gramsCo2 (pos n))) ≡ co2Grams c +ℤ pos n
 others-added c n p h =
