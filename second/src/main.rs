@@ -18,7 +18,7 @@ const USAGE: &str = "usage:
   second desk SEED COUNT             books for the C host, with what they should give
   second typed                       reads a typed text, writes its book and says what the writer says
   second text SEED INDEX             a typed text by chance
-  second salvage                     reads a damaged book, writes the clean one and says what was dropped
+  second salvage [LIST]              reads a damaged book, writes the clean one, perhaps the list's bytes to a file, and says what was dropped
   second damaged SEED INDEX          a damaged book by chance
   second book SEED INDEX             a book by chance
   second listed                      reads a book, prints and says what the lister does
@@ -49,7 +49,8 @@ fn main() {
         ["desk", seed, count] => desk_books(seed, count),
         ["typed"] => enter_typed(),
         ["text", seed, index] => some_text(seed, index),
-        ["salvage"] => save_damaged(),
+        ["salvage"] => save_damaged(None),
+        ["salvage", list] => save_damaged(Some(list)),
         ["damaged", seed, index] => some_damaged(seed, index),
         ["book", seed, index] => some_book(seed, index),
         ["listed"] => tell(programs::listed),
@@ -151,14 +152,17 @@ fn some_text(seed: &str, index: &str) -> Result<(), String> {
     write_bytes(&texts::text(seed, index))
 }
 
-/// The clean book is on standard output, what was dropped on standard error; the status is 1 where no book was saved.
-fn save_damaged() -> Result<(), String> {
+/// The clean book is on standard output, what was dropped on standard error; the status is 1 where no book was saved or not all was read.
+fn save_damaged(list: Option<&str>) -> Result<(), String> {
     let mut damaged = Vec::new();
     io::stdin().read_to_end(&mut damaged).map_err(|e| e.to_string())?;
     let told = salvage::tell(&damaged);
     write_bytes(&told.book)?;
+    if let Some(list) = list {
+        std::fs::write(list, &told.list).map_err(|e| e.to_string())?;
+    }
     eprint!("{}", told.said);
-    if !told.saved {
+    if !(told.saved && told.read) {
         std::process::exit(1);
     }
     Ok(())

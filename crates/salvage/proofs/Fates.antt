@@ -1,6 +1,6 @@
 -- What becomes of one record: laws of the number that drops it, and of the reading behind it.
 -- Assumes nothing.
-use Prim.Native.Nat.{ℕ, _+_, _<_}
+use Prim.Native.Nat.{ℕ, _+_, _≤_, _<_}
 use mathlib.Core.Path.{_≡_, refl, sym, ap, _∙_}
 use mathlib.Core.List.{List, [], _∷_}
 use mathlib.Core.Bool.{Bool, true, false, _&&_, _||_, not}
@@ -19,7 +19,7 @@ use Rattle.account.specs.Sorts.{isFarm, sortOf, isOfGroup}
 use Rattle.account.specs.Account.{closed}
 use Rattle.account.specs.Judge.{versionOf, kindByte, recordRow, valuesOf, headingServes, inPlace, first, refusals, Step, accepted, judge}
 use Rattle.account.proofs.Sorts.{by-sort, closes-eight}
-use Rattle.account.proofs.Refusals.{not-refused}
+use Rattle.account.proofs.Refusals.{not-refused, number-most}
 use Rattle.account.proofs.Keeps.{in-range-judge}
 use Rattle.salvage.specs.declared.Reading.{Reading}
 use Rattle.salvage.specs.Salvage.{wouldGet, oneOf, drops, droppedBy, ends, readingAfter}
@@ -129,6 +129,18 @@ none-drops c k lost (inr z) e = go (oneOf 2 4 c) (lost && isOfGroup k) (oneOf 6 
     go false false true p e = e
     go false false false p e = no-bool p
 
+-- the number fits a byte
+drops-most : (c k : ℕ) (lost : Bool) → c ≤ 12 → first (drops c k lost) < 256
+unfolding first
+drops-most c k lost h =
+    of-choice (λ (n : ℕ). n < 256) (oneOf 2 4 c) (λ e. omega arith)
+    (λ e. of-choice (λ (n : ℕ). n < 256) (lost && isOfGroup k) (λ e. omega arith)
+    (λ e. of-choice (λ (n : ℕ). n < 256) (oneOf 6 11 c) (λ e. omega arith) (λ e. omega arith)))
+
+pub dropped-most : (s : Reading) (r : List ℕ) → droppedBy s r < 256
+unfolding droppedBy
+dropped-most s r = drops-most (wouldGet (s .account) r) (kindByte r) (s .lost) (number-most (s .account) r)
+
 module _ (s : Reading) (r : List ℕ) where
   -- a kept record would get no number: 5 and 12 alone drop nothing, and they do not come
   pub kept-right : droppedBy s r ≡ 0 → (kindByte r ≡ 8 → ⊥) → s .account .records < 4096 → wouldGet (s .account) r ≡ 0
@@ -199,18 +211,27 @@ module _ (s : Reading) (r : List ℕ) where
     kept-records d = rw (kept-account d) (grows (s .account) r (gets-none d) .records)
 
     module _ (o : Open s) where
+      headed-so : readingAfter s r .heading ≤ readingAfter s r .number
+      headed-so = of-choice (λ (n : ℕ). n ≤ s .number + 1) (eqb (kindByte r) 2) (λ e. omega arith) (λ e. omega (arith, o .headed))
+
       pub open-after : Open (readingAfter s r)
       open-after = go (eqb (droppedBy s r) 0) refl
         where
           go : (b : Bool) → eqb (droppedBy s r) 0 ≡ b
-              → Open (record { account = pick b (judge (s .account) r .account) (s .account); lost = readingAfter s r .lost; number = readingAfter s r .number })
+              → Open (record {
+                account = pick b (judge (s .account) r .account) (s .account);
+                lost = readingAfter s r .lost;
+                heading = readingAfter s r .heading;
+                number = readingAfter s r .number;
+              })
           go true d =
               let z = eqb-true _ _ d in
               record {
                 range = in-range-judge (s .account) r (o .range) (o .early);
                 early = grows (s .account) r (gets-none z) .early (λ k. no-close z (row-eight (versionOf r) (kindByte r) k)) (o .early);
+                headed = headed-so;
               }
-          go false d = record { range = o .range; early = o .early }
+          go false d = record { range = o .range; early = o .early; headed = headed-so }
 
     pub records-after : readingAfter s r .account .records ≡ s .account .records + pick (eqb (droppedBy s r) 0) 1 0
     records-after = go (eqb (droppedBy s r) 0) refl

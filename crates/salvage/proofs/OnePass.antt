@@ -25,7 +25,7 @@ use Rattle.salvage.specs.Inner.{Open, Turned, bookFrom, noteOf, Measured
 use Rattle.salvage.proofs.OneTurn.{none-found}
 
 pub open-start : Open start
-open-start = record { range = in-range-none; early = omega arith }
+open-start = record { range = in-range-none; early = omega arith; headed = omega arith }
 
 -- ---- a record more
 

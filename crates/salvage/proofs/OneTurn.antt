@@ -1,49 +1,39 @@
 -- One turn: what is found in some bytes, by the record at their front.
 -- Assumes nothing.
 use Prim.Native.Nat.{ℕ, _+_, _≤_, _<_}
-use mathlib.Core.Path.{_≡_, refl, _∙_}
+use mathlib.Core.Path.{_≡_, refl, sym, ap, _∙_}
 use mathlib.Core.List.{List, [], _∷_}
 use mathlib.Core.Bool.{Bool, true, false, _&&_, _||_, not}
 use mathlib.Core.Logic.{⊎-elim}
 use native.Mathlib.Omega.{arith}
 use borrow.Author.Tests.{eqb-true, eqb-false, ne-eqb}
-use lib.ListN.{take, drop}
+use lib.ListN.{drop}
 use lib.Dec.{leb, eqb}
 use Rattle.base.specs.Choice.{pick}
-use Rattle.base.proofs.Tests.{or-left, or-right, lt-or-ge}
+use Rattle.base.proofs.Tests.{by-test, no-bool, not-true, not-false, or-l, lt-or-ge}
 use Rattle.account.specs.declared.Account.{Account}
 use Rattle.account.specs.Judge.{kindByte, first, judge}
-use Rattle.book.specs.Front.{whole, front}
-use Rattle.book.proofs.Fronts.{meaning}
+use Rattle.book.specs.Front.{Front, unfinished, badLength, whole, need, front}
+use Rattle.book.specs.Inner.{frontNumber}
+use Rattle.book.specs.Walk.{recordAt}
 use Rattle.book.specs.WholeRecords.{recordsOf}
+use Rattle.book.proofs.Fronts.{meaning}
 use Rattle.book.proofs.WholeRecords.{records-whole}
 use Rattle.book.proofs.Walks.{records-none}
 use Rattle.salvage.specs.declared.Reading.{Reading}
+use Rattle.salvage.specs.declared.turns.Seen.{Seen}
 use Rattle.salvage.specs.declared.turns.Turn.{Turn}
-use Rattle.book.specs.WholeRecords.{Ready}
 use Rattle.salvage.specs.Salvage.{Found, nothing, with, drops, droppedBy, ends, readingAfter, found, foundIn}
-use Rattle.salvage.specs.Inner.{Open, Turned}
+use Rattle.salvage.specs.HowFar.{goesOn, reached, reachedIn}
+use Rattle.salvage.specs.Inner.{Open, Sees, Turned}
 use Rattle.salvage.proofs.Fates.{code-is, open-after, records-after}
 
 -- ---- the number and the reading behind a record, as they are computed
 
-module _ (s : Reading) (r : List ℕ) (code kind : ℕ) (k : kind ≡ kindByte r) where
-  pub code-told : (b : Account) → Open s → b ≡ judge (s .account) r .account
-      → code ≡ first (drops (b .refusal .code) kind (s .lost)) → code ≡ droppedBy s r
-  unfolding droppedBy
-  code-told b o t e = e ∙ rw (t, code-is (s .account) r (o .range) (o .early), k)
-
-  module _ (d : code ≡ droppedBy s r) where
-    pub close-ends : eqb kind 8 && eqb code 0 ≡ true → ends s r ≡ true
-    close-ends e = or-left (leb 4095 (s .account .records)) _ (λ z. rw (k, d) at e)
-
-    pub other-goes : leb 4095 (s .account .records) ≡ false → eqb kind 8 && eqb code 0 ≡ false → ends s r ≡ false
-    other-goes f e = rw f (rw (k, d) at e)
-
-    pub next-is : (a : Account) (lost : Bool) → a ≡ pick (eqb code 0) (judge (s .account) r .account) (s .account)
-        → lost ≡ pick (eqb kind 2) (not (eqb code 0)) (s .lost)
-        → _≡_ {A = Reading} (record { account = a; lost = lost; number = s .number + 1 }) (readingAfter s r)
-    next-is a lost e l = rw (e, l, d, k)
+pub code-told : (s : Reading) (r : List ℕ) (code kind : ℕ) → kind ≡ kindByte r → (b : Account) → Open s → b ≡ judge (s .account) r .account
+    → code ≡ first (drops (b .refusal .code) kind (s .lost)) → code ≡ droppedBy s r
+unfolding droppedBy
+code-told s r code kind k b o t e = e ∙ rw (t, code-is (s .account) r (o .range) (o .early), k)
 
 -- ---- the fold, by what its first record does
 
@@ -84,20 +74,78 @@ by-records P ended kept dropped s (r ∷ rs) = go (ends s r) refl (by-records P 
 
 -- ---- the same over bytes
 
+-- a front is one of the three
+clash : (f : Front) → (frontNumber f ≡ 2 → ⊥) → f ≡ whole → ⊥
+clash f n e = n (ap frontNumber e)
+
 pub none-found : (s : Reading) (xs : List ℕ) → (front xs ≡ whole → ⊥) → foundIn s xs ≡ nothing
 unfolding found
 none-found s xs n = rw (records-none xs n)
+
+module _ (s : Reading) (xs : List ℕ) where
+  -- the reading goes on where a whole record stands that does not end it
+  pub goes-whole : goesOn (front xs) s xs ≡ true → (front xs ≡ whole) × (ends s (recordAt xs) ≡ false)
+  goes-whole = go (front xs) refl
+    where
+      go : (f : Front) → front xs ≡ f → goesOn f s xs ≡ true → (front xs ≡ whole) × (ends s (recordAt xs) ≡ false)
+      go unfinished e h = no-bool h
+      go badLength e h = no-bool h
+      go whole e h = (e, not-true (ends s (recordAt xs)) h)
+
+  pub whole-goes : front xs ≡ whole → ends s (recordAt xs) ≡ false → goesOn (front xs) s xs ≡ true
+  whole-goes e h = rw (e, h)
+
+  pub whole-stops : front xs ≡ whole → ends s (recordAt xs) ≡ true → goesOn (front xs) s xs ≡ false
+  whole-stops e h = rw (e, h)
+
+  pub none-stops : (front xs ≡ whole → ⊥) → goesOn (front xs) s xs ≡ false
+  none-stops n = by-test (goesOn (front xs) s xs) (λ t. absurd (n (goes-whole t .0))) (λ t. t)
+
+  -- where it does not go on, what holds of no record and of one that ends it holds of the records
+  pub stops-by : (P : List (List ℕ) → Type 0) → P [] → ((r : List ℕ) (rs : List (List ℕ)) → ends s r ≡ true → P (r ∷ rs))
+      → goesOn (front xs) s xs ≡ false → P (recordsOf xs)
+  stops-by P none some = go (front xs) refl
+    where
+      go : (f : Front) → front xs ≡ f → goesOn f s xs ≡ false → P (recordsOf xs)
+      go unfinished e h = rw (records-none xs (λ w. clash unfinished (λ z. absurd (omega arith)) (sym e ∙ w))) none
+      go badLength e h = rw (records-none xs (λ w. clash badLength (λ z. absurd (omega arith)) (sym e ∙ w))) none
+      go whole e h = rw (records-whole xs e) (some (recordAt xs) (recordsOf (drop (need xs) xs)) (not-false (ends s (recordAt xs)) h))
+
+  module _ (h : goesOn (front xs) s xs ≡ false) where
+    pub stops-found : foundIn s xs ≡ nothing
+    unfolding found
+    stops-found = stops-by (λ (rs : List (List ℕ)). found s rs ≡ nothing) refl (found-ends s) h
+
+    pub stops-reached : reachedIn s xs ≡ s
+    unfolding reached
+    stops-reached = stops-by (λ (rs : List (List ℕ)). reached s rs ≡ s) refl (λ r rs e. rw e) h
+
+  module _ (h : goesOn (front xs) s xs ≡ true) where
+    pub goes-found : foundIn s xs
+        ≡ with (droppedBy s (recordAt xs)) (s .number) (recordAt xs) (foundIn (readingAfter s (recordAt xs)) (drop (need xs) xs))
+    goes-found = let w = goes-whole h in rw (records-whole xs (w .0)) (found-goes s (recordAt xs) (recordsOf (drop (need xs) xs)) (w .1))
+
+    pub goes-reached : reachedIn s xs ≡ reachedIn (readingAfter s (recordAt xs)) (drop (need xs) xs)
+    unfolding reached
+    goes-reached = let w = goes-whole h in rw (records-whole xs (w .0)) (rw (w .1))
+
+-- ---- one turn
 
 -- the end of the reading, with no bytes
 abbrev pub ended : Reading → Turn
 ended s = record { n = 0; code = 0; next = s }
 
-turned-ended : (s : Reading) (xs : List ℕ) → Open s → foundIn s xs ≡ nothing → Turned s xs (ended s)
+turned-ended : (s : Reading) (xs : List ℕ) → Open s → goesOn (front xs) s xs ≡ false → Turned s xs (ended s)
 turned-ended s xs o e =
     record {
+      stops = λ z. e;
+      on = λ h. absurd (omega arith);
+      size = λ h. absurd (omega arith);
+      code-is = λ h. absurd (omega arith);
+      next-is = λ h. absurd (omega arith);
       inside = omega arith;
       most = omega arith;
-      ended = λ z. e;
+      ended = λ z. stops-found s xs e;
       first-of = λ h. absurd (omega arith);
       goes = λ h. absurd (omega arith);
       opened = o;
@@ -105,33 +153,64 @@ turned-ended s xs o e =
       records = λ h. absurd (omega arith);
     }
 
-module _ (s : Reading) (xs : List ℕ) (n : ℕ) (o : Open s) (y : Ready xs n) where
-  -- it ends at a record
-  pub ends-at : 0 < n → ends s (take n xs) ≡ true → Turned s xs (ended s)
-  ends-at h e =
-      let w = y .some h in
-      turned-ended s xs o (rw (records-whole xs (w .0), ← w .1) (found-ends s (take n xs) (recordsOf (drop n xs)) e))
+-- v is the record at the front of xs
+module _ (s : Reading) (xs : List ℕ) (v : Seen) (o : Open s) (y : Sees s xs v) where
+  -- it lies whole there
+  seen : 0 < v .size → (front xs ≡ whole) × (v .size ≡ need xs)
+  seen h = y .ready .some h
 
-  -- there is no record, or 4,095 are kept
-  pub ends-before : eqb n 0 || leb 4095 (s .account .records) ≡ true → Turned s xs (ended s)
-  ends-before e =
-      ⊎-elim (λ (h : 0 < n). ends-at h (rw (or-right (eqb n 0) (leb 4095 (s .account .records)) e (ne-eqb n 0 (λ z. omega arith)))))
-      (λ (h : n ≤ 0). turned-ended s xs o (none-found s xs (y .none (omega arith))))
-      (lt-or-ge 0 n)
+  -- whether it ends the reading
+  ends-is : 0 < v .size → ends s (recordAt xs) ≡ leb 4095 (s .account .records) || (eqb (v .kind) 8 && eqb (v .code) 0)
+  ends-is h = rw (y .kind h, y .code h, seen h .1)
 
-  -- or it goes on behind the record
-  pub goes-on : 0 < n → ends s (take n xs) ≡ false → (t : Turn) → t .n ≡ n → t .code ≡ droppedBy s (take n xs)
-      → t .next ≡ readingAfter s (take n xs) → Turned s xs t
-  goes-on h e t is-n is-code is-next =
-      let w = y .some h in
-      let m = meaning xs whole (w .0) in
-      record {
-        inside = omega (arith, is-n, w .1, m .3);
-        most = omega (arith, is-n, w .1, m .2);
-        ended = λ z. absurd (omega arith);
-        first-of = λ z. rw (is-n, w .1) (records-whole xs (w .0));
-        goes = λ z. rw (is-n, is-code, is-next, records-whole xs (w .0), ← w .1) (found-goes s (take n xs) (recordsOf (drop n xs)) e);
-        opened = rw is-next (open-after s (take n xs) e o);
-        number = λ z. rw is-next refl;
-        records = λ z. rw (is-next, is-code) (records-after s (take n xs) e);
-      }
+  -- there is no record, 4,095 are kept, or it is a close that nothing drops
+  pub ends-here : (eqb (v .size) 0 || leb 4095 (s .account .records)) || (eqb (v .kind) 8 && eqb (v .code) 0) ≡ true → Turned s xs (ended s)
+  ends-here e =
+      ⊎-elim
+      (λ (h : 0 < v .size).
+      let z : leb 4095 (s .account .records) || (eqb (v .kind) 8 && eqb (v .code) 0) ≡ true = rw (ne-eqb (v .size) 0 (λ z. omega arith)) at e in
+      turned-ended s xs o (whole-stops s xs (seen h .0) (ends-is h ∙ z)))
+      (λ (h : v .size ≤ 0). turned-ended s xs o (none-stops s xs (y .ready .none (omega arith))))
+      (lt-or-ge 0 (v .size))
+
+  module _ (e : (eqb (v .size) 0 || leb 4095 (s .account .records)) || (eqb (v .kind) 8 && eqb (v .code) 0) ≡ false) where
+    some : 0 < v .size
+    some =
+        let a = eqb (v .size) 0 in
+        let b = leb 4095 (s .account .records) in
+        let z = eqb-false (v .size) 0 (or-l a b (or-l (a || b) (eqb (v .kind) 8 && eqb (v .code) 0) e)) in
+        omega (arith, z)
+
+    goes-here : ends s (recordAt xs) ≡ false
+    goes-here = ends-is some ∙ (rw (ne-eqb (v .size) 0 (λ z. omega (arith, some))) at e)
+
+    -- the reading behind it, field by field
+    pub next-so : (a : Account) (lost : Bool) (heading : ℕ) → a ≡ pick (eqb (v .code) 0) (v .account) (s .account)
+        → lost ≡ pick (eqb (v .kind) 2) (not (eqb (v .code) 0)) (s .lost) → heading ≡ pick (eqb (v .kind) 2) (s .number) (s .heading)
+        → _≡_ {A = Reading} (record { account = a; lost = lost; heading = heading; number = s .number + 1 }) (readingAfter s (recordAt xs))
+    next-so a lost heading p q r =
+        let w = seen some .1 in
+        rw (p, q, r, y .account some, y .kind some, y .code some, w)
+
+    -- it goes on behind the record
+    pub goes-on : (t : Turn) → t .n ≡ v .size → t .code ≡ v .code → t .next ≡ readingAfter s (recordAt xs) → Turned s xs t
+    goes-on t is-n is-code is-next =
+        let w = seen some in
+        let m = meaning xs whole (w .0) in
+        let n : t .n ≡ need xs = is-n ∙ w .1 in
+        let c : t .code ≡ droppedBy s (recordAt xs) = is-code ∙ rw (w .1) at (y .code some) in
+        record {
+          stops = λ z. absurd (omega (arith, z, is-n, some));
+          on = λ h. whole-goes s xs (w .0) goes-here;
+          size = λ h. n;
+          code-is = λ h. c;
+          next-is = λ h. is-next;
+          inside = omega (arith, n, m .3);
+          most = omega (arith, n, m .2);
+          ended = λ z. absurd (omega (arith, z, is-n, some));
+          first-of = λ z. rw n (records-whole xs (w .0));
+          goes = λ z. rw (n, c, is-next) (goes-found s xs (whole-goes s xs (w .0) goes-here));
+          opened = rw is-next (open-after s (recordAt xs) goes-here o);
+          number = λ z. rw is-next refl;
+          records = λ z. rw (is-next, c) (records-after s (recordAt xs) goes-here);
+        }

@@ -17,6 +17,8 @@ use Rattle.book.specs.WholeRecords.{recordsBy, recordsOf}
 use Rattle.book.specs.State.{noRecordYet}
 use Rattle.book.specs.Run.{bookBy, book, run}
 use Rattle.salvage.specs.Salvage.{droppedBy, found, listOf, farmAmong, refusing, saving, answering, salvageOf}
+use Rattle.salvage.specs.declared.how_far.Ending.the-variants.{AtEnd, AtClose, NoLength, NotWhole}
+use Rattle.salvage.specs.HowFar.{reached, endOf}
 use Rattle.salvage.specs.Promised.{underHeadings, details}
 
 -- ---- a damaged book
@@ -62,6 +64,17 @@ pub damaged-saved : salvageOf damaged 64 36 ≡ saving clean (joined (entry 3 7 
 unfolding salvageOf answering found recordsOf recordsBy front valAt droppedBy first judge accepted sortOf table size valuesAt firstBad inPlace
     listOf farmAmong be bytesOf recordBytes
 damaged-saved = refl
+
+-- its reading ends at the close, and the farm record after it is not read
+pub damaged-end : endOf damaged ≡ record { at = 101; why = AtClose; unread = 11 }
+unfolding endOf reached found recordsOf recordsBy front valAt droppedBy first judge accepted sortOf table size valuesAt firstBad inPlace
+damaged-end = refl
+
+-- a length that no record has, a record that is not whole, and the end of the bytes
+pub other-ends : (endOf (farm ++ (0 ∷ 93 ∷ 7 ∷ [])) ≡ record { at = 11; why = NoLength 93; unread = 3 })
+    × ((endOf (farm ++ (0 ∷ 9 ∷ [])) ≡ record { at = 11; why = NotWhole; unread = 2 }) × (endOf farm ≡ record { at = 11; why = AtEnd; unread = 0 }))
+unfolding endOf reached found recordsOf recordsBy front valAt droppedBy first judge accepted sortOf table size valuesAt firstBad inPlace
+other-ends = (refl, (refl, refl))
 
 -- there is a detail for heading-kept to speak of
 pub detail-kept : details (underHeadings [] (recordsOf clean)) ≡ record { detail = ration 31; heading = heading 1 } ∷ []

@@ -5,23 +5,44 @@ use mathlib.Core.Path.{_≡_}
 use mathlib.Core.List.{List, [], _∷_, _++_}
 use lib.ListN.{length, take, drop}
 use lib.Dec.{eqb}
+use mathlib.Core.Bool.{true, false}
 use Rattle.base.specs.Choice.{pick}
 use Rattle.codec.specs.Codec.{recordBytes}
 use Rattle.account.specs.Range.{AccountInRange}
+use Rattle.account.specs.Judge.{kindByte, judge}
 use Rattle.account.specs.Line.{joined}
-use Rattle.book.specs.WholeRecords.{recordsOf}
+use Rattle.book.specs.Front.{need, front}
+use Rattle.book.specs.WholeRecords.{Ready, recordsOf}
+use Rattle.book.specs.Walk.{recordAt}
 use Rattle.salvage.specs.declared.Reading.{Reading}
+use Rattle.salvage.specs.declared.turns.Seen.{Seen}
 use Rattle.salvage.specs.declared.turns.Turn.{Turn}
+use Rattle.salvage.specs.declared.how_far.Reached.{Reached}
 use Rattle.salvage.specs.declared.passes.Sizes.{Sizes}
-use Rattle.salvage.specs.Salvage.{Found, nothing, with, foundIn, entryBytes, bookOf}
+use Rattle.salvage.specs.Salvage.{droppedBy, readingAfter, start, Found, nothing, with, foundIn, entryBytes, bookOf}
+use Rattle.salvage.specs.HowFar.{goesOn, reachedIn, bytesRead}
 
--- the account of the kept records is that of an open book
+-- the account of the kept records is that of an open book, and the last heading stands before the next record
 pub record Open (s : Reading) : Type 0 where
   pub range : AccountInRange (s .account)
   pub early : s .account .stage < 2
+  pub headed : s .heading ≤ s .number
+
+-- v is the record that lies whole at the front of xs, seen after the reading s; with no bytes there is none
+pub record Sees (s : Reading) (xs : List ℕ) (v : Seen) : Type 0 where
+  pub ready : Ready xs (v .size)
+  pub inside : v .size ≤ length xs
+  pub kind : 0 < v .size → v .kind ≡ kindByte (take (v .size) xs)
+  pub code : 0 < v .size → v .code ≡ droppedBy s (take (v .size) xs)
+  pub account : 0 < v .size → v .account ≡ judge (s .account) (take (v .size) xs) .account
 
 -- t is one record of xs: its bytes, the number that drops it, and the reading behind it; with no bytes the reading ends
 pub record Turned (s : Reading) (xs : List ℕ) (t : Turn) : Type 0 where
+  pub stops : t .n ≡ 0 → goesOn (front xs) s xs ≡ false
+  pub on : 0 < t .n → goesOn (front xs) s xs ≡ true
+  pub size : 0 < t .n → t .n ≡ need xs
+  pub code-is : 0 < t .n → t .code ≡ droppedBy s (recordAt xs)
+  pub next-is : 0 < t .n → t .next ≡ readingAfter s (recordAt xs)
   pub inside : t .n ≤ length xs
   pub most : t .n ≤ 28
   pub ended : t .n ≡ 0 → foundIn s xs ≡ nothing
@@ -44,3 +65,10 @@ pub record Measured (f : Found) (m : Sizes) : Type 0 where
   pub kept : m .kept ≡ length (f .kept)
   pub book : m .book ≡ length (bookOf (f .kept))
   pub dropped : m .dropped ≡ length (f .dropped)
+
+-- r is where the reading of xs ends
+pub record Reaches (xs : List ℕ) (r : Reached) : Type 0 where
+  pub reading : r .reading ≡ reachedIn start xs
+  pub at : r .at ≡ bytesRead start xs
+  pub within : r .at ≤ length xs
+  pub opened : Open (r .reading)

@@ -1,6 +1,6 @@
--- Document 02, W5: the words of two promises, "each kept detail has the heading it had" and "a list of what was dropped".
+-- Document 02, W5: the words of three promises, "each kept detail has the heading it had", "a list of what was dropped" and what ends the reading.
 -- Assumes nothing.
-use Prim.Native.Nat.{ℕ, _+_}
+use Prim.Native.Nat.{ℕ, _+_, _≤_}
 use mathlib.Core.Path.{_≡_}
 use mathlib.Core.List.{List, [], _∷_}
 use mathlib.Core.Bool.{Bool, true, false, _||_}
@@ -11,7 +11,8 @@ use Rattle.base.specs.Choice.{pick}
 use Rattle.account.specs.Sorts.{isOfGroup}
 use Rattle.account.specs.declared.Account.{Account}
 use Rattle.account.specs.Judge.{kindByte, judge}
-use Rattle.salvage.specs.Salvage.{wouldGet, oneOf, Entry, Found}
+use Rattle.salvage.specs.declared.Reading.{Reading}
+use Rattle.salvage.specs.Salvage.{wouldGet, oneOf, droppedBy, Entry, Found}
 
 -- ---- kept or listed
 
@@ -39,6 +40,14 @@ Reasons a lost n [] (e ∷ es) = ⊥
 Reasons a lost n (r ∷ rs) (e ∷ es) =
     (e .number ≡ n → Reason a lost r (e .code) × Reasons a (pick (eqb (kindByte r) 2) true lost) (n + 1) rs es)
     × ((e .number ≡ n → ⊥) → Reasons (judge a r .account) (pick (eqb (kindByte r) 2) false lost) (n + 1) rs (e ∷ es))
+
+-- ---- until an end
+
+-- one of the ends stands there, s being the reading after all that was read and rs the whole records left: none, since the bytes end or a length
+-- that no record has comes (code 1); or 4,095 records are kept; or the next is "a close that none of these drops"
+abbrev pub EndAt : Reading → List (List ℕ) → Type 0
+EndAt s [] = Unit {0}
+EndAt s (r ∷ rs) = (4095 ≤ s .account .records) ⊎ ((kindByte r ≡ 8) × (droppedBy s r ≡ 0))
 
 -- ---- headings
 

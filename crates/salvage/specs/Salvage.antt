@@ -52,14 +52,16 @@ ends s r = leb 4095 (s .account .records) || (eqb (kindByte r) 8 && eqb (dropped
 
 -- before any record
 abbrev pub start : Reading
-start = record { account = noRecord; lost = false; number = 0 }
+start = record { account = noRecord; lost = false; heading = 0; number = 0 }
 
--- after r: a kept record is in the account; of a record of kind byte 2 it is noted whether it was dropped; the next number is one higher
+-- after r: a kept record is in the account; of a record of kind byte 2 it is noted whether it was dropped, and its number; the next number is one
+-- higher
 abbrev pub readingAfter : Reading → List ℕ → Reading
 readingAfter s r =
     record {
       account = pick (eqb (droppedBy s r) 0) (judge (s .account) r .account) (s .account);
       lost = pick (eqb (kindByte r) 2) (not (eqb (droppedBy s r) 0)) (s .lost);
+      heading = pick (eqb (kindByte r) 2) (s .number) (s .heading);
       number = s .number + 1;
     }
 

@@ -1,6 +1,7 @@
 // A damaged book saved: a clean book of the records that are kept, and a list of those that are dropped.
-pub mod how_far; // how_far.rt: the bytes that are read
-pub mod remarks; // remarks.rt: what a person is told
+pub mod how_far; // how_far.rt: where the reading ends
+pub mod lines; // lines.rt: a line for each record that was dropped
+pub mod remarks; // remarks.rt: the last words
 mod moves;
 mod passes;
 mod turns;
@@ -12,22 +13,24 @@ ghost use mathlib.Core.Path.{_≡_};
 ghost use lib.ListN.{length};
 ghost use Rattle.salvage.specs.Salvage.{start, answerFor, bookAfter, listAfter, Inside};
 
-// The reading so far: the account of the kept records, whether the last record of kind byte 2 was dropped, and the next record's number.
+// The reading so far: the account of the kept records, whether the last record of kind byte 2 was dropped, its number, and the next record's number.
 pub struct Reading {
     pub account: Account,
     pub lost: bool,
+    pub heading: u64,
     pub number: u64,
 }
 
 impl Reading {
     // Before any record.
-    pub(crate) fn new() -> Reading
+    pub fn new() -> Reading
         ensures { λ r. ⌜ r ≡ start ⌝ }
     {
         let account = Account::new();
         Reading {
             account: account,
             lost: false,
+            heading: 0,
             number: 0,
         }
     }

@@ -1,54 +1,63 @@
-// What a person is told of a salvage: a line for each record of the list, the last word, and the status.
+// What a person is told of a salvage after the lines of the dropped records: where the reading ended, the counts, and the status.
 use crate::Salvaged;
-use base::rest_of;
-use codec::numbers::be8;
+use crate::how_far::Ending;
+use crate::how_far::ReadingEnd;
 use codec::numbers::be16;
-use codec::numbers::be64;
-use names::say_sentence;
 use printing::say;
 use printing::say_number;
 ghost use mathlib.Core.Path.{_≡_};
 ghost use Prim.Native.Nat.{_≤_};
 ghost use lib.ListN.{length};
-ghost use Rattle.codec.specs.Codec.{valAt};
 ghost use Rattle.printing.specs.Said.{Said};
-ghost use Rattle.salvage.specs.Remarks.{droppedText, listText, keptIn, savedText, refusedText, endText, tooLongText, statusByte};
+ghost use Rattle.salvage.specs.Remarks.{endingText, placeText, unreadText, readingText};
+ghost use Rattle.salvage.specs.Remarks.{keptIn, savedText, refusedText, endText, tooLongText, statusByte};
 
-// The line of a record with that number that the code dropped.
-fn say_dropped(out: &mut [u8], at: usize, number: u64, code: u64) -> usize
+// Why the reading ended.
+fn say_ending(out: &mut [u8], at: usize, why: Ending) -> usize
     requires { ⌜ at ≤ length (now out) ⌝ }
-    ensures { λ r. ⌜ Said (now (out .entry)) (now (out .exit)) at (droppedText number code) r ⌝ }
+    ensures { λ r. ⌜ Said (now (out .entry)) (now (out .exit)) at (endingText why) r ⌝ }
 {
-    let word = say(out, at, b"record ");
-    let which = say_number(out, word, number);
-    let dropped = say(out, which, b": dropped ");
-    let why = say_number(out, dropped, code);
-    let colon = say(out, why, b": ");
-    let words = say_sentence(out, colon, code);
-    say(out, words, b"\n")
-}
-
-// The line of the entry at the front of list.
-fn say_entry(out: &mut [u8], at: usize, list: &[u8]) -> usize
-    requires { ⌜ (at ≤ length (now out)) × (9 ≤ length (now list)) ⌝ }
-    ensures { λ r. ⌜ Said (now (out .entry)) (now (out .exit)) at (droppedText (valAt (now (list .entry)) 0 8) (valAt (now (list .entry)) 8 1)) r ⌝ }
-{
-    let number = be64(list, 0);
-    let code = be8(list, 8);
-    say_dropped(out, at, number, code)
-}
-
-// A line for each entry of the list, from the start of out.
-pub fn say_list(out: &mut [u8], list: &[u8]) -> usize
-    ensures { λ r. ⌜ Said (now (out .entry)) (now (out .exit)) 0 (listText (now (list .entry))) r ⌝ }
-{
-    let mut i = 0;
-    let mut at = 0;
-    while 9 <= list.len() - i {
-        at = say_entry(out, at, rest_of(list, i));
-        i += 9;
+    match why {
+        Ending::AtEnd => say(out, at, b"the end of the bytes"),
+        Ending::AtClose => say(out, at, b"its close"),
+        Ending::Full => say(out, at, b"4095 records are kept"),
+        Ending::NoLength(n) => {
+            let word = say(out, at, b"a length that no record has (");
+            let end = say_number(out, word, n);
+            say(out, end, b")")
+        }
+        Ending::NotWhole => say(out, at, b"a record that is not whole"),
     }
-    at
+}
+
+fn say_place(out: &mut [u8], at: u64) -> usize
+    ensures { λ r. ⌜ Said (now (out .entry)) (now (out .exit)) 0 (placeText at) r ⌝ }
+{
+    let word = say(out, 0, b"reading ended at byte ");
+    let byte = say_number(out, word, at);
+    say(out, byte, b": ")
+}
+
+fn say_unread(out: &mut [u8], at: usize, n: u64) -> usize
+    requires { ⌜ at ≤ length (now out) ⌝ }
+    ensures { λ r. ⌜ Said (now (out .entry)) (now (out .exit)) at (unreadText n) r ⌝ }
+{
+    let mark = say(out, at, b"; ");
+    let count = say_number(out, mark, n);
+    say(out, count, b" bytes were not read\n")
+}
+
+// Where and why the reading ended, from the start of out; nothing where all was read.
+fn say_reading(out: &mut [u8], end: ReadingEnd) -> usize
+    ensures { λ r. ⌜ Said (now (out .entry)) (now (out .exit)) 0 (readingText end) r ⌝ }
+{
+    if end.unread == 0 {
+        return 0;
+    }
+    let place = say_place(out, end.at as u64);
+    let why = end.why;
+    let reason = say_ending(out, place, why);
+    say_unread(out, reason, end.unread)
 }
 
 // How many records are kept, by the close that the clean book ends with.
@@ -61,10 +70,11 @@ fn kept_in(book: &[u8]) -> u64
     be16(book, book.len() - 2)
 }
 
-fn say_saved(out: &mut [u8], kept: u64, dropped: u64) -> usize
-    ensures { λ r. ⌜ Said (now (out .entry)) (now (out .exit)) 0 (savedText kept dropped) r ⌝ }
+fn say_saved(out: &mut [u8], at: usize, kept: u64, dropped: u64) -> usize
+    requires { ⌜ at ≤ length (now out) ⌝ }
+    ensures { λ r. ⌜ Said (now (out .entry)) (now (out .exit)) at (savedText kept dropped) r ⌝ }
 {
-    let first = say_number(out, 0, kept);
+    let first = say_number(out, at, kept);
     let word = say(out, first, b" kept, ");
     let second = say_number(out, word, dropped);
     say(out, second, b" dropped\n")
@@ -78,12 +88,15 @@ fn say_refused(out: &mut [u8], number: u64) -> usize
     say(out, end, b"\n")
 }
 
-// The last word, of the answer and the clean book, from the start of out.
-pub fn say_end(out: &mut [u8], answer: Salvaged, book: &[u8]) -> usize
-    ensures { λ r. ⌜ Said (now (out .entry)) (now (out .exit)) 0 (endText answer (now (book .entry))) r ⌝ }
+// The last words, of the answer, the end of the reading and the clean book, from the start of out.
+pub fn say_end(out: &mut [u8], answer: Salvaged, end: ReadingEnd, book: &[u8]) -> usize
+    ensures { λ r. ⌜ Said (now (out .entry)) (now (out .exit)) 0 (endText answer end (now (book .entry))) r ⌝ }
 {
     match answer {
-        Salvaged::Saved(l) => say_saved(out, kept_in(book), (l.list / 9) as u64),
+        Salvaged::Saved(l) => {
+            let at = say_reading(out, end);
+            say_saved(out, at, kept_in(book), (l.list / 9) as u64)
+        }
         Salvaged::Refused(number) => say_refused(out, number as u64),
     }
 }
@@ -99,9 +112,9 @@ pub fn say_too_long(out: &mut [u8]) -> usize
     )
 }
 
-// The status byte: 0 only where a book was saved and everything was written.
-pub fn status(saved: bool, written: bool) -> u8
-    ensures { λ r. ⌜ r ≡ statusByte saved written ⌝ }
+// The status byte: 0 only where a book was saved, all of the damaged one was read, and everything was written.
+pub fn status(saved: bool, read: bool, written: bool) -> u8
+    ensures { λ r. ⌜ r ≡ statusByte saved read written ⌝ }
 {
-    if saved & written { b'0' } else { b'1' }
+    if saved & (read & written) { b'0' } else { b'1' }
 }

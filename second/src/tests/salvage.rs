@@ -96,6 +96,39 @@ fn what_ends_the_reading_is_not_listed() {
 }
 
 #[test]
+fn where_the_reading_ended_is_said() {
+    let begin = [farm(), heading(4)].concat();
+    let at = begin.len();
+    for (end, words) in [
+        (vec![0, 3, 1], "a length that no record has (3); 3 bytes were not read"),
+        (vec![1, 0, 1], "a length that no record has (256); 3 bytes were not read"),
+        (vec![0], "a record that is not whole; 1 bytes were not read"),
+        (vec![0, 9, 1], "a record that is not whole; 3 bytes were not read"),
+        ([close(2), vec![7]].concat(), "its close; 1 bytes were not read"),
+        ([close(9), close(2)].concat(), "its close; 6 bytes were not read"),
+    ] {
+        let told = tell(&[begin.clone(), end].concat());
+        let said = format!("reading ended at byte {at}: {words}\n2 kept, 0 dropped\n");
+        assert_eq!((told.said, told.saved, told.read), (said, true, false));
+    }
+    for end in [Vec::new(), close(2), close(9)] {
+        let told = tell(&[begin.clone(), end].concat());
+        assert_eq!((told.said.as_str(), told.read), ("2 kept, 0 dropped\n", true));
+    }
+}
+
+#[test]
+fn a_detail_that_goes_with_its_heading_names_it() {
+    let lost = [farm(), ration(), with(heading(5), 2, 2), ration(), with(ration(), 2, 3)].concat();
+    let told = tell(&lost);
+    let lines: Vec<&str> = told.said.lines().collect();
+    assert!(lines[0].starts_with("record 1: dropped 6: out of its place"), "{lines:?}");
+    assert_eq!(lines[2], "record 3: dropped 6: its heading, record 2, was dropped");
+    assert!(lines[3].starts_with("record 4: dropped 2: the version"), "{lines:?}");
+    assert_eq!(told.list[18..27], [0, 0, 0, 0, 0, 0, 0, 3, 6]);
+}
+
+#[test]
 fn a_close_before_any_farm_record_is_dropped() {
     assert_eq!(saved(&[close(0), farm(), close(1)]).1, [(0, 6)]);
     assert_eq!(saved(&[farm(), with(close(1), 2, 0), close(1)]).1, [(1, 2)]);
@@ -109,10 +142,19 @@ fn several_farm_records() {
 
 #[test]
 fn at_4095_kept_records_the_next_is_not_looked_at() {
-    for (details, kept) in [(4_093, 4_094), (4_094, 4_095), (4_095, 4_095)] {
-        let told = tell(&[long_book(details), vec![0, 4, 2, 8, 0, 0]].concat());
-        assert_eq!(told.said, format!("{kept} kept, 0 dropped\n"));
+    for (details, kept, why, unread) in [
+        (4_093, 4_094, "its close", 6),
+        (4_094, 4_095, "its close", 6),
+        (4_095, 4_095, "4095 records are kept", 20),
+    ] {
+        let Told { book, said, read, .. } =
+            tell(&[long_book(details), vec![0, 4, 2, 8, 0, 0]].concat());
+        let at = book.len() - 6;
+        let ended = format!("reading ended at byte {at}: {why}; {unread} bytes were not read\n");
+        assert_eq!((said, read), (format!("{ended}{kept} kept, 0 dropped\n"), false));
     }
+    let told = tell(&long_book(4_094));
+    assert_eq!((told.said.as_str(), told.read), ("4095 kept, 0 dropped\n", true));
 }
 
 #[test]
@@ -127,7 +169,7 @@ fn no_farm_record_is_19() {
         ),
         (b"kind,group,ch4\r\n".to_vec(), "this looks like a sheet: bin/unsheet reads it\n"),
     ] {
-        let Told { book, said, saved } = tell(&damaged);
+        let Told { book, said, saved, .. } = tell(&damaged);
         assert_eq!((book, said, saved), (Vec::new(), format!("refused 19\n{hint}"), false));
     }
 }
@@ -155,7 +197,9 @@ fn what_stands_after_the_end_does_not_count() {
     for book in [dropping(LONGEST), sample(), [farm(), vec![0; 2]].concat()] {
         let (alone, followed) = (tell(&book), tell(&[&book[..], &after[..]].concat()));
         assert!(alone.saved);
-        assert_eq!((alone.book, alone.said), (followed.book, followed.said));
+        assert_eq!(alone.book, followed.book);
+        assert_eq!(alone.said.lines().last(), followed.said.lines().last());
+        assert!(followed.said.contains(" bytes were not read\n") && !followed.read);
     }
 }
 

@@ -27,24 +27,11 @@ save-spec =
     (λ c. search needs)
     (λ c κs. search needs)
     (λ c. search needs)
-    (λ c.
-    let a = c .before in
-    let s = a .before .before .before .before .salvage .ensures in
-    let i = inside _ _ _ _ (a .answer .given .1) (s .1 .1 .1) .0 in
-    search needs)
-    (λ c.
-    let a = c .before .before in
-    let s = a .before .before .before .before .salvage .ensures in
-    sym (length-take-le _ _ (inside _ _ _ _ (a .answer .given .1) (s .1 .1 .1) .0)))
-    (λ c.
-    let a = c .before .before in
-    let s = a .before .before .before .before .salvage .ensures in
-    let i = inside _ _ _ _ (a .answer .given .1) (s .1 .1 .1) .1 in
-    search needs)
-    (λ c.
-    let a = c .before .before .before in
-    let s = a .before .before .before .before .salvage .ensures in
-    sym (length-take-le _ _ (inside _ _ _ _ (a .answer .given .1) (s .1 .1 .1) .1)))
+    (λ c κs. search needs)
+    (λ c. let i = inside _ _ _ _ (c .before .before .answer .given .1) (c .before .before .before .before .before .before .salvage .ensures .1 .1 .1) .0 in search needs)
+    (λ c. sym (length-take-le _ _ (inside _ _ _ _ (c .before .before .before .answer .given .1) (c .before .before .before .before .before .before .before .salvage .ensures .1 .1 .1) .0)))
+    (λ c. let i = inside _ _ _ _ (c .before .before .before .answer .given .1) (c .before .before .before .before .before .before .before .salvage .ensures .1 .1 .1) .1 in search needs)
+    (λ c. sym (length-take-le _ _ (inside _ _ _ _ (c .before .before .before .before .answer .given .1) (c .before .before .before .before .before .before .before .before .salvage .ensures .1 .1 .1) .1)))
     (λ c κs. search needs)
     (λ c. search needs)
     (λ c. search needs)
