@@ -113,12 +113,13 @@ function named(error) {
 }
 
 // One byte, 0 or 1, as the script of a program takes it.
+// 2 is the status 1 of a program whose output is whole all the same.
 function statusOf(bytes) {
     const status = bytes.length === 1 ? bytes[0] - 48 : -1;
-    if (status !== 0 && status !== 1) {
+    if (![0, 1, 2].includes(status)) {
         throw new ProgramError("NoStatus", "the program ended without its status");
     }
-    return status;
+    return Math.min(status, 1);
 }
 
 export function run(module, input, more) {

@@ -112,9 +112,12 @@ pub fn say_too_long(out: &mut [u8]) -> usize
     )
 }
 
-// The status byte: 0 only where a book was saved, all of the damaged one was read, and everything was written.
-pub fn status(saved: bool, read: bool, written: bool) -> u8
-    ensures { λ r. ⌜ r ≡ statusByte saved read written ⌝ }
+// The status byte: 0 only where a book was saved and went out, all of the damaged one was read, and all was told; 2 where one went out all the same.
+pub fn status(saved: bool, read: bool, told: bool) -> u8
+    ensures { λ r. ⌜ r ≡ statusByte saved read told ⌝ }
 {
-    if saved & (read & written) { b'0' } else { b'1' }
+    if saved & (read & told) {
+        return b'0';
+    }
+    if saved { b'2' } else { b'1' }
 }

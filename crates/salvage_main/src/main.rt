@@ -23,11 +23,11 @@ const LOOKED: usize = 131100;
 // Where a caller that gives two arguments wants the list.
 const LIST_FILENO: i32 = 4;
 
-// Whether a book was saved, whether all of the damaged one was read, and whether everything was written.
+// Whether a book was saved and went out, with its list where that is asked for; whether all of the damaged one was read, and whether all was told.
 struct Done {
     saved: bool,
     read: bool,
-    written: bool,
+    told: bool,
 }
 
 // The end of the reading, and whether no read failed after it.
@@ -170,25 +170,17 @@ fn give(answer: Salvaged, rest: Rest, damaged: &[u8], book: &[u8], list: &[u8]) 
     let end = rest.end;
     let read = rest.good & end.all_read();
     if !give_list(list) {
-        return Done {
-            saved: true,
-            read: read,
-            written: false,
-        };
+        return unsaved();
     }
     if !send(book) {
-        return Done {
-            saved: true,
-            read: read,
-            written: false,
-        };
+        return unsaved();
     }
     let lines = tell_lines(damaged);
     let last = tell_end(answer, end, book);
     Done {
         saved: true,
         read: read,
-        written: lines & last,
+        told: lines & last,
     }
 }
 
@@ -196,7 +188,7 @@ fn unsaved() -> Done {
     Done {
         saved: false,
         read: false,
-        written: true,
+        told: false,
     }
 }
 
@@ -229,7 +221,7 @@ fn tell_hint(damaged: &[u8]) {
 }
 
 fn tell_status(done: Done) {
-    program::tell_status(remarks::status(done.saved, done.read, done.written));
+    program::tell_status(remarks::status(done.saved, done.read, done.told));
 }
 
 fn answer(damaged: &[u8]) -> Done {
