@@ -1,14 +1,8 @@
--- One answer: two answers that meet the contract of a public function are equal. All but put_slip, which asks for room, ask nothing of their
--- callers. The contracts are those of the source itself: Learnt is what a caller learns from a function's `ensures`, Asked what its `requires` ask.
--- Assumes nothing.
-use Prim.Native.Nat.{ℕ}
-use mathlib.Core.Path.{_≡_, sym, _∙_}
-use contract.Lifetimes.{Lfts}
-use borrow.Fn.Kinds.{Dens, endedOf}
+-- One answer of each public function (base, specs/Answers). All but put_slip, which asks for room, ask nothing of their callers. Assumes nothing.
+use mathlib.Core.Path.{sym, _∙_}
 use denote.Ref.{now}
-use denote.Triple.Clauses.{AtExit}
+use Rattle.base.specs.Answers.{AsksNothing, OneAnswer, OneAnswerWith}
 use Rattle.whatif.specs.declared.Asked.{Asked}
-use Rattle.whatif.specs.declared.Counts.{Counts}
 use Rattle.printing.proofs.Examples.{one-put}
 use Rattle.whatif.proofs.put_slip.Kinds as slip
 use Rattle.whatif.proofs.put_slip.Reads as slip-contract
@@ -25,55 +19,48 @@ use Rattle.whatif.proofs.telling.say_remark.Reads as remark-contract
 use Rattle.whatif.proofs.telling.status.Kinds as digit
 use Rattle.whatif.proofs.telling.status.Reads as digit-contract
 
-pub read-line-asks-nothing : (κs : Lfts 1) (args : Dens κs line.ps) → line-contract.Asked κs args
+pub read-line-asks-nothing : AsksNothing line.ps line-contract.Asked
 read-line-asks-nothing κs args = tt
 
-pub say-remark-asks-nothing : (κs : Lfts 2) (args : Dens κs remark.ps) → remark-contract.Asked κs args
+pub say-remark-asks-nothing : AsksNothing remark.ps remark-contract.Asked
 say-remark-asks-nothing κs args = tt
 
-pub say-answer-asks-nothing : (κs : Lfts 2) (args : Dens κs answer.ps) → answer-contract.Asked κs args
+pub say-answer-asks-nothing : AsksNothing answer.ps answer-contract.Asked
 say-answer-asks-nothing κs args = tt
 
-pub counted-asks-nothing : (κs : Lfts 1) (args : Dens κs counting.ps) → counting-contract.Asked κs args
+pub counted-asks-nothing : AsksNothing counting.ps counting-contract.Asked
 counted-asks-nothing κs args = tt
 
-pub say-counts-asks-nothing : (κs : Lfts 1) (args : Dens κs counts.ps) → counts-contract.Asked κs args
+pub say-counts-asks-nothing : AsksNothing counts.ps counts-contract.Asked
 say-counts-asks-nothing κs args = tt
 
-pub status-asks-nothing : (κs : Lfts 0) (args : Dens κs digit.ps) → digit-contract.Asked κs args
+pub status-asks-nothing : AsksNothing digit.ps digit-contract.Asked
 status-asks-nothing κs args = tt
 
 -- What a line asks.
-pub one-read-line : (κs : Lfts 1) (args : Dens κs line.ps) (f g : Asked) (e e′ : AtExit (endedOf 1 line.ps line.r) κs)
-    → line-contract.Learnt κs args f e → line-contract.Learnt κs args g e′ → f ≡ g
+pub one-read-line : OneAnswer line.ps line.r line-contract.Learnt
 one-read-line κs args f g e e′ p q = p ∙ sym q
 
 -- A slip's line: its end, and the buffer at the end (the first parameter, out).
-pub one-put-slip : (κs : Lfts 1) (args : Dens κs slip.ps) (f g : ℕ) (e e′ : AtExit (endedOf 1 slip.ps slip.r) κs)
-    → slip-contract.Learnt κs args f e → slip-contract.Learnt κs args g e′ → (f ≡ g) × (now (e .0) ≡ now (e′ .0))
+pub one-put-slip : OneAnswerWith slip.ps slip.r slip-contract.Learnt (λ κs e. now (e .0))
 one-put-slip κs args f g e e′ p q = one-put (p .0) (q .0)
 
 -- A remark: its length, and the buffer at the end.
-pub one-say-remark : (κs : Lfts 2) (args : Dens κs remark.ps) (f g : ℕ) (e e′ : AtExit (endedOf 2 remark.ps remark.r) κs)
-    → remark-contract.Learnt κs args f e → remark-contract.Learnt κs args g e′ → (f ≡ g) × (now (e .0) ≡ now (e′ .0))
+pub one-say-remark : OneAnswerWith remark.ps remark.r remark-contract.Learnt (λ κs e. now (e .0))
 one-say-remark κs args f g e e′ p q = one-put (p .put) (q .put)
 
 -- An answer: its length, and the buffer at the end.
-pub one-say-answer : (κs : Lfts 2) (args : Dens κs answer.ps) (f g : ℕ) (e e′ : AtExit (endedOf 2 answer.ps answer.r) κs)
-    → answer-contract.Learnt κs args f e → answer-contract.Learnt κs args g e′ → (f ≡ g) × (now (e .0) ≡ now (e′ .0))
+pub one-say-answer : OneAnswerWith answer.ps answer.r answer-contract.Learnt (λ κs e. now (e .0))
 one-say-answer κs args f g e e′ p q = one-put (p .put) (q .put)
 
 -- The counts behind a line.
-pub one-counted : (κs : Lfts 1) (args : Dens κs counting.ps) (f g : Counts) (e e′ : AtExit (endedOf 1 counting.ps counting.r) κs)
-    → counting-contract.Learnt κs args f e → counting-contract.Learnt κs args g e′ → f ≡ g
+pub one-counted : OneAnswer counting.ps counting.r counting-contract.Learnt
 one-counted κs args f g e e′ p q = p ∙ sym q
 
 -- The counts: their length, and the buffer at the end.
-pub one-say-counts : (κs : Lfts 1) (args : Dens κs counts.ps) (f g : ℕ) (e e′ : AtExit (endedOf 1 counts.ps counts.r) κs)
-    → counts-contract.Learnt κs args f e → counts-contract.Learnt κs args g e′ → (f ≡ g) × (now (e .0) ≡ now (e′ .0))
+pub one-say-counts : OneAnswerWith counts.ps counts.r counts-contract.Learnt (λ κs e. now (e .0))
 one-say-counts κs args f g e e′ p q = one-put (p .put) (q .put)
 
 -- The exit status.
-pub one-status : (κs : Lfts 0) (args : Dens κs digit.ps) (f g : ℕ) (e e′ : AtExit (endedOf 0 digit.ps digit.r) κs)
-    → digit-contract.Learnt κs args f e → digit-contract.Learnt κs args g e′ → f ≡ g
+pub one-status : OneAnswer digit.ps digit.r digit-contract.Learnt
 one-status κs args f g e e′ p q = p ∙ sym q

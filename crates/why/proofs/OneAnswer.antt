@@ -1,16 +1,9 @@
--- One answer: none of the public functions asks anything of its caller, and two answers that meet the contract of one are equal, the buffer at the
--- end among them where one is lent. The contracts are those of the source itself: Learnt is what a caller learns from a function's `ensures`, Asked
--- what its `requires` ask.
--- Assumes nothing.
-use Prim.Native.Nat.{ℕ}
-use mathlib.Core.Bool.{Bool}
-use mathlib.Core.Path.{_≡_, sym, _∙_}
-use contract.Lifetimes.{Lfts}
-use borrow.Fn.Kinds.{Dens, endedOf}
+-- One answer: none of the public functions asks anything of its caller, and two answers that meet the contract of one are equal (base,
+-- specs/Answers), the buffer at the end among them where one is lent. Assumes nothing.
+use mathlib.Core.Path.{sym, _∙_}
 use denote.Ref.{now}
-use denote.Triple.Clauses.{AtExit}
+use Rattle.base.specs.Answers.{AsksNothing, OneAnswer, OneAnswerWith}
 use Rattle.printing.proofs.Examples.{one-put}
-use Rattle.why.specs.declared.Verdict.{Verdict}
 use Rattle.why.proofs.why.Kinds as reason
 use Rattle.why.proofs.why.Reads as reason-contract
 use Rattle.why.proofs.remarks.say_first.Kinds as machine
@@ -22,42 +15,37 @@ use Rattle.why.proofs.remarks.accepted.Reads as right-contract
 use Rattle.why.proofs.remarks.status.Kinds as digit
 use Rattle.why.proofs.remarks.status.Reads as digit-contract
 
-pub why-asks-nothing : (κs : Lfts 1) (args : Dens κs reason.ps) → reason-contract.Asked κs args
+pub why-asks-nothing : AsksNothing reason.ps reason-contract.Asked
 why-asks-nothing κs args = tt
 
-pub say-first-asks-nothing : (κs : Lfts 1) (args : Dens κs machine.ps) → machine-contract.Asked κs args
+pub say-first-asks-nothing : AsksNothing machine.ps machine-contract.Asked
 say-first-asks-nothing κs args = tt
 
-pub say-second-asks-nothing : (κs : Lfts 1) (args : Dens κs people.ps) → people-contract.Asked κs args
+pub say-second-asks-nothing : AsksNothing people.ps people-contract.Asked
 say-second-asks-nothing κs args = tt
 
-pub accepted-asks-nothing : (κs : Lfts 0) (args : Dens κs right.ps) → right-contract.Asked κs args
+pub accepted-asks-nothing : AsksNothing right.ps right-contract.Asked
 accepted-asks-nothing κs args = tt
 
-pub status-asks-nothing : (κs : Lfts 0) (args : Dens κs digit.ps) → digit-contract.Asked κs args
+pub status-asks-nothing : AsksNothing digit.ps digit-contract.Asked
 status-asks-nothing κs args = tt
 
 -- Why a book is refused: the verdict, with all that it says of the record.
-pub one-why : (κs : Lfts 1) (args : Dens κs reason.ps) (f g : Verdict) (e e′ : AtExit (endedOf 1 reason.ps reason.r) κs)
-    → reason-contract.Learnt κs args f e → reason-contract.Learnt κs args g e′ → f ≡ g
+pub one-why : OneAnswer reason.ps reason.r reason-contract.Learnt
 one-why κs args f g e e′ p q = p ∙ sym q
 
 -- The line for machines: its length, and the buffer at the end.
-pub one-say-first : (κs : Lfts 1) (args : Dens κs machine.ps) (f g : ℕ) (e e′ : AtExit (endedOf 1 machine.ps machine.r) κs)
-    → machine-contract.Learnt κs args f e → machine-contract.Learnt κs args g e′ → (f ≡ g) × (now (e .0) ≡ now (e′ .0))
+pub one-say-first : OneAnswerWith machine.ps machine.r machine-contract.Learnt (λ κs e. now (e .0))
 one-say-first κs args f g e e′ p q = one-put (p .put) (q .put)
 
 -- The line for people: its length, and the buffer at the end.
-pub one-say-second : (κs : Lfts 1) (args : Dens κs people.ps) (f g : ℕ) (e e′ : AtExit (endedOf 1 people.ps people.r) κs)
-    → people-contract.Learnt κs args f e → people-contract.Learnt κs args g e′ → (f ≡ g) × (now (e .0) ≡ now (e′ .0))
+pub one-say-second : OneAnswerWith people.ps people.r people-contract.Learnt (λ κs e. now (e .0))
 one-say-second κs args f g e e′ p q = one-put (p .put) (q .put)
 
 -- Whether the book is accepted.
-pub one-accepted : (κs : Lfts 0) (args : Dens κs right.ps) (f g : Bool) (e e′ : AtExit (endedOf 0 right.ps right.r) κs)
-    → right-contract.Learnt κs args f e → right-contract.Learnt κs args g e′ → f ≡ g
+pub one-accepted : OneAnswer right.ps right.r right-contract.Learnt
 one-accepted κs args f g e e′ p q = p ∙ sym q
 
 -- The status byte.
-pub one-status : (κs : Lfts 0) (args : Dens κs digit.ps) (f g : ℕ) (e e′ : AtExit (endedOf 0 digit.ps digit.r) κs)
-    → digit-contract.Learnt κs args f e → digit-contract.Learnt κs args g e′ → f ≡ g
+pub one-status : OneAnswer digit.ps digit.r digit-contract.Learnt
 one-status κs args f g e e′ p q = p ∙ sym q
