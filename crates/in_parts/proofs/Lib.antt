@@ -4,3 +4,5 @@ pub mod AfterEnd
 pub mod Sheet
 pub mod Cut
 pub mod Why
+pub mod Retype
+pub mod RetypeEnd

@@ -1,2 +1,3 @@
 pub mod Sheet
 pub mod Cut
+pub mod Retype

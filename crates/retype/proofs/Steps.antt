@@ -35,7 +35,7 @@ use Rattle.retype.specs.declared.Retyped.{Retyped}
 use Rattle.retype.specs.Typed.{valuesTyped, lineTyped, textTyped, accountBehind}
 use Rattle.retype.proofs.Tables.{name-short, fields-few}
 use Rattle.retype.proofs.Values.{ReadsBack}
-use Rattle.retype.specs.Book.{Retyping, typedBy, Retypes, Typable, valueMost, lineMost, refusedText, endText}
+use Rattle.retype.specs.Book.{Retyping, nothingYet, andThen, typedBy, Retypes, Typable, valueMost, lineMost, refusedText, endText}
 
 -- ---- what a record that is not refused is
 
@@ -57,23 +57,17 @@ typable-of r t = record { least = t .least; most = t .most; count = values-lengt
 
 -- ---- some records, and then others after them
 
-abbrev pub andThen : Retyping → Retyping → Retyping
-andThen x y = record { account = y .account; taken = x .taken + y .taken; text = x .text ++ y .text; more = y .more }
-
-abbrev pub nothingYet : Account → Retyping
-nothingYet a = record { account = a; taken = 0; text = []; more = true }
-
 -- the record r, with the account after it
 abbrev one : Account → List ℕ → Retyping
 one after r = record { account = after; taken = length r; text = lineTyped (recordRow r) (valuesOf r); more = true }
 
 -- none is asked for
-none-asked : (a : Account) (xs : List ℕ) → typedBy 0 a xs ≡ nothingYet a
+pub none-asked : (a : Account) (xs : List ℕ) → typedBy 0 a xs ≡ nothingYet a
 unfolding typedBy textTyped accountBehind
 none-asked a xs = rw (le-leb 0 (length (recordsIn (entriesAfter a xs))) (omega arith)) refl
 
 -- none is accepted
-none-accepted : (n : ℕ) (a : Account) (xs : List ℕ) → entriesAfter a xs ≡ []
+pub none-accepted : (n : ℕ) (a : Account) (xs : List ℕ) → entriesAfter a xs ≡ []
     → typedBy (suc n) a xs ≡ record { account = nextOf a xs .account; taken = 0; text = []; more = false }
 unfolding typedBy recordsIn textTyped accountBehind
 none-accepted n a xs e = let z : leb (suc n) (length (recordsIn [])) ≡ false = lt-leb (suc n) 0 (omega arith) in rw (e, z) refl
@@ -145,7 +139,7 @@ module _ (n : ℕ) (a : Account) (xs : List ℕ) where
   one-none : ends ≡ true → typedBy 1 a xs .more ≡ false
   one-none h = ap (λ (x : Retyping). x .more) (none-accepted 0 a xs (entries-end a xs t refl h))
 
-  one-is : ends ≡ false → typedBy 1 a xs ≡ one (t .account) (take (t .size) xs)
+  pub one-is : ends ≡ false → typedBy 1 a xs ≡ one (t .account) (take (t .size) xs)
   one-is h =
       first-typed a xs t refl h 0 ∙ ap (andThen (one (t .account) (take (t .size) xs))) (none-asked (t .account) (drop (t .size) xs))
       ∙ rw (add-zero, append-nil) refl
@@ -175,7 +169,7 @@ pub record Going (n : ℕ) (a₀ : Account) (xs out₀ out : List ℕ) (a : Acco
   pub same : length out ≡ length out₀
   pub is : typedBy n a₀ xs ≡ andThen (record { account = a; taken = at; text = so-far; more = true }) (typedBy left a (drop at xs))
 
-as-it-is : (a : Account) (x : Retyping) → x ≡ andThen (nothingYet a) x
+pub as-it-is : (a : Account) (x : Retyping) → x ≡ andThen (nothingYet a) x
 as-it-is a x = rw zero-add
 
 pub going-none : (n : ℕ) (a : Account) (xs out : List ℕ) → AccountInRange a → lineMost * n ≤ length out → Going n a xs out out a 0 0 n
@@ -190,7 +184,7 @@ going-none n a xs out v h =
       is = as-it-is a (typedBy n a xs);
     }
 
-grouped : (x y z : Retyping) → andThen x (andThen y z) ≡ andThen (andThen x y) z
+pub grouped : (x y z : Retyping) → andThen x (andThen y z) ≡ andThen (andThen x y) z
 grouped x y z =
     let e : x .taken + (y .taken + z .taken) ≡ x .taken + y .taken + z .taken = omega arith in
     rw (e, append-assoc (x .text) (y .text) (z .text))

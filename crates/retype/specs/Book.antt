@@ -1,7 +1,7 @@
 -- A book of document 01 as typed lines: its accepted records up to the first that is not, as the walk finds them, a line for each.
 use Prim.Native.Nat.{ℕ, _+_, _*_, _≤_}
 use mathlib.Core.Path.{_≡_}
-use mathlib.Core.Bool.{Bool, false, _&&_, not}
+use mathlib.Core.Bool.{Bool, true, false, _&&_, not}
 use mathlib.Core.List.{List, [], _∷_, _++_}
 use lib.ListN.{length, take, drop}
 use lib.Dec.{leb, eqb}
@@ -40,6 +40,14 @@ pub record Retyping : Type 0 where
   pub taken : ℕ
   pub text : List ℕ
   pub more : Bool
+
+-- nothing yet
+abbrev pub nothingYet : Account → Retyping
+nothingYet a = record { account = a; taken = 0; text = []; more = true }
+
+-- some records, and then others after them
+abbrev pub andThen : Retyping → Retyping → Retyping
+andThen x y = record { account = y .account; taken = x .taken + y .taken; text = x .text ++ y .text; more = y .more }
 
 -- the first n accepted records of xs after the account a; where there are fewer, what stands after them changes the account: it may be refused
 unfoldable pub typedBy : ℕ → Account → List ℕ → Retyping

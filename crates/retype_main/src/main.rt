@@ -17,7 +17,7 @@ struct Work {
     more: bool,
 }
 
-// A book has at most 4,096 records of at most 28 bytes: what stands after so many bytes is after its end.
+// The 4,096 records that a book may have and one more are at most 114,716 bytes: what stands after them changes nothing that is printed.
 fn book_buffer() -> [u8; 131072]
     ensures { λ r. ⌜ length r ≡ 131072 ⌝ }
 {
@@ -45,6 +45,7 @@ fn turn(mut w: Work, book: &[u8], text: &mut [u8]) -> Work {
     w
 }
 
+// A series of calls, each from the account and the bytes that the one before left: together they print what one call with room for all would.
 // Each turn takes a record, so that there are fewer of them than bytes.
 fn run(from: Work, book: &[u8], text: &mut [u8]) -> Work {
     let mut w = from;
