@@ -53,7 +53,8 @@ comes-end : (a : Account) (xs : List ℕ) → ends a xs ≡ true → Comes a xs 
 comes-end a xs h =
     ⊎-elim
     (λ (early : a .stage < 2). rw (next-open a xs early) (comes-front (front xs) a xs refl early (rw (next-open a xs early) at h)))
-    (λ (late : 2 ≤ a .stage). rw (next-ended a xs late) (record { account = rw (book-ended a xs late) refl; left = λ z. rw (book-ended a xs late) refl }))
+    (λ (late : 2 ≤ a .stage).
+    rw (next-ended a xs late) (record { account = rw (book-ended a xs late) refl; left = λ z. rw (book-ended a xs late) refl }))
     (lt-or-ge (a .stage) 2)
 
 comes : (k : ℕ) (a : Account) (xs : List ℕ) → typedBy k a xs .more ≡ false → Comes a xs (typedBy k a xs)
