@@ -120,6 +120,9 @@ module _ (a : Account) (xs : List ℕ) where
     size-most : t .size ≤ recordMost
     size-most = omega (arith, standing .size, need-most xs (standing .front))
 
+    pub size-least : 6 ≤ t .size
+    size-least = standing .least
+
     pub size-in : length (take (t .size) xs) ≡ t .size
     size-in = length-take-le (t .size) xs (standing .inside)
 

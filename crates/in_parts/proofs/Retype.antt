@@ -1,21 +1,23 @@
 -- Theorems: what the program prints call after call, whatever the sizes of its buffers, is what one call with room for all prints; where nothing more
 -- may come these are the lines of the book's accepted records; and what stands after the first 114,716 bytes changes nothing of it.
 -- Assumes nothing.
-use Prim.Native.Nat.{ℕ, zero, suc, _+_, _-_, _/_, _≤_, _<_}
+use Prim.Native.Nat.{ℕ, zero, suc, _+_, _-_, _*_, _/_, _≤_, _<_}
 use native.Mathlib.Omega.{arith}
+use native.Mathlib.Nat.{add-zero}
 use mathlib.Core.Path.{_≡_, refl, sym, ap, _∙_}
 use mathlib.Core.Bool.{Bool, true, false}
-use mathlib.Core.List.{List, [], _∷_}
+use mathlib.Core.List.{List, [], _∷_, _++_, append-nil}
 use borrow.Author.Tests.{lt-leb, leb-false}
 use lib.Dec.{leb}
 use lib.ListN.{length, take, drop, length-append}
 use lib.Seq.{drop-drop, take-all}
+use Rattle.base.specs.Choice.{pick}
 use Rattle.base.proofs.Tests.{by-test, of-choice, no-bool}
 use Rattle.codec.specs.Table.{recordMost}
 use Rattle.codec.specs.Codec.{Bytes}
 use Rattle.account.specs.declared.Account.{Account}
 use Rattle.account.specs.Account.{noRecord}
-use Rattle.account.specs.Range.{AccountInRange}
+use Rattle.account.specs.Range.{AccountInRange, accountInRange}
 use Rattle.account.specs.Line.{joined}
 use Rattle.account.proofs.Clauses.{in-range-test}
 use Rattle.account.proofs.Keeps.{in-range-none}
@@ -23,12 +25,13 @@ use Rattle.book.specs.State.{noRecordYet}
 use Rattle.book.specs.Walk.{nextOf, recordsIn, entriesAfter}
 use Rattle.book.proofs.Walks.{entries-end}
 use Rattle.retype.specs.Typed.{textTyped, accountBehind, typedWhole, SameBytes}
-use Rattle.retype.specs.Book.{Retyping, andThen, acceptedIn, typedBy, retypedBy, lineMost, endText, statusByte}
+use Rattle.retype.specs.Book.{Retyping, nothingYet, andThen, acceptedIn, typedBy, retypedBy, lineMost, endText, statusByte}
 use Rattle.retype.proofs.Steps.{none-asked, none-accepted, one-is, one-stops, one-more, as-it-is, grouped}
-use Rattle.retype.proofs.Book.{book-retyped}
+use Rattle.retype.proofs.Book.{book-retyped, book-begins}
 use Rattle.in_parts.specs.Cut.{decidingBytes}
 use Rattle.in_parts.specs.Retype.{retypedIn, linesIn, bytesAfter}
-use Rattle.in_parts.proofs.Cut.{drop-take, more-cut, next-cut, range-next, ends, entries-cut, accepted-few, accepted-short}
+use Rattle.in_parts.proofs.Cut.{drop-take, more-cut, next-cut, range-next, ends, size-least, size-in}
+use Rattle.in_parts.proofs.Cut.{entries-cut, accepted-few, accepted-short}
 
 -- ---- some records, and then n more
 
@@ -38,6 +41,12 @@ module _ (a : Account) (xs : List ℕ) where
       by-test (ends a xs)
       (λ h. ap (λ (x : Retyping). x .account) (none-accepted 0 a xs (entries-end a xs (nextOf a xs) refl h)))
       (λ h. ap (λ (x : Retyping). x .account) (one-is 0 a xs h))
+
+  one-taken : typedBy 1 a xs .more ≡ true → 6 ≤ typedBy 1 a xs .taken
+  one-taken m =
+      by-test (ends a xs)
+      (λ h. no-bool (sym (ap (λ (x : Retyping). x .more) (none-accepted 0 a xs (entries-end a xs (nextOf a xs) refl h))) ∙ m))
+      (λ h. rw (one-is 0 a xs h) (omega (arith, size-in a xs h, size-least a xs h)))
 
   one-range : AccountInRange a → AccountInRange (typedBy 1 a xs .account)
   one-range v = rw one-account (range-next a xs v)
@@ -49,6 +58,22 @@ typed-range (suc m) a xs v =
     by-test (x .more)
     (λ t. rw (one-more m a xs t) (typed-range m (x .account) (drop (x .taken) xs) (one-range a xs v)))
     (λ t. rw (one-stops m a xs t) (one-range a xs v))
+
+-- each record that is taken has six bytes at least
+typed-taken : (m : ℕ) (a : Account) (xs : List ℕ) → typedBy m a xs .more ≡ true → 6 * m ≤ typedBy m a xs .taken
+typed-taken zero a xs f = omega arith
+typed-taken (suc m) a xs f =
+    let x = typedBy 1 a xs in
+    by-test (x .more)
+    (λ t.
+    let first = one-more m a xs t in
+    let i = typed-taken m (x .account) (drop (x .taken) xs) (sym (ap (λ (y : Retyping). y .more) first) ∙ f) in
+    rw first (omega (arith, i, one-taken a xs t)))
+    (λ t. no-bool (sym t ∙ sym (ap (λ (y : Retyping). y .more) (one-stops m a xs t)) ∙ f))
+
+pub retyped-taken : (m : ℕ) (a : Account) (xs : List ℕ) → retypedBy m a xs .more ≡ true → 6 * m ≤ retypedBy m a xs .taken
+retyped-taken m a xs =
+    of-choice (λ (x : Retyping). x .more ≡ true → 6 * m ≤ x .taken) (accountInRange a) (λ t. typed-taken m a xs) (λ t f. no-bool f)
 
 -- there are no more
 typed-end : (n m : ℕ) (a : Account) (xs : List ℕ) → typedBy m a xs .more ≡ false → typedBy (m + n) a xs ≡ typedBy m a xs
@@ -99,6 +124,40 @@ series-is (room ∷ rooms) a xs v =
 pub retyped-in-parts : (rooms : List ℕ) (a : Account) (xs : List ℕ) → AccountInRange a → retypedIn rooms a xs ≡ retypedBy (linesIn rooms) a xs
 retyped-in-parts rooms a xs v = rw (in-range-test a v) (series-is rooms a xs v)
 
+-- ---- one call more
+
+goes : (x y : Retyping) → x .more ≡ true → pick (x .more) (andThen x y) x ≡ andThen x y
+goes x y t = of-choice (λ (z : Retyping). z ≡ andThen x y) (x .more) (λ f. refl) (λ f. no-bool (sym f ∙ t))
+
+stops : (x y : Retyping) → x .more ≡ false → pick (x .more) (andThen x y) x ≡ x
+stops x y t = of-choice (λ (z : Retyping). z ≡ x) (x .more) (λ f. no-bool (sym t ∙ f)) (λ f. refl)
+
+nothing-after : (a : Account) (n : ℕ) (text : List ℕ) (b : Bool) → b ≡ true
+    → andThen (record { account = a; taken = n; text = text; more = b }) (nothingYet a) ≡ record { account = a; taken = n; text = text; more = b }
+nothing-after a n text b e = rw (e, add-zero, append-nil) refl
+
+-- after a series that may go on
+pub series-on : (rooms : List ℕ) (room : ℕ) (a : Account) (xs : List ℕ) → retypedIn rooms a xs .more ≡ true
+    → retypedIn (rooms ++ (room ∷ [])) a xs
+    ≡ andThen (retypedIn rooms a xs) (retypedBy (room / lineMost) (retypedIn rooms a xs .account) (drop (retypedIn rooms a xs .taken) xs))
+unfolding retypedIn
+series-on [] room a xs e =
+    let x = retypedBy (room / lineMost) a xs in
+    of-choice (λ (y : Retyping). y ≡ andThen (nothingYet a) x) (x .more)
+    (λ t. nothing-after (x .account) (x .taken) (x .text) (x .more) t ∙ as-it-is a x) (λ t. as-it-is a x)
+series-on (n ∷ rooms) room a xs e =
+    let x = retypedBy (n / lineMost) a xs in
+    let ys = drop (x .taken) xs in
+    let y = retypedIn rooms (x .account) ys in
+    let more : Retyping → Bool = λ z. z .more in
+    let one : Retyping → Retyping = λ z. retypedBy (room / lineMost) (z .account) (drop (z .taken) xs) in
+    by-test (x .more)
+    (λ t.
+    let others = rw drop-drop at (series-on rooms room (x .account) ys (sym (ap more (goes x y t)) ∙ e)) in
+    goes x (retypedIn (rooms ++ (room ∷ [])) (x .account) ys) t ∙ ap (andThen x) others ∙ grouped x y (one (andThen x y))
+    ∙ ap (λ (z : Retyping). andThen z (one z)) (sym (goes x y t)))
+    (λ t. no-bool (sym t ∙ sym (ap more (stops x y t)) ∙ e))
+
 -- ---- a whole book
 
 module _ (rooms : List ℕ) (xs : List ℕ) where
@@ -125,6 +184,11 @@ module _ (rooms : List ℕ) (xs : List ℕ) where
     -- and typed again they give the bytes of these records
     pub retyped-back : Bytes xs → SameBytes noRecord (acceptedIn xs) (typedWhole noRecordYet (retypedIn rooms noRecord xs .text))
     retyped-back b = rw retyped-whole (book-retyped xs b)
+
+    -- with which the book begins: those that were taken
+    pub retyped-begins : Bytes xs → typedWhole noRecordYet (retypedIn rooms noRecord xs .text) .bytes ≡ take (retypedIn rooms noRecord xs .taken) xs
+    unfolding typedBy
+    retyped-begins b = rw (retyped-whole, of-book, all-taken) (book-begins xs b)
 
 -- ---- what stands after the bytes that decide
 

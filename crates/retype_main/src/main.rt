@@ -7,7 +7,11 @@ use program::Input;
 use program::report;
 use program::send;
 ghost use mathlib.Core.Path.{_≡_};
-ghost use lib.ListN.{length};
+ghost use mathlib.Core.Bool.{false};
+ghost use Prim.Native.Nat.{_/_, _≤_};
+ghost use lib.ListN.{length, drop};
+ghost use Rattle.retype.specs.Book.{retypedBy, lineMost};
+ghost use Rattle.retype_main.specs.Series.{Turned, Begins, Goes};
 
 // The account after the records that were typed, the bytes taken, whether no write failed, and whether more may come.
 struct Work {
@@ -25,29 +29,29 @@ fn book_buffer() -> [u8; 131072]
 }
 
 // The lines of some records, with one write.
-fn turn(mut w: Work, book: &[u8], text: &mut [u8]) -> Work {
+fn turn(mut w: Work, book: &[u8], text: &mut [u8]) -> Work
+    requires { ⌜ w .at ≤ length (now book) ⌝ }
+    ensures { λ r. ⌜ Turned (retypedBy (length (now (text .entry)) / lineMost) (w .account) (drop (w .at) (now (book .entry)))) w r ⌝ }
+    ensures { λ r. ⌜ r .at ≤ length (now (book .entry)) ⌝ }
+{
     let at = w.at;
-    if book.len() < at {
-        w.more = false;
-        return w;
-    }
     let account = w.account;
     let r = retype::retype(account, &book[at..], text);
     let next = r.account;
     let n = r.written;
     w.account = next;
     w.at = at + r.taken;
-    w.more = r.more;
-    if !send(&text[..n]) {
-        w.written = false;
-        w.more = false;
-    }
+    w.written = send(&text[..n]);
+    w.more = r.more & w.written;
     w
 }
 
-// A series of calls, each from the account and the bytes that the one before left: together they print what one call with room for all would.
-// Each turn takes a record, so that there are fewer of them than bytes.
-fn run(from: Work, book: &[u8], text: &mut [u8]) -> Work {
+// A series of calls, each from the account and the bytes that the one before left, until nothing more may come or a write fails: together they print
+// what one call with room for all would. Each turn takes a record, so that there are fewer of them than bytes.
+fn run(from: Work, book: &[u8], text: &mut [u8]) -> Work
+    requires { ⌜ Begins (now book) from × (length (now book) ≤ 131072) × (lineMost ≤ length (now text)) ⌝ }
+    ensures { λ r. ⌜ Goes (now (book .entry)) from r × (r .more ≡ false) ⌝ }
+{
     let mut w = from;
     let mut turns: usize = 131072;
     while turns > 0 {
@@ -85,7 +89,9 @@ fn tell_status(w: Work, input: Input) {
     program::tell_status(retype::status(w.account, w.at < input.len, input.good, w.written));
 }
 
-fn answer(book: &[u8], input: Input) {
+fn answer(book: &[u8], input: Input)
+    requires { ⌜ length (now book) ≤ 131072 ⌝ }
+{
     let mut text = io::large_buffer();
     let start = Work {
         account: Account::new(),
