@@ -3,15 +3,17 @@
 use Prim.Native.Nat.{ℕ, zero, suc, _+_, _≤_, _<_}
 use native.Mathlib.Omega.{arith}
 use mathlib.Core.Path.{_≡_, refl, sym, ap, _∙_}
-use mathlib.Core.Bool.{Bool, true, false, _&&_}
+use mathlib.Core.Bool.{Bool, true, false, _&&_, not}
+use mathlib.Core.Logic.{inl, inr}
 use mathlib.Core.List.{List, [], _∷_, _++_, append-assoc}
 use borrow.Author.Tests.{eqb-true, ltb-true, lt-ltb, leb-true, le-leb, ne-eqb}
 use lib.Dec.{ltb, leb, eqb}
 use lib.ListN.{length, drop, length-drop}
 use lib.Seq.{drop-drop}
 use Rattle.base.specs.Choice.{pick}
-use Rattle.base.proofs.Tests.{by-test, of-choice, no-bool, both, both-true}
-use Rattle.account.specs.Judge.{kindByte}
+use Rattle.base.proofs.Tests.{by-test, of-choice, no-bool, and-r, both, both-true}
+use Rattle.account.specs.Sorts.{isOfGroup}
+use Rattle.account.specs.Judge.{kindByte, first}
 use Rattle.account.specs.Range.{accountInRange}
 use Rattle.account.proofs.Clauses.{in-range-parts, in-range-test}
 use Rattle.book.specs.Front.{whole, need, front}
@@ -20,9 +22,9 @@ use Rattle.book.specs.WholeRecords.{recordsOf}
 use Rattle.book.proofs.Fronts.{meaning}
 use Rattle.book.proofs.WholeRecords.{records-whole}
 use Rattle.salvage.specs.declared.Reading.{Reading}
-use Rattle.salvage.specs.Salvage.{droppedBy, ends, readingAfter, start, Entry, Found, nothing, with, found, foundIn}
+use Rattle.salvage.specs.Salvage.{oneOf, wouldGet, drops, droppedBy, ends, readingAfter, start, Entry, Found, nothing, with, found, foundIn}
 use Rattle.salvage.specs.HowFar.{goesOn}
-use Rattle.salvage.specs.Lines.{droppedText, wordsFor, lineFor, lineOf, linesFrom, wordsFrom, entriesText}
+use Rattle.salvage.specs.Lines.{droppedText, wordsFor, lineFor, lineOf, linesFrom, wordsFrom, entriesText, Listed, HeadingsListed}
 use Rattle.salvage.specs.Lines.{Telling, stopped, behind, tellBy, usable, toldBy, series}
 use Rattle.salvage.specs.Inner.{Open}
 use Rattle.salvage.proofs.Fates.{open-after}
@@ -130,6 +132,54 @@ pub lines-listed : (damaged : List ℕ)
     → (linesFrom start (recordsOf damaged) ≡ entriesText (foundIn start damaged .dropped) (wordsFrom start (recordsOf damaged)))
     × (length (wordsFrom start (recordsOf damaged)) ≡ length (foundIn start damaged .dropped))
 lines-listed damaged = (line-each start (recordsOf damaged), words-each start (recordsOf damaged))
+
+-- ---- dropped with its heading
+
+heading-first : (c k : ℕ) (lost : Bool)
+    → lost && (isOfGroup k && eqb (first (drops c k lost)) 6) ≡ not (oneOf 2 4 c) && (lost && isOfGroup k)
+unfolding first
+heading-first c k lost = go (oneOf 2 4 c) refl lost (isOfGroup k)
+  where
+    go : (b : Bool) → oneOf 2 4 c ≡ b → (l g : Bool)
+        → l && (g && eqb (pick b c (pick (l && g) 6 (pick (oneOf 6 11 c) c 0))) 6) ≡ not b && (l && g)
+    go true e true true = let h = leb-true c 4 (and-r (leb 2 c) (leb c 4) e) in ne-eqb c 6 (λ z. omega arith)
+    go true e true false = refl
+    go true e false g = refl
+    go false e true true = refl
+    go false e true false = refl
+    go false e false g = refl
+
+-- A line names the heading exactly where of the reasons that drop a record the second, that its heading was dropped, is the first that holds.
+pub with-heading : (s : Reading) (r : List ℕ)
+    → s .lost && (isOfGroup (kindByte r) && eqb (droppedBy s r) 6) ≡ not (oneOf 2 4 (wouldGet (s .account) r)) && (s .lost && isOfGroup (kindByte r))
+unfolding droppedBy
+with-heading s r = heading-first (wouldGet (s .account) r) (kindByte r) (s .lost)
+
+listed-more : (b : Bool) (e : Entry) (es : List Entry) (n : ℕ) → Listed n es → Listed n (pick b es (e ∷ es))
+listed-more true e es n h = h
+listed-more false e es n h = inr h
+
+listed-new : (b : Bool) (e : Entry) (es : List Entry) → not b ≡ true → Listed (e .number) (pick b es (e ∷ es))
+listed-new true e es h = no-bool h
+listed-new false e es h = inl refl
+
+listed-from : (all : List Entry) (s : Reading) (rs : List (List ℕ)) → ((n : ℕ) → Listed n (found s rs .dropped) → Listed n all)
+    → (s .lost ≡ true → Listed (s .heading) all) → HeadingsListed all s rs
+listed-from all s [] inc cur = tt
+listed-from all s (r ∷ rs) inc cur =
+    λ e.
+    let b = eqb (droppedBy s r) 0 in
+    let entry : Entry = record { number = s .number; code = droppedBy s r } in
+    let es = found (readingAfter s r) rs .dropped in
+    let is : found s (r ∷ rs) .dropped ≡ pick b es (entry ∷ es) = ap (λ (f : Found). f .dropped) (found-goes s r rs e) in
+    let within : (n : ℕ) → Listed n (pick b es (entry ∷ es)) → Listed n all = λ n h. inc n (rw is h) in
+    let next : (k : Bool) → pick k (not b) (s .lost) ≡ true → Listed (pick k (s .number) (s .heading)) all =
+    λ k. by-test k (λ t. rw t (λ h. within (s .number) (listed-new b entry es h))) (λ t. rw t cur) in
+    (cur, listed-from all (readingAfter s r) rs (λ n h. within n (listed-more b entry es n h)) (next (eqb (kindByte r) 2)))
+
+-- The heading that a line names is listed: what stands there as its number is that of the last record of kind byte 2, which was dropped.
+pub headings-listed : (damaged : List ℕ) → HeadingsListed (foundIn start damaged .dropped) start (recordsOf damaged)
+headings-listed damaged = listed-from (foundIn start damaged .dropped) start (recordsOf damaged) (λ n h. h) (λ e. no-bool e)
 
 -- ---- in parts
 

@@ -5,6 +5,7 @@ use Prim.Native.Nat.{ℕ, zero, suc, _+_}
 use mathlib.Core.Path.{_≡_}
 use mathlib.Core.List.{List, [], _∷_, _++_}
 use mathlib.Core.Bool.{Bool, true, false, _&&_}
+use mathlib.Core.Logic.{_⊎_}
 use lib.ListN.{length, drop}
 use lib.Dec.{ltb, leb, eqb}
 use Rattle.base.specs.Choice.{pick}
@@ -63,6 +64,17 @@ unfoldable pub entriesText : List Entry → List (List ℕ) → List ℕ
 entriesText [] ws = []
 entriesText (e ∷ es) [] = []
 entriesText (e ∷ es) (w ∷ ws) = droppedText (e .number) (e .code) w ++ entriesText es ws
+
+-- an entry of the list has the number n
+abbrev pub Listed : ℕ → List Entry → Type 0
+Listed n [] = ⊥
+Listed n (e ∷ es) = (e .number ≡ n) ⊎ Listed n es
+
+-- wherever a heading may be named in the reading of the records rs, going on from s, it is listed: while the last record of kind byte 2 was dropped,
+-- the list all has its number
+abbrev pub HeadingsListed : List Entry → Reading → List (List ℕ) → Type 0
+HeadingsListed all s [] = Unit {0}
+HeadingsListed all s (r ∷ rs) = ends s r ≡ false → (s .lost ≡ true → Listed (s .heading) all) × HeadingsListed all (readingAfter s r) rs
 
 -- ---- some records at a time
 
