@@ -154,6 +154,21 @@ fn tell_status(w: Work) {
     program::tell_status(lister::status(state.account, w.read, w.written));
 }
 
+// The last word is the lister's last row, before its remark; beside a sheet it is the last line that people read, after it.
+fn finish(form: Form, w: Work, text: &mut [u8]) -> Work {
+    match form {
+        Form::Listing => {
+            let done = end(form, w, text);
+            remark(done);
+            done
+        }
+        Form::Sheet => {
+            remark(w);
+            end(form, w, text)
+        }
+    }
+}
+
 // The whole program.
 pub fn run(form: Form) {
     let mut text = io::large_buffer();
@@ -162,7 +177,5 @@ pub fn run(form: Form) {
     let n = input.len;
     let begun = begin(form, &first[..n], input.good, &mut text);
     let last = read_on(form, begun, &mut text);
-    let done = end(form, last, &mut text);
-    remark(done);
-    tell_status(done);
+    tell_status(finish(form, last, &mut text));
 }

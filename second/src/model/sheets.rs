@@ -172,5 +172,5 @@ pub fn booksheet(book: &[u8]) -> Told {
     let Ok(text) = export(&lines) else { unreachable!("a book's lines are whole lines") };
     let listed = listed(book);
     let last = listed.printed.lines().last().unwrap_or_default().to_string();
-    (text, last + "\n" + &listed.said, listed.right)
+    (text, listed.said.clone() + &last + "\n", listed.right)
 }
