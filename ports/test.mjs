@@ -30,7 +30,8 @@ for (let i = 0; i < 2; i++) {
     cases += 1;
     assert.deepEqual(run(counts, none).output, bytes("1"), "each run has an instance of its own");
 }
-for (const name of ["no_status", "status_2", "two_bytes"]) {
+gives("status_2", [none], "", "", 1);
+for (const name of ["no_status", "status_3", "two_bytes"]) {
     throws(name, [none], "NoStatus", "without its status");
 }
 throws("trap", [none], "ProgramTrapped", "unreachable");
