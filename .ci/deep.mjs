@@ -1,7 +1,7 @@
 // .ci/deep.mjs STACK NAME INPUT [MORE]: a program in WebAssembly, as ports/run has it, over a painted stack. How deep it went is printed last, on
 // descriptor 3: `NAME BYTES`. The stack is the memory's first STACK bytes and is used from its end down.
 import { readFileSync, writeSync } from "node:fs";
-import { prepare } from "../ports/programs.mjs";
+import { prepare, statusOf } from "../ports/programs.mjs";
 
 const PAINT = 0xa5;
 const [stack, name, ...files] = process.argv.slice(2);
@@ -10,7 +10,7 @@ const { instance, written } = prepare(module, ...files.map((file) => readFileSyn
 new Uint8Array(instance.exports.memory.buffer, 0, Number(stack)).fill(PAINT);
 instance.exports.main();
 const used = new Uint8Array(instance.exports.memory.buffer, 0, Number(stack)).findIndex((byte) => byte !== PAINT);
-process.exitCode = Number(Buffer.from(written(3)).toString());
+process.exitCode = statusOf(written(3));
 process.stdout.write(written(1));
 process.stderr.write(written(2));
 writeSync(3, `${name} ${Number(stack) - used}\n`);

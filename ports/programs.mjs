@@ -112,9 +112,8 @@ function named(error) {
     return trapped ? new ProgramError("ProgramTrapped", `the program stopped: ${error.message}`, error) : error;
 }
 
-// One byte, 0 or 1, as the script of a program takes it.
-// 2 is the status 1 of a program whose output is whole all the same.
-function statusOf(bytes) {
+// One byte, 0, 1 or 2, as the script of a program takes it: 2 is the status 1 of a program whose output is whole all the same.
+export function statusOf(bytes) {
     const status = bytes.length === 1 ? bytes[0] - 48 : -1;
     if (![0, 1, 2].includes(status)) {
         throw new ProgramError("NoStatus", "the program ended without its status");
