@@ -10,5 +10,3 @@ pub mod Calls
 pub mod RecordRuns
 pub mod OneTurn
 pub mod RunLeaves
-pub mod NextRecords
-pub mod Walks

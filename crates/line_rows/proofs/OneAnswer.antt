@@ -17,6 +17,8 @@ use Rattle.line_rows.proofs.put_lines.Kinds as lines
 use Rattle.line_rows.proofs.put_lines.Reads as lines-contract
 use Rattle.line_rows.proofs.put_header.Kinds as head
 use Rattle.line_rows.proofs.put_header.Reads as head-contract
+use Rattle.line_rows.proofs.say_form.Kinds as form
+use Rattle.line_rows.proofs.say_form.Reads as form-contract
 
 -- Whether a column is signed.
 pub one-is-signed : (κs : Lfts 0) (args : Dens κs sign.ps) (f g : Bool) (e e′ : AtExit (endedOf 0 sign.ps sign.r) κs)
@@ -37,3 +39,8 @@ one-put-lines κs args f g e e′ p q = one-put p q
 pub one-put-header : (κs : Lfts 1) (args : Dens κs head.ps) (f g : ℕ) (e e′ : AtExit (endedOf 1 head.ps head.r) κs)
     → head-contract.Learnt κs args f e → head-contract.Learnt κs args g e′ → (f ≡ g) × (now (e .0) ≡ now (e′ .0))
 one-put-header κs args f g e e′ p q = one-put p q
+
+-- A sheet's form in words.
+pub one-say-form : (κs : Lfts 1) (args : Dens κs form.ps) (f g : ℕ) (e e′ : AtExit (endedOf 1 form.ps form.r) κs)
+    → form-contract.Learnt κs args f e → form-contract.Learnt κs args g e′ → (f ≡ g) × (now (e .0) ≡ now (e′ .0))
+one-say-form κs args f g e e′ p q = one-put (p .put) (q .put)

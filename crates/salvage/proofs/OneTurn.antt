@@ -17,7 +17,7 @@ use Rattle.book.specs.Front.{whole, front}
 use Rattle.book.proofs.Fronts.{meaning}
 use Rattle.book.specs.WholeRecords.{recordsOf}
 use Rattle.book.proofs.WholeRecords.{records-whole}
-use Rattle.book.proofs.Walks.{records-none}
+use Rattle.walk.proofs.Walks.{records-none}
 use Rattle.salvage.specs.declared.Reading.{Reading}
 use Rattle.salvage.specs.declared.turns.Turn.{Turn}
 use Rattle.book.specs.WholeRecords.{Ready}

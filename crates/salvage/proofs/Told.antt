@@ -2,7 +2,7 @@
 -- Assumes nothing.
 use Prim.Native.Nat.{ℕ, zero, suc, _+_, _-_, _*_, _/_, _^_, _≤_, _<_, min}
 use mathlib.Core.Path.{_≡_, refl, sym, ap, subst, _∙_}
-use mathlib.Core.List.{List, [], _∷_, _++_, append-assoc}
+use mathlib.Core.List.{List, [], _∷_, _++_, append-assoc, append-nil}
 use mathlib.Core.Bool.{Bool, true, false, _&&_}
 use mathlib.Core.Logic.{⊎-elim}
 use native.Mathlib.Omega.{arith}
@@ -17,7 +17,7 @@ use Rattle.typed_words.specs.Words.{nthPart}
 use Rattle.printing.specs.Ascii.{ascii}
 use Rattle.printing.specs.Decimal.{decimal}
 use Rattle.printing.proofs.Digits.{length-u64}
-use Rattle.names.specs.Names.{sentenceTable, sentence}
+use Rattle.names.specs.Names.{tableLine, sentenceTable, sentence}
 use Rattle.codec.specs.Table.{table, size}
 use Rattle.codec.specs.Codec.{bytesHold, valAt, be, bytesOf, recordBytes, Bytes}
 use Rattle.codec.proofs.BigEndian.{valAt-lt, valAt-be, be-length}
@@ -183,8 +183,17 @@ sentences-short : T (allBelow 25 short)
 unfolding allBelow nthPart indexOf indexAfter sentenceTable
 sentences-short = tt
 
+form-short : T (leb (length (sentence 20)) 196)
+unfolding sentence nthPart indexOf indexAfter sentenceTable
+form-short = tt
+
 sentence-short : (c : ℕ) → length (sentence c) ≤ 196
-sentence-short c = leb→le _ _ (at-below 25 short sentences-short (min c 24) (omega arith))
+unfolding sentence
+sentence-short c =
+    ⊎-elim (λ (e : eqb c 20 ≡ true). subst (λ (n : ℕ). length (sentence n) ≤ 196) (sym (eqb-true c 20 e)) (leb→le _ _ form-short))
+    (λ (e : eqb c 20 ≡ false). rw (e, append-nil (tableLine 24 c sentenceTable))
+    (leb→le _ _ (at-below 25 short sentences-short (min c 24) (omega arith))))
+    (true-or-false (eqb c 20))
 
 -- a line has at most 256 bytes
 line-short : (number code : ℕ) → number < 2 ^ 64 → code < 2 ^ 64 → length (droppedText number code) ≤ 256

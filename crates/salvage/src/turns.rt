@@ -2,9 +2,9 @@
 use crate::Reading;
 use account::sort::is_of_group;
 use base::first_of;
-use book::walk::next_alone;
 use codec::kinds::CLOSE;
 use codec::kinds::HEADING;
+use walk::next_alone;
 ghost use mathlib.Core.Path.{_≡_};
 ghost use mathlib.Core.Bool.{not};
 ghost use Prim.Native.Nat.{_<_};

@@ -11,7 +11,7 @@ use Rattle.base.proofs.Tests.{or-l, or-r}
 use Rattle.account.specs.Judge.{WholeRecord, kindByte}
 use Rattle.book.specs.WholeRecords.{Ready}
 use Rattle.book.proofs.RecordRuns.{record-whole}
-use Rattle.book.proofs.Walks.{Stands, stands, next-ready}
+use Rattle.walk.proofs.Walks.{Stands, stands, next-ready}
 use Rattle.salvage.specs.Salvage.{droppedBy, ends}
 use Rattle.salvage.proofs.OneTurn.{code-told, close-ends, other-goes, next-is, ends-at, ends-before, goes-on}
 use Rattle.salvage.proofs.Reading.turn.Statement.{statement}

@@ -1,0 +1,2 @@
+pub mod NextRecords
+pub mod Walks
