@@ -104,6 +104,7 @@ build() {
         say "building, which takes some minutes the first time; each crate is reported when it is proved"
         [ -x "$program" ] || rm -f "$root/target/stamp/${name}_main" # rt does not make again what it made and somebody removed
         touch "$root/target/lock"
+        . "$here/jobs.sh"
         failed=$({ { (cd "$root" && rt check "${name}_main") </dev/null 2>&1 9>&- || echo failed >&3; } |
             tee "$log" | places "$(needed | wc -l)"; } 3>&1 >&2)
         [ -z "$failed" ] || { tail -n 20 "$log" >&2; stop 1 "the build failed: $log has all of it"; }
