@@ -117,6 +117,7 @@ build() {
         say "building, which takes some minutes the first time; each crate is reported when it is proved"
         [ -x "$program" ] || rm -f "$root/target/stamp/${name}_main" # rt does not make again what it made and somebody removed
         touch "$root/target/lock"
+        . "$here/jobs.sh"
         failed=$({ { (cd "$root" && rt check "${name}_main") </dev/null 2>&1 9>&- || echo failed >&3; } |
             tee "$log" | places "$(needed | wc -l)"; } 3>&1 >&2)
         [ -z "$failed" ] || { tail -n 20 "$log" >&2; stop 1 "the build failed: $log has all of it"; }
@@ -134,8 +135,8 @@ counted() {
     esac
 }
 
-# run "$@": runs the program on a file, on standard input (-) or, with no argument, on the sample, and where they are named writes files; builds it where
-# it is stale.
+# run "$@": runs the program on a file, on standard input (-) or, with no argument, on the sample, and where they are named writes files; builds it
+# where it is stale.
 run() {
     program=$root/target/bin/${name}_main
     # shellcheck disable=SC2086 # names without blanks
@@ -169,8 +170,8 @@ run() {
     [ "$input" = - ] || exec <"$input"
     [ -z "$heading" ] || [ ! -t 1 ] || printf '%s\n' "$heading" >&2 || :
 
-    # A program has no exit status: with the word `status` it writes, as its last act, a digit on descriptor 3: 0; 1; or 2 for status 1 of a program whose
-    # output is whole all the same. With the word `list` it writes its list on descriptor 4. It gets the error of a closed pipe.
+    # A program has no exit status: with the word `status` it writes, as its last act, a digit on descriptor 3: 0; 1; or 2 for status 1 of a program
+    # whose output is whole all the same. With the word `list` it writes its list on descriptor 4. It gets the error of a closed pipe.
     trap '' PIPE
     if [ -n "$book" ]; then exec 7>"$book"; else exec 7>&1; fi
     [ -z "$list" ] || more=list

@@ -1,5 +1,5 @@
--- For the contracts of rules (each kind's function, refusals, outside, lines), of account::line and of make_record, which carry out specs/Judge: what each
--- makes of a record. A reader of the promises can pass it over.
+-- For the contracts of rules (each kind's function, refusals, outside, lines), of account::line and of make_record, which carry out specs/Judge: what
+-- each makes of a record. A reader of the promises can pass it over.
 -- Assumes nothing.
 use Prim.Native.Nat.{ℕ, _≤_}
 use mathlib.Core.Path.{_≡_}

@@ -10,6 +10,4 @@ pub mod Calls
 pub mod RecordRuns
 pub mod OneTurn
 pub mod RunLeaves
-pub mod NextRecords
-pub mod Walks
 pub mod OneAnswer

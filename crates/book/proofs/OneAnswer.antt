@@ -1,5 +1,5 @@
--- One answer of each public function that says where a record ends (base, specs/Answers); of the state's own in promises, of the walk's below its
--- module. They ask nothing. Assumes nothing.
+-- One answer of each public function that says where a record ends (base, specs/Answers); of the state's own in promises. They ask nothing but
+-- `front_of`, that the bytes are there. Assumes nothing.
 use Prim.Native.Nat.{ℕ, zero, suc}
 use native.Mathlib.Omega.{arith}
 use mathlib.Core.Path.{_≡_, refl, sym, _∙_}
@@ -8,6 +8,8 @@ use Rattle.base.specs.Answers.{AsksNothing, OneAnswer}
 use Rattle.book.specs.WholeRecords.{Ready}
 use Rattle.book.proofs.front.bad_length.Kinds as length-test
 use Rattle.book.proofs.front.bad_length.Reads as length-test-contract
+use Rattle.book.proofs.front.front_of.Kinds as front
+use Rattle.book.proofs.front.front_of.Reads as front-contract
 use Rattle.book.proofs.front.ready.Kinds as ready
 use Rattle.book.proofs.front.ready.Reads as ready-contract
 
@@ -31,3 +33,7 @@ ready-asks-nothing κs args = tt
 -- The bytes of the record that lies whole at the front.
 pub one-ready : OneAnswer ready.ps ready.r ready-contract.Learnt
 one-ready κs args f g e e′ p q = one-count _ f g p q
+
+-- What stands at the front.
+pub one-front-of : OneAnswer front.ps front.r front-contract.Learnt
+one-front-of κs args f g e e′ p q = p ∙ sym q

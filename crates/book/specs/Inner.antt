@@ -1,5 +1,5 @@
--- For the contracts of the inner functions of src/front, bytes, turns and records, in parts. A reader of the promises can pass this file over: no public
--- contract cites it.
+-- For the contracts of the inner functions of src/front, bytes, turns and records, in parts. A reader of the promises can pass this file over: no
+-- public contract cites it.
 use Prim.Native.Nat.{ℕ, _+_, _-_, _≤_, _<_}
 use mathlib.Core.Path.{_≡_}
 use mathlib.Core.List.{List, [], _++_}

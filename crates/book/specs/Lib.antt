@@ -2,7 +2,6 @@ pub mod Front
 pub mod WholeRecords
 pub mod State
 pub mod Run
-pub mod Walk
 pub mod Call
 pub mod Way
 pub mod Inner

@@ -32,7 +32,7 @@ fn front_by(length: u64, n: usize) -> u8
 }
 
 // What the first n bytes of s are at their front: 0 an unfinished record, 1 a bad length, 2 a whole record.
-pub(crate) fn front_of(s: &[u8], n: usize) -> u8
+pub fn front_of(s: &[u8], n: usize) -> u8
     requires { ⌜ n ≤ length (now s) ⌝ }
     ensures { λ r. ⌜ r ≡ frontNumber (front (take n (now (s .entry)))) ⌝ }
 {

@@ -3,7 +3,6 @@ pub mod front; // front.rt: where a record ends
 mod bytes;
 mod records;
 mod turns;
-pub mod walk; // walk.rt: the next record after an account
 
 use crate::bytes::put_behind;
 use crate::bytes::zeroed;

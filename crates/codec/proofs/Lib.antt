@@ -4,8 +4,6 @@ pub mod Values
 pub mod Within
 mod AllIn
 pub mod Rows
-pub mod Columns
-pub mod FieldByField
 pub mod EachKind
 pub mod Round
 pub mod OneAnswer

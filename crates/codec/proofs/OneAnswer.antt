@@ -1,5 +1,5 @@
 -- One answer of each public function, with the buffer at the end where one is lent (base, specs/Answers). Here of the numbers and of what records
--- and lines begin with; of a kind, of any row and of the table below their own modules. All but bytes8 ask that the bytes lie inside the slice.
+-- and lines begin with; of a kind and of the size of a row below their own modules. All but bytes8 ask that the bytes lie inside the slice.
 -- Assumes nothing.
 use mathlib.Core.Path.{refl, sym, _∙_}
 use denote.Ref.{now}
@@ -24,6 +24,8 @@ use Rattle.codec.proofs.numbers.bytes8.Kinds as bytes
 use Rattle.codec.proofs.numbers.bytes8.Reads as bytes-contract
 use Rattle.codec.proofs.start.put_start.Kinds as start
 use Rattle.codec.proofs.start.put_start.Reads as start-contract
+use Rattle.codec.proofs.start.put_versioned.Kinds as versioned
+use Rattle.codec.proofs.start.put_versioned.Reads as versioned-contract
 
 -- Numbers read.
 pub one-be8 : OneAnswer one-byte.ps one-byte.r one-byte-contract.Learnt
@@ -61,3 +63,7 @@ one-bytes8 κs args f g e e′ p q = p ∙ sym q
 -- What every record and every line begins with: the buffer at the end.
 pub one-put-start : OneAnswerWith start.ps start.r start-contract.Learnt (λ κs e. now (e .0))
 one-put-start κs args f g e e′ p q = (refl, p ∙ sym q)
+
+-- And with a version of its own.
+pub one-put-versioned : OneAnswerWith versioned.ps versioned.r versioned-contract.Learnt (λ κs e. now (e .0))
+one-put-versioned κs args f g e e′ p q = (refl, p ∙ sym q)

@@ -2,7 +2,7 @@
 -- Assumes nothing.
 use mathlib.Core.Path.{_≡_, refl, sym, ap, _∙_}
 use mathlib.Core.Bool.{Bool, true, false}
-use mathlib.Core.List.{List, [], _∷_}
+use mathlib.Core.List.{List, [], _∷_, map}
 use Prim.Native.Nat.{ℕ, zero, suc, _+_, _<_, _≤_, suc-le-suc}
 use native.Mathlib.Omega.{arith}
 use native.Mathlib.Nat.{add-zero, add-suc, suc-add, not-suc-le-zero, le-of-suc-le-suc}
@@ -18,6 +18,12 @@ use Rattle.codec.specs.Codec.{firstBad}
 -- what stands at a place where no field is
 abbrev pub none : Field
 none = field 0 0 0
+
+-- a number of a field stands where the field stands
+pub of-field : (g : Field → ℕ) (z : 0 ≡ g none) (fs : List Field) (i : ℕ) → getD (map g fs) i 0 ≡ g (getD fs i none)
+of-field g z [] i = z
+of-field g z (f ∷ fs) zero = refl
+of-field g z (f ∷ fs) (suc i) = of-field g z fs i
 
 pub record Within (f : Field) (v : ℕ) : Type 0 where
   pub above : f .1 ≤ v

@@ -2,8 +2,8 @@
 pub mod numbers; // numbers.rt: big-endian numbers
 pub mod start; // start.rt: what every record and every line begins with
 
-// A file for each kind: its values from its bytes, and the first value out of its range. Its places and ranges stand there as numbers, not by the
-// table of src/kinds: the reader is on its way, and a table in the code would be stored anew at each record. The proofs hold them to specs/Table.
+// A file for each kind: its values from its bytes, and the first value out of its range. Its places and ranges stand there as numbers, not by a
+// table: the reader is on its way, and a table in the code would be stored anew at each record. The proofs hold them to specs/Table.
 pub mod cattle;
 pub mod close;
 pub mod energy;
@@ -15,8 +15,7 @@ pub mod heading;
 pub mod pig;
 pub mod soil;
 pub mod tillage;
-pub mod by_row; // by_row.rt: the values and the bytes of a record of any row
-pub mod kinds; // kinds.rt: the table as the code has it
+pub mod kinds; // kinds.rt: the kinds by name, and the bytes of a record
 
 // The highest kind, and the last row of the table, which is the farm record of version 2.
 pub const LAST_KIND: u64 = 10;

@@ -8,7 +8,7 @@ ghost use lib.Seq.{sets};
 ghost use Rattle.codec.specs.Codec.{be};
 
 // The length, the version and the kind.
-pub(crate) fn put_versioned(out: &mut [u8], at: usize, len: u64, version: u64, kind: u64)
+pub fn put_versioned(out: &mut [u8], at: usize, len: u64, version: u64, kind: u64)
     requires { ⌜ at + 4 ≤ length (now out) ⌝ }
     ensures { λ _. ⌜ now (out .exit) ≡ sets (sets (sets (now (out .entry)) at (be 2 len)) (at + 2) (be 1 version)) (at + 3) (be 1 kind) ⌝ }
 {

@@ -19,18 +19,18 @@ use Rattle.account.specs.Line.{joined}
 use Rattle.account.specs.Range.{AccountInRange}
 use Rattle.account.proofs.Keeps.{judge-short}
 use Rattle.book.specs.declared.State.{State}
-use Rattle.book.specs.declared.walk.Next.{Next}
+use Rattle.walk.specs.declared.Next.{Next}
 use Rattle.book.specs.Front.{whole, need, front}
 use Rattle.book.specs.State.{holding}
 use Rattle.book.specs.Run.{run}
 use Rattle.book.specs.Call.{Call, call, fits}
-use Rattle.book.specs.Walk.{linesOf, nextOf, linesNext}
+use Rattle.walk.specs.Walk.{linesOf, nextOf, linesNext}
 use Rattle.book.proofs.Fronts.{is-whole}
 use Rattle.book.proofs.Ranges.{range-idle}
 use Rattle.book.proofs.RecordRuns.{record-whole, book-one}
 use Rattle.book.proofs.Longest.{longest-top}
 use Rattle.book.proofs.Calls.{call-at}
-use Rattle.book.proofs.Walks.{Stands, stands, entries-next, entries-end}
+use Rattle.walk.proofs.Walks.{Stands, stands, entries-next, entries-end}
 use Rattle.lister.specs.Listing.{linesText, lineRoom}
 use Rattle.compare.specs.declared.cursor.Taken.{Taken}
 use Rattle.compare.specs.Inner.{Readable, Turned, Written}

@@ -23,12 +23,12 @@ use Rattle.book.proofs.Fronts.{meaning}
 use Rattle.compare.specs.declared.cursor.Cursor.{Cursor}
 use Rattle.account.specs.Judge.{recordRow, judge}
 use Rattle.promises.specs.WholeLines.{isDetail}
-use Rattle.book.specs.Walk.{accepts, Entry, entryOf, recordsIn, entriesFrom, entriesAfter, entriesOf}
+use Rattle.walk.specs.Walk.{accepts, Entry, entryOf, recordsIn, entriesFrom, entriesAfter, entriesOf}
 use Rattle.compare.specs.Same.{same}
 use Rattle.compare.specs.Moved.{timesIn, asOften, allAsOften, sameDetails}
 use Rattle.compare.specs.Compare.{movedOf}
 use Rattle.compare.specs.Inner.{Reached}
-use Rattle.book.proofs.Walks.{records-none}
+use Rattle.walk.proofs.Walks.{records-none}
 use Rattle.compare.proofs.Tellings.{long-enough}
 
 take-none : (n : ℕ) → take {A = List ℕ} n [] ≡ []

@@ -43,7 +43,7 @@ use Rattle.orders.proofs.Runs.{reached-range, reached-heading}
 use Rattle.orders.proofs.Subtotals.{around}
 use Rattle.orders.proofs.AnyOrder.{total-line}
 use Rattle.orders.proofs.Orders.{InTurn, withRecords, lineIn, Same, in-turn, reached-details, given-details, in-order, map-order}
-use Rattle.book.specs.Walk.{Entry, recordsIn, entriesAfter, entriesOf}
+use Rattle.walk.specs.Walk.{Entry, recordsIn, entriesAfter, entriesOf}
 use Rattle.compare.specs.Moved.{sameDetails, LinesMoved}
 use Rattle.compare.specs.Compare.{shapeOf, frontOf, backMost, backOf, between, planOf}
 use Rattle.compare.proofs.Pairs.{leading-left, leading-right, trailing-left}

@@ -19,7 +19,7 @@ use Rattle.compare.specs.declared.cursor.Cursor.{Cursor}
 use Rattle.compare.specs.declared.cursor.Taken.{Taken}
 use Rattle.compare.specs.declared.runs.Counts.{Counts}
 use Rattle.compare.specs.declared.runs.Pair.{Pair}
-use Rattle.book.specs.Walk.{Entry, linesOf, entriesAfter, entriesOf}
+use Rattle.walk.specs.Walk.{Entry, linesOf, entriesAfter, entriesOf}
 use Rattle.compare.specs.Same.{same}
 use Rattle.compare.specs.Compare.{shapeOf, noRuns, oneMore, runsFrom, runsOf, movedOf, planOf}
 use Rattle.compare.specs.Inner.{Turned, Written, Reached, Looked, CountsIn}

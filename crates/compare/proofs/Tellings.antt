@@ -16,7 +16,7 @@ use Rattle.printing.proofs.Sayings.{_⟫_, said-none}
 use Rattle.compare.specs.declared.cursor.Cursor.{Cursor}
 use Rattle.compare.specs.declared.cursor.Taken.{Taken}
 use Rattle.compare.specs.declared.runs.Pair.{Pair}
-use Rattle.book.specs.Walk.{Entry, linesOf, entriesAfter, entriesOf}
+use Rattle.walk.specs.Walk.{Entry, linesOf, entriesAfter, entriesOf}
 use Rattle.compare.specs.Same.{same}
 use Rattle.compare.specs.Remarks.{entryText, recordsText, partText, otherText, pairsText, pairsPart}
 use Rattle.compare.specs.Inner.{Turned, Reached, Looked}

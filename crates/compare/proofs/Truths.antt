@@ -43,11 +43,11 @@ use Rattle.promises.proofs.WholeLines.{shaped, bookRecords}
 use Rattle.promises.proofs.SameLine.{heading-is, gives-line, same-line}
 use Rattle.why.proofs.Faults.{refused-is}
 use Rattle.compare.specs.declared.runs.Counts.{Counts}
-use Rattle.book.specs.Walk.{Entry, entryOf, recordsIn, entriesFrom, entriesAfter, entriesOf}
+use Rattle.walk.specs.Walk.{Entry, entryOf, recordsIn, entriesFrom, entriesAfter, entriesOf}
 use Rattle.compare.specs.Same.{same}
 use Rattle.compare.specs.Compare.{shapeOf, noRuns, oneMore, runsFrom, runsOf, frontOf}
 use Rattle.compare.specs.Remarks.{otherText}
-use Rattle.book.proofs.Walks.{records-none, entries-ended, entries-first, entries-refused}
+use Rattle.walk.proofs.Walks.{records-none, entries-ended, entries-first, entries-refused}
 use Rattle.compare.proofs.SameBytes.{same-true, same-self}
 use Rattle.compare.proofs.Pairs.{runs-most}
 

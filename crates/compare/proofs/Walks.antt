@@ -8,14 +8,14 @@ use native.Mathlib.Omega.{arith}
 use lib.ListN.{length, take, drop, length-drop, drop-of-length-le}
 use lib.Seq.{drop-drop}
 use Rattle.base.proofs.Tests.{lt-or-ge}
-use Rattle.book.proofs.Walks.{entries-nil}
+use Rattle.walk.proofs.Walks.{entries-nil}
 use Rattle.account.specs.declared.Account.{Account}
 use Rattle.account.specs.Account.{noRecord}
 use Rattle.account.specs.Range.{AccountInRange}
 use Rattle.account.proofs.Keeps.{in-range-none}
 use Rattle.compare.specs.declared.cursor.Cursor.{Cursor}
 use Rattle.compare.specs.declared.cursor.Taken.{Taken}
-use Rattle.book.specs.Walk.{Entry, entryOf, entriesAfter, entriesOf}
+use Rattle.walk.specs.Walk.{Entry, entryOf, entriesAfter, entriesOf}
 use Rattle.compare.specs.Inner.{Turned, Reached}
 
 -- the first i entries of the book xs are walked over, up to the byte at, and a is the account after them

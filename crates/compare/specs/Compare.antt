@@ -10,7 +10,7 @@ use Rattle.base.specs.Choice.{pick}
 use Rattle.account.specs.Judge.{kindByte}
 use Rattle.compare.specs.declared.Plan.{Plan}
 use Rattle.compare.specs.declared.runs.Counts.{Counts}
-use Rattle.book.specs.Walk.{Entry, recordsIn}
+use Rattle.walk.specs.Walk.{Entry, recordsIn}
 use Rattle.compare.specs.Same.{same}
 use Rattle.compare.specs.Moved.{sameDetails}
 

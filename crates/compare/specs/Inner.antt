@@ -8,7 +8,7 @@ use lib.ListN.{length, take, drop}
 use Rattle.account.specs.declared.Account.{Account}
 use Rattle.account.specs.Range.{AccountInRange}
 use Rattle.account.specs.Judge.{WholeRecord}
-use Rattle.book.specs.Walk.{linesOf, entryOf, entriesAfter, entriesOf}
+use Rattle.walk.specs.Walk.{linesOf, entryOf, entriesAfter, entriesOf}
 use Rattle.compare.specs.declared.cursor.Cursor.{Cursor}
 use Rattle.compare.specs.declared.cursor.Taken.{Taken}
 use Rattle.compare.specs.declared.runs.Counts.{Counts}

@@ -18,7 +18,7 @@ use Rattle.lister.specs.Listing.{linesText}
 use Rattle.why.specs.Why.{whyOf}
 use Rattle.why.specs.Remarks.{machineText}
 use Rattle.compare.specs.declared.Plan.{Plan}
-use Rattle.book.specs.Walk.{Entry, entriesOf}
+use Rattle.walk.specs.Walk.{Entry, entriesOf}
 use Rattle.compare.specs.Same.{same}
 use Rattle.compare.specs.Compare.{planOf}
 

@@ -2,8 +2,8 @@
 use account::Account;
 use base::rest_of;
 use book::State;
-use book::walk::next_record;
 use line_bytes::LINES_MOST;
+use walk::next_record;
 ghost use mathlib.Core.Path.{_≡_};
 ghost use mathlib.Core.List.{[]};
 ghost use Prim.Native.Nat.{_≤_};

@@ -10,7 +10,7 @@ use crate::runs::runs;
 use base::least;
 ghost use mathlib.Core.Path.{_≡_};
 ghost use lib.ListN.{length};
-ghost use Rattle.book.specs.Walk.{entriesOf};
+ghost use Rattle.walk.specs.Walk.{entriesOf};
 ghost use Rattle.compare.specs.Compare.{planOf};
 
 // The accepted records of either book; how many of them are the same at the beginning and at the end; how many of those at the end give other lines;

@@ -13,7 +13,7 @@ ghost use Prim.Native.Nat.{_-_, _≤_};
 ghost use lib.ListN.{length, take};
 ghost use Rattle.promises.specs.WholeLines.{isDetail};
 ghost use Rattle.book.specs.WholeRecords.{recordsOf};
-ghost use Rattle.book.specs.Walk.{entriesOf};
+ghost use Rattle.walk.specs.Walk.{entriesOf};
 ghost use Rattle.compare.specs.Moved.{timesIn, asOften, eachAsOften, sameDetails};
 ghost use Rattle.compare.specs.Compare.{movedOf};
 
@@ -42,7 +42,7 @@ fn detail(r: &[u8]) -> bool
     requires { ⌜ 4 ≤ length (now r) ⌝ }
     ensures { λ b. ⌜ b ≡ isDetail (now (r .entry)) ⌝ }
 {
-    let row = codec::kinds::row_of(r[2], r[3]);
+    let row = by_row::table::row_of(r[2], r[3]);
     match sort_of(row as u64) {
         Sort::OfGroup => true,
         Sort::OfFarm => true,

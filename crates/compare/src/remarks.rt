@@ -23,7 +23,7 @@ ghost use Rattle.account.specs.Judge.{kindByte};
 ghost use Rattle.printing.specs.Said.{Said};
 ghost use Rattle.names.specs.Hints.{hintText};
 ghost use Rattle.lister.specs.Listing.{linesText};
-ghost use Rattle.book.specs.Walk.{linesOf, entriesOf};
+ghost use Rattle.walk.specs.Walk.{linesOf, entriesOf};
 ghost use Rattle.compare.specs.Inner.{Readable};
 ghost use Rattle.compare.specs.Remarks.{wordOf, entryText, partText, pairsPart, planText, oldBetween, newBetween, changedText, othersText};
 ghost use Rattle.compare.specs.Remarks.{movedText, otherText, twoText, lastText, bookText, bookHint, statusByte};

@@ -11,7 +11,7 @@ ghost use Prim.Native.Nat.{_+_, _≤_, _<_};
 ghost use lib.ListN.{length, take, drop};
 ghost use Rattle.base.specs.Choice.{pick};
 ghost use Rattle.account.specs.Range.{AccountInRange};
-ghost use Rattle.book.specs.Walk.{entriesOf};
+ghost use Rattle.walk.specs.Walk.{entriesOf};
 ghost use Rattle.compare.specs.Same.{same};
 ghost use Rattle.compare.specs.Compare.{shapeOf, oneMore, runsOf};
 ghost use Rattle.compare.specs.Inner.{Looked, CountsIn};

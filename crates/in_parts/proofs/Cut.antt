@@ -19,14 +19,14 @@ use Rattle.account.specs.Account.{noRecord}
 use Rattle.account.specs.Range.{AccountInRange}
 use Rattle.account.specs.Line.{joined}
 use Rattle.account.proofs.Keeps.{in-range-none, in-range-judge, in-range-length}
-use Rattle.book.specs.declared.walk.Found.the-variants.{Ended}
-use Rattle.book.specs.declared.walk.Next.{Next}
+use Rattle.walk.specs.declared.Found.the-variants.{Ended}
+use Rattle.walk.specs.declared.Next.{Next}
 use Rattle.book.specs.Front.{Front, unfinished, badLength, whole, need, front}
 use Rattle.book.specs.Inner.{byLength}
-use Rattle.book.specs.Walk.{Entry, recordAt, noneBut, atFront, nextOf, entryOf, recordsIn, entriesAfter, entriesOf}
+use Rattle.walk.specs.Walk.{Entry, recordAt, noneBut, atFront, nextOf, entryOf, recordsIn, entriesAfter, entriesOf}
 use Rattle.book.proofs.Fronts.{meaning, length-take-two, front-take, front-long}
-use Rattle.book.proofs.NextRecords.{next-ended, next-open}
-use Rattle.book.proofs.Walks.{Stands, stands, entries-end, entries-next}
+use Rattle.walk.proofs.NextRecords.{next-ended, next-open}
+use Rattle.walk.proofs.Walks.{Stands, stands, entries-end, entries-next}
 use Rattle.why.proofs.Faults.{counted}
 use Rattle.in_parts.specs.Cut.{decidingBytes}
 

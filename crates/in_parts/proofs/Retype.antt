@@ -22,8 +22,8 @@ use Rattle.account.specs.Line.{joined}
 use Rattle.account.proofs.Clauses.{in-range-test}
 use Rattle.account.proofs.Keeps.{in-range-none}
 use Rattle.book.specs.State.{noRecordYet}
-use Rattle.book.specs.Walk.{nextOf, recordsIn, entriesAfter}
-use Rattle.book.proofs.Walks.{entries-end}
+use Rattle.walk.specs.Walk.{nextOf, recordsIn, entriesAfter}
+use Rattle.walk.proofs.Walks.{entries-end}
 use Rattle.retype.specs.Typed.{textTyped, accountBehind, typedWhole, SameBytes}
 use Rattle.retype.specs.Book.{Retyping, nothingYet, andThen, acceptedIn, typedBy, retypedBy, lineMost, endText, statusByte}
 use Rattle.retype.proofs.Steps.{none-asked, none-accepted, one-is, one-stops, one-more, as-it-is, grouped}

@@ -18,10 +18,10 @@ use Rattle.account.specs.Judge.{judge}
 use Rattle.book.specs.Front.{Front, unfinished, badLength, whole, need, front}
 use Rattle.book.specs.State.{noRecordYet}
 use Rattle.book.specs.Run.{Run, book, run}
-use Rattle.book.specs.Walk.{recordAt, atFront, nextOf}
-use Rattle.book.proofs.NextRecords.{next-ended, next-open}
+use Rattle.walk.specs.Walk.{recordAt, atFront, nextOf}
+use Rattle.walk.proofs.NextRecords.{next-ended, next-open}
 use Rattle.book.proofs.Runs.{book-ended, book-unfinished, book-bad, book-whole}
-use Rattle.book.proofs.Walks.{stands, entries-end}
+use Rattle.walk.proofs.Walks.{stands, entries-end}
 use Rattle.retype.specs.Book.{Retyping, typedBy}
 use Rattle.retype.proofs.Steps.{none-asked, none-accepted, first-typed}
 use Rattle.in_parts.specs.Retype.{retypedIn, linesIn}

@@ -1,5 +1,5 @@
--- Theorem: the table is comma-separated text of thirteen columns. Each row, of each field of each row of the table of kinds, has twelve commas, no quote, and its
--- one line end last; the whole fits the program's buffer. And rows as they are printed.
+-- Theorem: the table is comma-separated text of thirteen columns. Each row, of each field of each row of the table of kinds, has twelve commas, no
+-- quote, and its one line end last; the whole fits the program's buffer. And rows as they are printed.
 -- Assumes nothing.
 use Prim.Native.Nat.{ℕ, zero, suc, _+_, _-_, _≤_}
 use mathlib.Core.Path.{_≡_, refl}
@@ -39,8 +39,8 @@ allRows zero row = true
 allRows (suc n) row = areRows (length (fields row)) 0 row && allRows n (suc row)
 
 pub thirteen-columns : T (allRows lastRow 1)
-unfolding count sameText areRows allRows table nthPart nthWord leadingOf indexOf indexAfter digitsBy decimal withoutLast lastDigits pointed kindTable fieldTable
-    choiceTable decimalsTable unitTable usualTable helpTable choicesFrom
+unfolding count sameText areRows allRows table nthPart nthWord leadingOf indexOf indexAfter digitsBy decimal withoutLast lastDigits pointed kindTable
+    fieldTable choiceTable decimalsTable unitTable usualTable helpTable choicesFrom
 thirteen-columns = tt
 
 short : T (leb (length kindsText) 8192)

@@ -1,4 +1,5 @@
--- One answer of the public function (base, specs/Answers): what is said, and the buffer at the end (the parameter out). It asks nothing. Assumes nothing.
+-- One answer of the public function (base, specs/Answers): what is said, and the buffer at the end (the parameter out). It asks nothing. Assumes
+-- nothing.
 use denote.Ref.{now}
 use Rattle.base.specs.Answers.{AsksNothing, OneAnswerWith}
 use Rattle.printing.proofs.Examples.{one-put}

@@ -1,5 +1,5 @@
--- The table of kinds for machines, as comma-separated text (CRLF after each row, no quotes): a row for each field of each row of the table of kinds, its
--- range in the unit that people say. It has what forms, help and completions need, so that none of them lists kinds by itself.
+-- The table of kinds for machines, as comma-separated text (CRLF after each row, no quotes): a row for each field of each row of the table of kinds,
+-- its range in the unit that people say. It has what forms, help and completions need, so that none of them lists kinds by itself.
 use Prim.Native.Nat.{ℕ, zero, suc, _+_, _-_}
 use mathlib.Core.List.{List, [], _++_}
 use lib.ListN.{length}

@@ -1,9 +1,9 @@
 // The table of kinds for machines: a row of comma-separated text for each field of each row of the book's table.
-use codec::kinds::highest;
-use codec::kinds::kind_of;
-use codec::kinds::lowest;
-use codec::kinds::values_of;
-use codec::kinds::version_of;
+use by_row::table::highest;
+use by_row::table::kind_of;
+use by_row::table::lowest;
+use by_row::table::values_of;
+use by_row::table::version_of;
 use names::decimals;
 use names::is_choice;
 use names::say_choice;

@@ -55,7 +55,7 @@ fn say_all(out: &mut [u8], at: usize, row: u64) -> usize
     requires { ⌜ at ≤ length (now out) ⌝ }
     ensures { λ r. ⌜ Said (now (out .entry)) (now (out .exit)) at (fieldsText row) r ⌝ }
 {
-    let n = codec::kinds::values_of(row);
+    let n = by_row::table::values_of(row);
     let mut end = say_one(out, at, row, 0);
     let mut i = 1;
     while i < n {

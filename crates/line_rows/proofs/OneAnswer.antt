@@ -11,6 +11,8 @@ use Rattle.line_rows.proofs.put_lines.Kinds as lines
 use Rattle.line_rows.proofs.put_lines.Reads as lines-contract
 use Rattle.line_rows.proofs.put_header.Kinds as head
 use Rattle.line_rows.proofs.put_header.Reads as head-contract
+use Rattle.line_rows.proofs.say_form.Kinds as form
+use Rattle.line_rows.proofs.say_form.Reads as form-contract
 
 pub is-signed-asks-nothing : AsksNothing sign.ps sign-contract.Asked
 is-signed-asks-nothing κs args = tt
@@ -30,3 +32,7 @@ one-put-lines κs args f g e e′ p q = one-put p q
 -- What stands before them.
 pub one-put-header : OneAnswerWith head.ps head.r head-contract.Learnt (λ κs e. now (e .0))
 one-put-header κs args f g e e′ p q = one-put p q
+
+-- A sheet's form in words.
+pub one-say-form : OneAnswerWith form.ps form.r form-contract.Learnt (λ κs e. now (e .0))
+one-say-form κs args f g e e′ p q = one-put (p .put) (q .put)

@@ -69,7 +69,18 @@ rowsBy form (suc n) xs = pick (ltb (length xs) (frontSize xs)) [] (lineRow form 
 unfoldable pub rowsText : Form → List ℕ → List ℕ
 rowsText form xs = rowsBy form (suc (length xs)) xs
 
+-- the names of a sheet's columns
+abbrev pub columnNames : List ℕ
+columnNames = ascii "kind,group,ch4,n2o,co2,excreted,land,grazing,co2e"
+
 -- what stands before the rows: of a sheet the names of its columns
 unfoldable pub header : Form → List ℕ
 header Listing = []
-header Sheet = ascii "kind,group,ch4,n2o,co2,excreted,land,grazing,co2e\r\n"
+header Sheet = columnNames ++ ascii "\r\n"
+
+-- a sheet's form, in words
+abbrev pub sheetForm : List ℕ
+sheetForm =
+    ascii "first the row "
+    ++ (columnNames
+    ++ ascii ", then rows of nine columns, digits without leading zeros, the last empty but on kind 8; CRLF behind each")

@@ -11,13 +11,15 @@ use printing::put_byte;
 use printing::put_decimal;
 use printing::put_signed;
 use printing::put_text;
+use printing::say;
 ghost use mathlib.Core.Path.{_≡_};
 ghost use mathlib.Core.List.{_∷_, []};
 ghost use Prim.Native.Nat.{_+_, _*_, _≤_};
 ghost use lib.ListN.{length, drop};
 ghost use Rattle.line_bytes.specs.Lines.{lineSize, frontSize};
 ghost use Rattle.printing.specs.Decimal.{Put};
-ghost use Rattle.line_rows.specs.Rows.{isSigned, columnText, between, columnsText, ending, rowText, lineRow, rowsText, header};
+ghost use Rattle.printing.specs.Said.{Said};
+ghost use Rattle.line_rows.specs.Rows.{isSigned, columnText, between, columnsText, ending, rowText, lineRow, rowsText, header, sheetForm};
 
 // The lister's rows, or those of a sheet for the spreadsheet.
 pub enum Form {
@@ -27,6 +29,9 @@ pub enum Form {
 
 // The most bytes of a row: no line's text has more than four for each of its bytes.
 pub const ROW_MOST: usize = 4 * TOTAL_SIZE;
+
+// The names of a sheet's columns, here alone.
+const COLUMN_NAMES: [u8; 49] = *b"kind,group,ch4,n2o,co2,excreted,land,grazing,co2e";
 
 // CO2 and CO2e are signed.
 pub fn is_signed(column: usize) -> bool
@@ -126,19 +131,32 @@ pub fn put_line(out: &mut [u8], at: usize, form: Form, s: &[u8]) -> usize
     }
 }
 
-// What stands before the rows: of a sheet the names of its columns, here alone.
+// What stands before the rows: of a sheet the names of its columns.
 pub fn put_header(out: &mut [u8], at: usize, form: Form) -> usize
     requires { ⌜ at + length (header form) ≤ length (now out) ⌝ }
     ensures { λ r. ⌜ Put (now (out .entry)) (now (out .exit)) at (header form) r ⌝ }
 {
     match form {
         Form::Listing => at,
-        Form::Sheet => put_text(
-            out,
-            at,
-            b"kind,group,ch4,n2o,co2,excreted,land,grazing,co2e\r\n",
-        ),
+        Form::Sheet => {
+            let end = put_text(out, at, &COLUMN_NAMES);
+            put_text(out, end, b"\r\n")
+        }
     }
+}
+
+// What a sheet has to be, for people.
+pub fn say_form(out: &mut [u8], at: usize) -> usize
+    requires { ⌜ at ≤ length (now out) ⌝ }
+    ensures { λ r. ⌜ Said (now (out .entry)) (now (out .exit)) at sheetForm r ⌝ }
+{
+    let first = say(out, at, b"first the row ");
+    let names = say(out, first, &COLUMN_NAMES);
+    say(
+        out,
+        names,
+        b", then rows of nine columns, digits without leading zeros, the last empty but on kind 8; CRLF behind each",
+    )
 }
 
 // A row for each line record, from the start of out.

@@ -1,8 +1,8 @@
 // Values of any row of the table: what their record does to the account.
 use account::Account;
 use account::Judged;
-use codec::by_row::first_bad;
-use codec::by_row::write;
+use by_row::first_bad;
+use by_row::write;
 use codec::kinds::bytes_of;
 ghost use Prim.Native.Nat.{_<_};
 ghost use Rattle.codec.specs.Table.{Of};

@@ -3,11 +3,11 @@ mod kinds;
 
 use account::Refusal;
 use book::State;
+use by_row::table::values_of;
 use codec::LAST_KIND;
 use codec::kinds::FARM;
 use codec::kinds::FARM_FACTORS;
 use codec::kinds::bytes_of;
-use codec::kinds::values_of;
 ghost use mathlib.Core.Path.{_≡_};
 ghost use Prim.Native.Nat.{_≤_};
 ghost use lib.ListN.{length};
@@ -124,7 +124,7 @@ pub fn write(state: State, kind: u64, values: &[u64], out: &mut [u8]) -> Written
 {
     let w = answered(state, kind, values, out.len());
     if w.written != 0 {
-        codec::by_row::write(out, 0, row_for(kind, values.len()), values);
+        by_row::write(out, 0, row_for(kind, values.len()), values);
     }
     w
 }

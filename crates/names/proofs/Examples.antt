@@ -79,7 +79,7 @@ numbers-told : (sentence 0 ≡ ascii "closed") × (sentence 8 ≡ ascii "the gro
     × (sentence 23 ≡ ascii "the bytes are no run of whole lines, as the herd desk gives them: a book is none")
     × (sentence 24 ≡ ascii "no such number")
     × (sentence 1000 ≡ ascii "no such number")
-unfolding sentenceTable nthPart indexOf indexAfter
+unfolding sentence sentenceTable nthPart indexOf indexAfter
 numbers-told = (refl, refl, refl, refl, refl, refl, refl, refl)
 
 -- the word of bytes 51, 7 and 200

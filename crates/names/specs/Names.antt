@@ -3,12 +3,13 @@ use Prim.Native.Nat.{ℕ, zero, suc, _-_, min}
 use mathlib.Core.Bool.{Bool, _&&_}
 use mathlib.Core.List.{List, [], _∷_, _++_}
 use lib.ListN.{length, getD, take, drop}
-use lib.Dec.{leb, ltb}
+use lib.Dec.{leb, ltb, eqb}
 use Rattle.base.specs.Choice.{pick}
 use Rattle.codec.specs.Table.{lastKind, lastRow}
 use Rattle.typed_words.specs.Words.{nthPart, nthWord, sameText, lowered}
 use Rattle.printing.specs.Ascii.{ascii}
 use Rattle.printing.specs.Decimal.{pointed}
+use Rattle.line_rows.specs.Rows.{sheetForm}
 
 -- the line k of a text, counted from 0; from the last on all are the same
 abbrev pub tableLine : ℕ → ℕ → List ℕ → List ℕ
@@ -216,16 +217,16 @@ sentenceTable =
     ++ ascii "the bytes end before the close\n"
     ++ ascii "bytes stand behind the close\n"
     ++ ascii "no such number\n"
-    ++ ascii "not of a sheet's form: first the row kind,group,ch4,n2o,co2,excreted,land,grazing,co2e"
-    ++ ascii ", then rows of nine columns, digits without leading zeros, the last empty but on kind 8; CRLF behind each\n"
+    ++ ascii "not of a sheet's form\n"
     ++ ascii "a number is outside its field: kind is 3 to 10 or 16, group up to 65535"
     ++ ascii ", a figure up to 18446744073709551615, co2 and co2e -9223372036854775808 to 9223372036854775807\n"
     ++ ascii "the book is closed already\n"
     ++ ascii "the bytes are no run of whole lines, as the herd desk gives them: a book is none\n"
     ++ ascii "no such number"
 
-abbrev pub sentence : ℕ → List ℕ
-sentence code = tableLine 24 code sentenceTable
+-- 20 also says the form
+unfoldable pub sentence : ℕ → List ℕ
+sentence code = tableLine 24 code sentenceTable ++ pick (eqb code 20) (ascii ": " ++ sheetForm) []
 
 -- ---- a word that is told back
 

@@ -3,6 +3,7 @@ pub mod hints; // hints.rt: what was given in place of a book
 pub mod usual; // usual.rt: which values are usual
 
 use base::rest_of;
+use line_rows::say_form;
 use printing::say;
 use printing::say_pointed;
 use typed_words::is_name;
@@ -18,7 +19,8 @@ ghost use Rattle.printing.specs.Said.{Said};
 ghost use Rattle.typed_words.specs.Words.{sameText, lowered};
 ghost use Rattle.names.specs.Names.{tableLine, kindName, kindNames, fieldNames, fieldName, cellOf, isChoice, choicesOf, wordFor, choiceWord};
 ghost use Rattle.names.specs.Names.{choicesMost, chosenFrom, chosen, labelOf, unitOf, helpOf};
-ghost use Rattle.names.specs.Names.{expectedTable, choicesText, expected, decimalsAt, unitText, valueText, className, sentence, printedByte, shown};
+ghost use Rattle.names.specs.Names.{expectedTable, choicesText, expected, decimalsAt, unitText, valueText, className};
+ghost use Rattle.names.specs.Names.{sentenceTable, sentence, printedByte, shown};
 
 // The line of what is no row of the book's table.
 const NO_ROW: u64 = codec::LAST_ROW + 1;
@@ -382,9 +384,9 @@ pub fn say_class(out: &mut [u8], at: usize, class: u64) -> usize
     say_choice(out, at, 2, 1, class)
 }
 
-pub fn say_sentence(out: &mut [u8], at: usize, code: u64) -> usize
+fn say_line(out: &mut [u8], at: usize, code: u64) -> usize
     requires { ⌜ at ≤ length (now out) ⌝ }
-    ensures { λ r. ⌜ Said (now (out .entry)) (now (out .exit)) at (sentence code) r ⌝ }
+    ensures { λ r. ⌜ Said (now (out .entry)) (now (out .exit)) at (tableLine 24 code sentenceTable) r ⌝ }
 {
     let words = line_of(
         b"closed
@@ -409,8 +411,7 @@ no room
 the bytes end before the close
 bytes stand behind the close
 no such number
-not of a sheet's form: first the row kind,group,ch4,n2o,co2,excreted,land,grazing,co2e, \
-then rows of nine columns, digits without leading zeros, the last empty but on kind 8; CRLF behind each
+not of a sheet's form
 a number is outside its field: kind is 3 to 10 or 16, group up to 65535, \
 a figure up to 18446744073709551615, co2 and co2e -9223372036854775808 to 9223372036854775807
 the book is closed already
@@ -420,6 +421,19 @@ no such number",
         code,
     );
     say(out, at, words)
+}
+
+// The sentence of a number.
+pub fn say_sentence(out: &mut [u8], at: usize, code: u64) -> usize
+    requires { ⌜ at ≤ length (now out) ⌝ }
+    ensures { λ r. ⌜ Said (now (out .entry)) (now (out .exit)) at (sentence code) r ⌝ }
+{
+    let line = say_line(out, at, code);
+    if code == 20 {
+        let colon = say(out, line, b": ");
+        return say_form(out, colon);
+    }
+    line
 }
 
 fn shorter(a: usize, b: usize) -> usize

@@ -21,9 +21,9 @@ use Rattle.account.proofs.Keeps.{in-range-none}
 use Rattle.book.specs.State.{noRecordYet}
 use Rattle.book.specs.Front.{Front, unfinished, badLength, whole, need, front}
 use Rattle.book.specs.WholeRecords.{beginsWith, recordsBy, recordsOf}
-use Rattle.book.specs.Walk.{accepts, recordsIn, entriesFrom}
+use Rattle.walk.specs.Walk.{accepts, recordsIn, entriesFrom}
 use Rattle.book.proofs.RecordRuns.{record-whole}
-use Rattle.book.proofs.Walks.{entries-few, records-few}
+use Rattle.walk.proofs.Walks.{entries-few, records-few}
 use Rattle.retype.specs.Typed.{textTyped, Accepted, AllAccepted, typedWhole, SameBytes}
 use Rattle.retype.specs.Book.{acceptedIn, typedBy, retypedBy}
 use Rattle.retype.proofs.SameBytes.{retyped}

@@ -27,10 +27,10 @@ use Rattle.account.specs.Line.{joined}
 use Rattle.account.specs.Judge.{versionOf, kindByte, WholeRecord, recordRow, valuesOf, judge}
 use Rattle.codec.proofs.EachKind.{row-least, row-most, row-of-kind}
 use Rattle.account.proofs.Refusals.{passed, judged-passes}
-use Rattle.book.specs.declared.walk.Next.{Next}
-use Rattle.book.specs.Walk.{nextOf, recordsIn, entryOf, entriesAfter}
+use Rattle.walk.specs.declared.Next.{Next}
+use Rattle.walk.specs.Walk.{nextOf, recordsIn, entryOf, entriesAfter}
 use Rattle.book.proofs.RecordRuns.{record-whole}
-use Rattle.book.proofs.Walks.{stands, entries-next, entries-end}
+use Rattle.walk.proofs.Walks.{stands, entries-next, entries-end}
 use Rattle.retype.specs.declared.Retyped.{Retyped}
 use Rattle.retype.specs.Typed.{valuesTyped, lineTyped, textTyped, accountBehind}
 use Rattle.retype.proofs.Tables.{name-short, fields-few}

@@ -18,7 +18,7 @@ use Rattle.account.specs.Account.{noRecord}
 use Rattle.account.specs.Range.{accountInRange}
 use Rattle.account.specs.Line.{joined}
 use Rattle.account.specs.Judge.{recordRow, valuesOf}
-use Rattle.book.specs.Walk.{nextOf, recordsIn, entriesAfter}
+use Rattle.walk.specs.Walk.{nextOf, recordsIn, entriesAfter}
 use Rattle.retype.specs.declared.Retyped.{Retyped}
 use Rattle.retype.specs.Typed.{lineTyped, textTyped, accountBehind}
 

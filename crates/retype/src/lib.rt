@@ -3,7 +3,6 @@ use account::Account;
 use account::Refusal;
 use base::first_of;
 use base::rest_of;
-use book::walk::next_record;
 use line_bytes::LINES_MOST;
 use names::say_kind;
 use names::say_sentence;
@@ -11,6 +10,7 @@ use names::say_value;
 use printing::put_byte;
 use printing::say;
 use printing::say_number;
+use walk::next_record;
 ghost use mathlib.Core.Path.{_≡_};
 ghost use Prim.Native.Nat.{_+_, _*_, _/_, _≤_};
 ghost use lib.ListN.{length};
@@ -43,7 +43,7 @@ fn row_at(bytes: &[u8]) -> u64
     requires { ⌜ 4 ≤ length (now bytes) ⌝ }
     ensures { λ r. ⌜ r ≡ recordRow (now (bytes .entry)) ⌝ }
 {
-    let row = codec::kinds::row_of(bytes[2], bytes[3]);
+    let row = by_row::table::row_of(bytes[2], bytes[3]);
     row as u64
 }
 
@@ -73,8 +73,8 @@ fn put_record(out: &mut [u8], at: usize, bytes: &[u8]) -> usize
     ensures { λ r. ⌜ r ≤ at + lineMost ⌝ }
 {
     let row = row_at(bytes);
-    let values = codec::by_row::read(row, bytes, 4);
-    let n = codec::kinds::values_of(row);
+    let values = by_row::read(row, bytes, 4);
+    let n = by_row::table::values_of(row);
     let name = say_kind(out, at, row);
     let end = put_values(out, name, row, &values[..n]);
     put_byte(out, end, b'\n')

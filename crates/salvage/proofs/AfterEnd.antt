@@ -15,7 +15,7 @@ use Rattle.account.specs.Line.{joined}
 use Rattle.book.specs.Front.{Front, unfinished, badLength, whole, need, front}
 use Rattle.book.specs.Inner.{frontNumber}
 use Rattle.book.proofs.Fronts.{meaning, unfinished-short, bad-append, whole-append, length-append-two}
-use Rattle.book.specs.Walk.{recordAt}
+use Rattle.walk.specs.Walk.{recordAt}
 use Rattle.book.specs.WholeRecords.{recordsOf}
 use Rattle.book.proofs.WholeRecords.{records-whole, rest-short}
 use Rattle.salvage.specs.declared.Reading.{Reading}

@@ -21,7 +21,7 @@ use Rattle.names.specs.Names.{sentence}
 use Rattle.account.specs.Judge.{kindByte}
 use Rattle.account.specs.Sorts.{isOfGroup}
 use Rattle.book.specs.Front.{whole, need, front}
-use Rattle.book.specs.Walk.{recordAt}
+use Rattle.walk.specs.Walk.{recordAt}
 use Rattle.book.proofs.Fronts.{meaning}
 use Rattle.salvage.specs.declared.Reading.{Reading}
 use Rattle.salvage.specs.declared.turns.Turn.{Turn}

@@ -17,7 +17,7 @@ use Rattle.account.specs.Judge.{kindByte, first}
 use Rattle.account.specs.Range.{accountInRange}
 use Rattle.account.proofs.Clauses.{in-range-parts, in-range-test}
 use Rattle.book.specs.Front.{whole, need, front}
-use Rattle.book.specs.Walk.{recordAt}
+use Rattle.walk.specs.Walk.{recordAt}
 use Rattle.book.specs.WholeRecords.{recordsOf}
 use Rattle.book.proofs.Fronts.{meaning}
 use Rattle.book.proofs.WholeRecords.{records-whole}
@@ -99,7 +99,8 @@ unfolding found
 line-each s [] = none-told s ∙ none-listed (wordsFrom s [])
 line-each s (r ∷ rs) = go (ends s r) refl (line-each (readingAfter s r) rs)
   where
-    go : (b : Bool) → ends s r ≡ b → linesFrom (readingAfter s r) rs ≡ entriesText (found (readingAfter s r) rs .dropped) (wordsFrom (readingAfter s r) rs)
+    go : (b : Bool) → ends s r ≡ b
+        → linesFrom (readingAfter s r) rs ≡ entriesText (found (readingAfter s r) rs .dropped) (wordsFrom (readingAfter s r) rs)
         → linesFrom s (r ∷ rs) ≡ entriesText (found s (r ∷ rs) .dropped) (wordsFrom s (r ∷ rs))
     go true e ih = rw (lines-end s r rs e, found-ends s r rs e) (none-listed (wordsFrom s (r ∷ rs)))
     go false e ih =
@@ -117,7 +118,8 @@ words-each s (r ∷ rs) = go (ends s r) (words-each (readingAfter s r) rs)
     ws : List (List ℕ)
     ws = wordsFrom (readingAfter s r) rs
 
-    kept : (b : Bool) (w : List ℕ) (e : Entry) → length ws ≡ length (f .dropped) → length (pick b ws (w ∷ ws)) ≡ length (pick b (f .dropped) (e ∷ f .dropped))
+    kept : (b : Bool) (w : List ℕ) (e : Entry) → length ws ≡ length (f .dropped)
+        → length (pick b ws (w ∷ ws)) ≡ length (pick b (f .dropped) (e ∷ f .dropped))
     kept true w e ih = ih
     kept false w e ih = ap suc ih
 

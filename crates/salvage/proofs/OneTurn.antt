@@ -15,11 +15,11 @@ use Rattle.account.specs.declared.Account.{Account}
 use Rattle.account.specs.Judge.{kindByte, first, judge}
 use Rattle.book.specs.Front.{Front, unfinished, badLength, whole, need, front}
 use Rattle.book.specs.Inner.{frontNumber}
-use Rattle.book.specs.Walk.{recordAt}
+use Rattle.walk.specs.Walk.{recordAt}
 use Rattle.book.specs.WholeRecords.{recordsOf}
 use Rattle.book.proofs.Fronts.{meaning}
 use Rattle.book.proofs.WholeRecords.{records-whole}
-use Rattle.book.proofs.Walks.{records-none}
+use Rattle.walk.proofs.Walks.{records-none}
 use Rattle.salvage.specs.declared.Reading.{Reading}
 use Rattle.salvage.specs.declared.turns.Seen.{Seen}
 use Rattle.salvage.specs.declared.turns.Turn.{Turn}

@@ -2,6 +2,7 @@
 use Prim.Native.Nat.{ℕ, zero, suc, _≤_, _<_, min}
 use mathlib.Core.Path.{_≡_, sym, subst}
 use mathlib.Core.Bool.{Bool, true, false, _&&_}
+use mathlib.Core.List.{append-nil}
 use mathlib.Core.Logic.{⊎-elim}
 use native.Mathlib.Omega.{arith}
 use borrow.Author.Tests.{eqb-true, eqb-false}
@@ -11,7 +12,7 @@ use lib.Ieee.Fits.{and-l as and-left, and-r as and-right}
 use Rattle.base.proofs.Tests.{true-or-false}
 use Rattle.bytes.specs.Bytes.{indexOf, indexAfter}
 use Rattle.typed_words.specs.Words.{nthPart}
-use Rattle.names.specs.Names.{sentenceTable, sentence}
+use Rattle.names.specs.Names.{tableLine, sentenceTable, sentence}
 
 -- every number below n passes the test
 unfoldable allBelow : ℕ → (ℕ → Bool) → Bool
@@ -33,5 +34,14 @@ sentences-short : T (allBelow 25 short)
 unfolding allBelow nthPart indexOf indexAfter sentenceTable
 sentences-short = tt
 
+form-short : T (leb (length (sentence 20)) 196)
+unfolding sentence nthPart indexOf indexAfter sentenceTable
+form-short = tt
+
 pub sentence-short : (c : ℕ) → length (sentence c) ≤ 196
-sentence-short c = leb→le _ _ (at-below 25 short sentences-short (min c 24) (omega arith))
+unfolding sentence
+sentence-short c =
+    ⊎-elim (λ (e : eqb c 20 ≡ true). subst (λ (n : ℕ). length (sentence n) ≤ 196) (sym (eqb-true c 20 e)) (leb→le _ _ form-short))
+    (λ (e : eqb c 20 ≡ false). rw (e, append-nil (tableLine 24 c sentenceTable))
+    (leb→le _ _ (at-below 25 short sentences-short (min c 24) (omega arith))))
+    (true-or-false (eqb c 20))

@@ -11,7 +11,7 @@ use Rattle.codec.specs.Codec.{valAt}
 use Rattle.account.specs.Judge.{kindByte}
 use Rattle.account.specs.Line.{joined}
 use Rattle.book.specs.Front.{Front, unfinished, badLength, whole, need, bad, front}
-use Rattle.book.specs.Walk.{recordAt}
+use Rattle.walk.specs.Walk.{recordAt}
 use Rattle.book.specs.WholeRecords.{recordsOf}
 use Rattle.salvage.specs.declared.Reading.{Reading}
 use Rattle.salvage.specs.declared.how_far.Ending.{Ending}

@@ -13,7 +13,7 @@ use Rattle.account.specs.Judge.{kindByte, judge}
 use Rattle.account.specs.Line.{joined}
 use Rattle.book.specs.Front.{need, front}
 use Rattle.book.specs.WholeRecords.{Ready, recordsOf}
-use Rattle.book.specs.Walk.{recordAt}
+use Rattle.walk.specs.Walk.{recordAt}
 use Rattle.salvage.specs.declared.Reading.{Reading}
 use Rattle.salvage.specs.declared.turns.Seen.{Seen}
 use Rattle.salvage.specs.declared.turns.Turn.{Turn}

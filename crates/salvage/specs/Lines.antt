@@ -16,7 +16,7 @@ use Rattle.account.specs.Sorts.{isOfGroup}
 use Rattle.account.specs.Judge.{kindByte}
 use Rattle.account.specs.Range.{accountInRange}
 use Rattle.book.specs.Front.{need, front}
-use Rattle.book.specs.Walk.{recordAt}
+use Rattle.walk.specs.Walk.{recordAt}
 use Rattle.salvage.specs.declared.Reading.{Reading}
 use Rattle.salvage.specs.declared.lines.Reported.{Reported}
 use Rattle.salvage.specs.Salvage.{droppedBy, ends, readingAfter, Entry}

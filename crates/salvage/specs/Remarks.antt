@@ -54,6 +54,7 @@ endText (Refused number) e book = refusedText number
 abbrev pub tooLongText : List ℕ
 tooLongText = ascii "the damaged book is longer than 131072 bytes: nothing is written\n"
 
--- `0` where a book was saved and went out, all of the damaged one was read and all was told; `2` where one went out, and not all was read or told; else `1`
+-- `0` where a book was saved and went out, all of the damaged one was read and all was told; `2` where one went out, and not all was read or told;
+-- else `1`
 abbrev pub statusByte : Bool → Bool → Bool → ℕ
 statusByte saved read told = pick (saved && (read && told)) 48 (pick saved 50 49)

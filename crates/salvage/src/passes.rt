@@ -60,7 +60,7 @@ impl Reading {
     {
         let a = self.account;
         let count = [a.records as u64];
-        codec::by_row::write(book, w, 8, &count);
+        by_row::write(book, w, 8, &count);
     }
 }
 

@@ -1,5 +1,5 @@
--- For the contracts of src/numbers, rows and lines, and of what import adds up (src/lib): what the code holds of a number, a column and a row read at an
--- index of the text. A reader of the promises can pass this file over.
+-- For the contracts of src/numbers, rows and lines, and of what import adds up (src/lib): what the code holds of a number, a column and a row read at
+-- an index of the text. A reader of the promises can pass this file over.
 use mathlib.Core.Path.{_≡_}
 use Prim.Native.Nat.{ℕ, _+_, _≤_, _<_}
 use mathlib.Core.Bool.{true}

@@ -17,7 +17,7 @@ use Rattle.codec.proofs.BigEndian.{one-byte}
 use Rattle.codec.proofs.Within.{ranges}
 use Rattle.codec.proofs.Values.{values-length}
 use Rattle.codec.proofs.Rows.{fields-few}
-use Rattle.codec.proofs.Columns.{twelve-at}
+use Rattle.by_row.proofs.Columns.{twelve-at}
 use Rattle.account.specs.declared.Account.{Account}
 use Rattle.account.specs.Judge.{versionOf, kindByte, recordRow, valuesOf}
 use Rattle.account.specs.Compared.{noNumbers, numbers, outside, badField, rangeOf, valueAt, daysWith, valuesCompared, compared}

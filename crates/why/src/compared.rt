@@ -2,15 +2,15 @@
 use crate::values::value_at;
 use account::Account;
 use account::Used;
+use by_row::table::highest;
+use by_row::table::lowest;
+use by_row::table::row_of;
 use codec::LAST_KIND;
 use codec::kinds::CATTLE;
 use codec::kinds::ENTERIC;
 use codec::kinds::FARM;
 use codec::kinds::PIG;
 use codec::kinds::bytes_of;
-use codec::kinds::highest;
-use codec::kinds::lowest;
-use codec::kinds::row_of;
 use codec::numbers::be8;
 use codec::numbers::be16;
 ghost use mathlib.Core.Path.{_≡_};

@@ -9,6 +9,6 @@ pub(crate) fn value_at(r: &[u8], row: u8, i: usize) -> u64
     requires { ⌜ Sized (now r) × (row ≡ recordRow (now r)) ⌝ }
     ensures { λ n. ⌜ n ≡ getD (valuesOf (now (r .entry))) i 0 ⌝ }
 {
-    let v = codec::by_row::read(row as u64, r, 4);
+    let v = by_row::read(row as u64, r, 4);
     if i < 12 { v[i] } else { 0 }
 }

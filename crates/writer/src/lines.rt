@@ -229,11 +229,11 @@ fn say_takes(out: &mut [u8], at: usize, kind: u64, row: u64) -> usize
     ensures { λ r. ⌜ Said (now (out .entry)) (now (out .exit)) at (takesText kind row) r ⌝ }
 {
     if kind == FARM {
-        let first = say_number(out, at, codec::kinds::values_of(FARM) as u64);
+        let first = say_number(out, at, by_row::table::values_of(FARM) as u64);
         let or = say(out, first, b" or ");
-        return say_many(out, or, codec::kinds::values_of(FARM_FACTORS) as u64);
+        return say_many(out, or, by_row::table::values_of(FARM_FACTORS) as u64);
     }
-    say_many(out, at, codec::kinds::values_of(row) as u64)
+    say_many(out, at, by_row::table::values_of(row) as u64)
 }
 
 fn say_names(out: &mut [u8], at: usize, kind: u64, row: u64) -> usize

@@ -86,7 +86,7 @@ pub fn row_of_line(kind: u64, line: &[u8]) -> u64
 pub fn has_field(row: u64, i: usize) -> bool
     ensures { λ r. ⌜ r ≡ hasField row i ⌝ }
 {
-    i < codec::kinds::values_of(row)
+    i < by_row::table::values_of(row)
 }
 
 // The number of a choice; 0 is none.

@@ -67,7 +67,7 @@ pub(crate) fn unusual_after(a: Account, e: Entry, before: u64) -> u64
     ensures { λ r. ⌜ r ≡ unusualAfter a e before ⌝ }
 {
     let who = who_for(a, e);
-    let n = codec::kinds::values_of(e.kind);
+    let n = by_row::table::values_of(e.kind);
     let mut count = before;
     let mut i = 0;
     while i < n {
@@ -135,7 +135,7 @@ pub(crate) fn say_unusual(
     ensures { λ r. ⌜ Said (now (out .entry)) (now (out .exit)) at (unusualRemarks number a e before) r ⌝ }
 {
     let who = who_for(a, e);
-    let n = codec::kinds::values_of(e.kind);
+    let n = by_row::table::values_of(e.kind);
     let mut count = before;
     let mut end = at;
     let mut i = 0;

@@ -21,5 +21,9 @@ next-choices-spec =
     (λ c.
     let p1 = c .before .before in
     let test = p1 .before .before .before in
-    rw (sym (test .before .is-choice .ensures) ∙ not-false _ (test .if1 .left), ← p1 .before .highest .ensures) (test .before .before .before .before .say .ensures
+    rw (
+      sym (test .before .is-choice .ensures) ∙ not-false _ (test .if1 .left),
+      ←
+          p1 .before .highest .ensures,
+    ) (test .before .before .before .before .say .ensures
     ⟫ p1 .say-words .ensures)))

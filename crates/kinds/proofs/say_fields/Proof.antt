@@ -33,8 +33,16 @@ say-fields-spec =
     (λ c κs. search needs)
     (λ c. record { same = refl; inside = search needs; rest = λ zs q p. p })
     (λ c κs.
-    let n = c .before .before .before in
-    (c .before .before .loop .inv .inside, n .before .before .pre .1, omega (arith, fields-few (n .before .before .args .row), n .values-of .ensures, c .before .loop-test .taken)))
+    let n = c .before .before .before in (
+      c .before .before .loop .inv .inside,
+      n .before .before .pre .1,
+      omega (
+        arith,
+        fields-few (n .before .before .args .row),
+        n .values-of .ensures,
+        c .before .loop-test .taken,
+      ),
+    ))
     (λ c. search needs)
     (λ c. omega arith)
     (λ c.
@@ -45,7 +53,8 @@ say-fields-spec =
     record {
       same = next .long ∙ turn .inv .same;
       inside = omega (arith, next .put .room, next .long);
-      rest = λ zs q p. turn .inv .rest zs q (rw (one-field (n .values-of .result) (turn .i) (n .before .before .args .row) (test .loop-test .taken)) (next ⟫ p));
+      rest = λ zs q p. turn .inv .rest zs q (rw (one-field (n .values-of .result) (turn .i) (n .before .before .args .row) (test .loop-test .taken))
+          (next ⟫ p));
     })
     (λ c. search needs)
     (λ c.

@@ -13,4 +13,5 @@ say-unit-name-spec =
     (λ c κs. search needs)
     (λ c κs. search needs)
     (λ c. search needs)
-    (λ c. rw (c .before .before .before .without-first .ensures, c .before .before .before .before .cell .ensures) at (c .before .before .say .ensures)))
+    (λ c. rw (c .before .before .before .without-first .ensures, c .before .before .before .before .cell .ensures) at
+    (c .before .before .say .ensures)))

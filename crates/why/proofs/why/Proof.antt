@@ -7,9 +7,9 @@ use lib.ListN.{length, take, drop, length-drop}
 use lib.Seq.{length-take-le}
 use Rattle.account.specs.Judge.{WholeRecord}
 use Rattle.book.specs.Front.{front}
-use Rattle.book.specs.Walk.{nextOf}
+use Rattle.walk.specs.Walk.{nextOf}
 use Rattle.book.proofs.RecordRuns.{record-whole}
-use Rattle.book.proofs.Walks.{Stands, stands, none-whole}
+use Rattle.walk.proofs.Walks.{Stands, stands, none-whole}
 use Rattle.why.specs.Inner.{unread}
 use Rattle.why.proofs.Faults.{faulty-told}
 use Rattle.why.proofs.Ways.{Way, way-none, inside, some-bytes, way-next, ended-next, stage-next, why-unread, why-none}

@@ -1,7 +1,7 @@
 -- The code's widths are those of the specification, one after the other. Assumes nothing.
 use mathlib.Core.Path.{refl}
 use native.Mathlib.Omega.{arith}
-use Rattle.codec.proofs.Columns.{of-field}
+use Rattle.codec.proofs.Within.{of-field}
 use Rattle.account.specs.Account.{accountFields}
 use Rattle.account.proofs.AsNumbers.{width-most}
 use Rattle.account.proofs.numbers.width.Statement.{statement}

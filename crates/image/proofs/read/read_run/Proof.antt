@@ -6,7 +6,7 @@ use native.Mathlib.Omega.{arith}
 use lib.ListN.{length, take, drop, length-set}
 use lib.Seq.{sets}
 use Rattle.codec.specs.Codec.{valuesAt}
-use Rattle.codec.proofs.FieldByField.{read-turn, all-read}
+use Rattle.by_row.proofs.FieldByField.{read-turn, all-read}
 use Rattle.account.specs.Account.{accountFields}
 use Rattle.account.proofs.AsNumbers.{width-is}
 use Rattle.image.specs.Image.{placeOf}

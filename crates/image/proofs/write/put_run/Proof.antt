@@ -7,7 +7,7 @@ use native.Mathlib.Nat.{add-zero, add-assoc}
 use lib.ListN.{length, take, drop}
 use lib.Seq.{sets}
 use Rattle.codec.specs.Codec.{bytesOf}
-use Rattle.codec.proofs.FieldByField.{put-turn, all-put}
+use Rattle.by_row.proofs.FieldByField.{put-turn, all-put}
 use Rattle.account.specs.Account.{accountFields}
 use Rattle.account.proofs.AsNumbers.{width-is}
 use Rattle.image.specs.Image.{placeOf}

@@ -5,7 +5,7 @@ use native.Mathlib.Omega.{arith}
 use lib.ListN.{getD, take}
 use Rattle.account.specs.Judge.{WholeRecord, kindByte}
 use Rattle.book.proofs.RecordRuns.{record-whole}
-use Rattle.book.proofs.Walks.{Stands, stands, next-ready}
+use Rattle.walk.proofs.Walks.{Stands, stands, next-ready}
 use Rattle.salvage.proofs.OneTurn.{code-told}
 use Rattle.salvage.proofs.Reading.see.Statement.{statement}
 use Rattle.salvage.proofs.Reading.see.Tie as tie
@@ -21,7 +21,8 @@ whole-so f = let s = place (f .before) in rw (f .first-of .ensures) (record-whol
 
 -- its kind byte
 kind-so : (f : tie.After-first-of)
-    → getD (f .first-of .result .now) 3 0 ≡ kindByte (take (f .before .before .next-alone .result .size) (f .before .before .before .before .before .args .xs .now))
+    → getD (f .first-of .result .now) 3 0 ≡ kindByte (take (f .before .before .next-alone .result .size)
+    (f .before .before .before .before .before .args .xs .now))
 kind-so f = ap (λ (l : List ℕ). getD l 3 0) (f .first-of .ensures)
 
 pub see-spec : {M : Type 1} → statement M

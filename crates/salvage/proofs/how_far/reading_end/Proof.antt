@@ -12,4 +12,5 @@ reading-end-spec =
     (λ c κs. c .before .before .reach .ensures .opened)
     (λ c κs. tt)
     (λ c. c .before .close-bytes .ensures .1)
-    (λ c. end-is _ _ _ _ _ (c .before .before .before .before .reach .ensures) (c .before .before .rest-of .ensures) (c .before .close-bytes .ensures .0) (c .ending-at .ensures)))
+    (λ c. end-is _ _ _ _ _ (c .before .before .before .before .reach .ensures) (c .before .before .rest-of .ensures)
+    (c .before .close-bytes .ensures .0) (c .ending-at .ensures)))

@@ -42,12 +42,14 @@ report-some-spec =
       length-drop (l .loop .at) (l .before .before .before .args .xs .now),
       l .loop .inv .inside,
     ))
-    (λ c. put-length (c .before .before .before .before .before .before .report-next .ensures .0 .put) ∙ c .before .before .before .before .before .before .before .before .before .before .loop .inv .same)
+    (λ c. put-length (c .before .before .before .before .before .before .report-next .ensures .0 .put) ∙
+    c .before .before .before .before .before .before .before .before .before .before .loop .inv .same)
     (λ c.
     let l = c .before .before .before .before .before .before .before .before .before .before in
     let t = c .before .before .before .before .before .before .report-next .ensures in
     let p = c .before .before .before .before .before .before .before .before .rest-of .ensures in (
-      going-stop (l .loop .inv) (c .before .before .before .before .before .before .before .before .before .loop-test .taken) p (t .0) (not-true _ (c .if1 .taken)),
+      going-stop (l .loop .inv) (c .before .before .before .before .before .before .before .before .before .loop-test .taken) p (t .0) (not-true _
+          (c .if1 .taken)),
       omega (arith, t .1 .0 .1, ap length p, length-drop (l .loop .at) (l .before .before .before .args .xs .now), l .loop .inv .inside),
     ))
     (λ c. omega arith)
@@ -55,6 +57,8 @@ report-some-spec =
     (λ c.
     let t = c .before .before .before .before .before .before .report-next .ensures in
     let b = t .1 .0 in
-    going-on (c .before .before .before .before .before .before .before .before .before .before .loop .inv) (c .before .before .before .before .before .before .before .before .before .loop-test .taken) (c .before .before .before .before .before .before .before .before .rest-of .ensures) (t .0) (not-false _ (c .if1 .left)) (b .0) (b .1) (b .2) (t .1 .1))
+    going-on (c .before .before .before .before .before .before .before .before .before .before .loop .inv) (c .before .before .before .before
+    .before .before .before .before .before .loop-test .taken) (c .before .before .before .before .before .before .before .before .rest-of .ensures)
+    (t .0) (not-false _ (c .if1 .left)) (b .0) (b .1) (b .2) (t .1 .1))
     (λ c. search needs)
     (λ c. (going-end (c .before .loop .inv) (omega arith), c .before .loop .inv .inside)))

@@ -16,6 +16,8 @@ say-end-spec =
     (λ c κs. search needs)
     (λ c. search needs)
     (λ c.
-    rw (c .before .before .before .before .before .before .before .before .before .before .before .answer .given .1) (c .before .before .before .before .before .before .before .before .say-reading .ensures ⟫ (rw (c .before .before .before .before .kept-in .ensures) at (c .before .before .say-saved .ensures))))
+    rw (c .before .before .before .before .before .before .before .before .before .before .before .answer .given .1) (c .before .before .before
+    .before .before .before .before .before .say-reading .ensures ⟫ (rw (c .before .before .before .before .kept-in .ensures) at
+    (c .before .before .say-saved .ensures))))
     (λ c. search needs)
     (λ c. rw (c .before .before .before .before .before .answer2 .given .1) (c .before .before .say-refused .ensures)))

@@ -32,6 +32,8 @@ say-ending-spec =
     (λ c. search needs)
     (λ c. rw (c .before .before .before .before .before .enum-told3 .given .1) (c .before .before .say3 .ensures))
     (λ c. search needs)
-    (λ c. rw (c .before .before .before .before .before .before .before .before .before .before .before .before .before .before .before .why .given .1) (c .before .before .before .before .before .before .before .before .before .before .before .say4 .ensures ⟫ c .before .before .before .before .before .before .before .say-number .ensures ⟫ c .before .before .say5 .ensures))
+    (λ c. rw (c .before .before .before .before .before .before .before .before .before .before .before .before .before .before .before .why .given
+    .1) (c .before .before .before .before .before .before .before .before .before .before .before .say4 .ensures ⟫ c .before .before .before .before
+    .before .before .before .say-number .ensures ⟫ c .before .before .say5 .ensures))
     (λ c. search needs)
     (λ c. rw (c .before .before .before .before .before .enum-told4 .given .1) (c .before .before .say6 .ensures)))

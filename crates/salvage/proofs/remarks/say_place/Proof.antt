@@ -13,4 +13,5 @@ say-place-spec =
     (λ c. search needs)
     (λ c κs. search needs)
     (λ c. search needs)
-    (λ c. c .before .before .before .before .before .before .before .before .before .before .before .say .ensures ⟫ c .before .before .before .before .before .before .before .say-number .ensures ⟫ c .before .before .say2 .ensures))
+    (λ c. c .before .before .before .before .before .before .before .before .before .before .before .say .ensures ⟫
+    c .before .before .before .before .before .before .before .say-number .ensures ⟫ c .before .before .say2 .ensures))
