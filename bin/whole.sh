@@ -28,11 +28,10 @@ one_file() {
     esac
 }
 
-# beside PLACE FILE N: makes a new file in the folder of PLACE, and prints its name.
-beside() {
-    made=${1%/*}/.farmbook-$$-$3
-    (set -C && true >"$made") 2>/dev/null || stop 1 "$2 can't be written: its folder takes no new file"
-    printf '%s' "$made"
+# make MADE FILE: makes a new file; what a killed process of the same number left goes first.
+make() {
+    rm -f "$1" 2>/dev/null || :
+    (set -C && true >"$1") 2>/dev/null || stop 1 "$2 can't be written: its folder takes no new file"
 }
 
 # begin BOOK [LIST]: both places are looked at before a file is made; what is made goes again, however this ends.
@@ -46,8 +45,12 @@ begin() {
     trap 'exit 129' HUP
     trap 'exit 130' INT
     trap 'exit 143' TERM
-    book=$(beside "$book_place" "$book_name" 1)
-    [ $# -lt 2 ] || list=$(beside "$list_place" "$list_name" 2)
+    # named before they are made: a signal in between leaves none
+    book=${book_place%/*}/.farmbook-$$-1
+    make "$book" "$book_name"
+    [ $# -eq 2 ] || return 0
+    list=${list_place%/*}/.farmbook-$$-2
+    make "$list" "$list_name"
 }
 
 # on_disk MADE PLACE FILE: the bytes are on the disk; owner and mode are those of the file that is replaced.
