@@ -1,0 +1,4 @@
+pub mod Seen
+pub mod Sums
+pub mod Rows
+pub mod Whole
