@@ -6,3 +6,4 @@ pub mod Cut
 pub mod Why
 pub mod Retype
 pub mod RetypeEnd
+pub mod Records
