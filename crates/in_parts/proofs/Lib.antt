@@ -7,3 +7,4 @@ pub mod Why
 pub mod Retype
 pub mod RetypeEnd
 pub mod Records
+pub mod RecordsWhole
