@@ -1,6 +1,7 @@
 // Reads a book on standard input and prints the table of its records, a row for each that is accepted. The last word goes to standard error.
 use account::Account;
 use libc::STDIN_FILENO;
+use names::hints::Given;
 use names::hints::look;
 use program::Input;
 use program::report;
@@ -77,10 +78,18 @@ fn run(from: Work, book: &[u8], text: &mut [u8]) -> Work
     w
 }
 
+// What could not be read is not looked at.
+fn look_at(book: &[u8], read: bool) -> Given {
+    if read {
+        return look(book);
+    }
+    Given::Book
+}
+
 // What is remarked to a person: a refusal's sentence, or a hint where the input is no book but a typed text, a sheet or nothing.
-fn remark(w: Work, book: &[u8]) {
+fn remark(w: Work, given: Given) {
     let mut text = [0u8; 256];
-    let n = lister::say_remark(&mut text, w.account, look(book));
+    let n = lister::say_remark(&mut text, w.account, given);
     report(&text[..n]);
 }
 
@@ -97,7 +106,7 @@ fn answer(book: &[u8], input: Input)
     let mut text = io::large_buffer();
     let start = begin(&mut text);
     let last = run(start, book, &mut text);
-    remark(last, book);
+    remark(last, look_at(book, input.good));
     end(last, input);
     program::tell_status(lister::status(last.account, input.good, last.written));
 }
