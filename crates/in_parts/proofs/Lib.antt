@@ -6,3 +6,5 @@ pub mod Cut
 pub mod Why
 pub mod Retype
 pub mod RetypeEnd
+pub mod Records
+pub mod RecordsWhole

@@ -1,3 +1,4 @@
 pub mod Sheet
 pub mod Cut
 pub mod Retype
+pub mod Records

@@ -28,7 +28,7 @@ ghost use Rattle.retype.specs.Book.{refusedText, endText, statusByte};
 // A value has at most 20 bytes, and a blank before it.
 const VALUE_MOST: usize = 21;
 // A line has at most a name of 7 bytes, 12 values and the line feed.
-const LINE_MOST: usize = 7 + 12 * VALUE_MOST + 1;
+pub const LINE_MOST: usize = 7 + 12 * VALUE_MOST + 1;
 
 // The account after some records of a book, the bytes taken, the end of the text in the buffer, and whether there may be more.
 pub struct Retyped {
