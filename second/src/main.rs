@@ -6,8 +6,8 @@ mod model;
 #[cfg(test)]
 mod tests;
 
-use makers::{cases, damages, desk, dice, doubts, pairs, rows, texts, trial, whole_books};
-use model::{compare, feed, kinds, lister, programs, salvage, sheets, state, typed, why};
+use makers::{cases, damages, desk, dice, doubts, farms, pairs, rows, texts, trial, whole_books};
+use model::{compare, feed, kinds, lister, programs, records, salvage, sheets, state, typed, why};
 use std::io::{self, BufRead, BufWriter, Read, Write};
 
 const USAGE: &str = "usage:
@@ -33,6 +33,8 @@ const USAGE: &str = "usage:
   second booklines                   reads a book, writes its line records
   second compare OLD NEW             two books, says what compare says of them
   second pair SEED INDEX OLD NEW     writes two books by chance, one an edited copy of the other
+  second records FILE|-              a book's records for machines, as records prints them
+  second farm SEED INDEX             a farm's book by chance, of several groups
   second kinds                       the table of kinds for machines, without its help
   second doubts                      how many doubtful books reach each end of each field's range
 ";
@@ -65,6 +67,8 @@ fn main() {
         ["booklines"] => book_lines(),
         ["compare", old, new] => compare_books(old, new),
         ["pair", seed, index, old, new] => write_pair(seed, index, old, new),
+        ["records", file] => tell_file(records::records, file),
+        ["farm", seed, index] => by_chance(farms::farm, seed, index),
         ["kinds"] => write_bytes(kinds::table().as_bytes()),
         ["doubts"] => write_all(std::iter::once(format!("{}\n", doubts::enough()))),
         _ => Err(USAGE.to_string()),
@@ -94,15 +98,19 @@ fn write_all(texts: impl Iterator<Item = String>) -> Result<(), String> {
     out.flush().map_err(|e| e.to_string())
 }
 
-fn list(file: &str) -> Result<(), String> {
+/// A book by its file's name, or `-` for standard input.
+fn read_book(file: &str) -> Result<Vec<u8>, String> {
     let mut book = Vec::new();
-    let read = if file == "-" {
-        io::stdin().read_to_end(&mut book)
-    } else {
-        std::fs::File::open(file).and_then(|mut f| f.read_to_end(&mut book))
+    let read = match file {
+        "-" => io::stdin().read_to_end(&mut book),
+        _ => std::fs::File::open(file).and_then(|mut f| f.read_to_end(&mut book)),
     };
     read.map_err(|e| format!("{file}: {e}"))?;
-    write_all(std::iter::once(lister::list(&book)))
+    Ok(book)
+}
+
+fn list(file: &str) -> Result<(), String> {
+    write_all(std::iter::once(lister::list(&read_book(file)?)))
 }
 
 fn fresh(seed: &str, count: &str, first: &str) -> Result<(), String> {
@@ -180,9 +188,12 @@ fn some_book(seed: &str, index: &str) -> Result<(), String> {
 
 /// What a program makes of the book on standard input, with its status.
 fn tell(program: fn(&[u8]) -> programs::Told) -> Result<(), String> {
-    let mut book = Vec::new();
-    io::stdin().read_to_end(&mut book).map_err(|e| e.to_string())?;
-    let told = program(&book);
+    tell_file(program, "-")
+}
+
+/// The same of a book by its file's name.
+fn tell_file(program: fn(&[u8]) -> programs::Told, file: &str) -> Result<(), String> {
+    let told = program(&read_book(file)?);
     write_bytes(told.printed.as_bytes())?;
     eprint!("{}", told.said);
     if !told.right {

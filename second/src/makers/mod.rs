@@ -7,6 +7,7 @@ pub mod damages;
 pub mod desk;
 pub mod dice;
 pub mod doubts;
+pub mod farms;
 pub mod grazings;
 pub mod halves;
 pub mod pairs;

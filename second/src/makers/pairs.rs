@@ -3,9 +3,9 @@
 use crate::makers::books::closed_run;
 use crate::makers::dice::Dice;
 use crate::makers::whole_books::book;
-use crate::model::compare::records_of;
 use crate::model::kind;
 use crate::model::state::State;
+use crate::model::walk::records_of;
 
 /// The close of a book, where it has one, with the right count.
 fn counted(mut records: Vec<Vec<u8>>) -> Vec<Vec<u8>> {

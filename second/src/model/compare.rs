@@ -5,6 +5,7 @@ use crate::model::hints::hint;
 use crate::model::kind;
 use crate::model::lister::list;
 use crate::model::state::State;
+use crate::model::walk::records_of;
 use crate::model::why::why;
 use crate::model::words::kind_name;
 use std::fmt::Write;
@@ -14,22 +15,6 @@ struct Entry {
     record: Vec<u8>,
     lines: Vec<u8>,
     text: String,
-}
-
-/// How many bytes the record at the front of some bytes has, where it is whole.
-fn whole(bytes: &[u8]) -> Option<usize> {
-    let length = usize::from(u16::from_be_bytes([*bytes.first()?, *bytes.get(1)?]));
-    ((4..=26).contains(&length) && bytes.len() >= length + 2).then_some(length + 2)
-}
-
-/// The records of some bytes, accepted or not.
-pub fn records_of(mut bytes: &[u8]) -> Vec<Vec<u8>> {
-    let mut records = Vec::new();
-    while let Some(size) = whole(bytes) {
-        records.push(bytes[..size].to_vec());
-        bytes = &bytes[size..];
-    }
-    records
 }
 
 /// The accepted records of a book. The lister's text has a line for each of their lines.

@@ -7,6 +7,7 @@ mod halves;
 mod lines;
 mod parts;
 mod programs;
+mod records;
 mod refusals;
 mod salvage;
 mod sheets;
