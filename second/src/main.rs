@@ -6,8 +6,12 @@ mod model;
 #[cfg(test)]
 mod tests;
 
-use makers::{cases, damages, desk, dice, doubts, farms, pairs, rows, texts, trial, whole_books};
-use model::{compare, feed, kinds, lister, programs, records, salvage, sheets, state, typed, why};
+use makers::{
+    cases, damages, desk, dice, doubts, farms, pairs, rows, sets, texts, trial, whole_books,
+};
+use model::{
+    compare, feed, kinds, lister, programs, records, salvage, sheets, state, table, typed, why,
+};
 use std::io::{self, BufRead, BufWriter, Read, Write};
 
 const USAGE: &str = "usage:
@@ -34,6 +38,9 @@ const USAGE: &str = "usage:
   second compare OLD NEW             two books, says what compare says of them
   second pair SEED INDEX OLD NEW     writes two books by chance, one an edited copy of the other
   second records FILE|-              a book's records for machines, as records prints them
+  second table FILE...               many books in one table for machines, as table prints it
+  second set SEED INDEX FOLDER       writes a set of files by chance to a folder, some of them missing, and prints their names
+  second edges FOLDER                writes books whose sums cross what eight bytes hold
   second farm SEED INDEX             a farm's book by chance, of several groups
   second kinds                       the table of kinds for machines, without its help
   second doubts                      how many doubtful books reach each end of each field's range
@@ -68,6 +75,9 @@ fn main() {
         ["compare", old, new] => compare_books(old, new),
         ["pair", seed, index, old, new] => write_pair(seed, index, old, new),
         ["records", file] => tell_file(records::records, file),
+        ["table", ..] => many_books(&words[1..]),
+        ["set", seed, index, folder] => write_set(seed, index, folder),
+        ["edges", folder] => write_edges(folder),
         ["farm", seed, index] => by_chance(farms::farm, seed, index),
         ["kinds"] => write_bytes(kinds::table().as_bytes()),
         ["doubts"] => write_all(std::iter::once(format!("{}\n", doubts::enough()))),
@@ -249,6 +259,42 @@ fn compare_books(old: &str, new: &str) -> Result<(), String> {
     let (old, new) = (read_file(old)?, read_file(new)?);
     write_bytes(compare::compare(&old, &new).as_bytes())?;
     eprint!("{}", compare::hints(&old, &new));
+    Ok(())
+}
+
+/// The status is 2 where no table can be made, and 1 where not every file is a closed book.
+fn many_books(names: &[&str]) -> Result<(), String> {
+    if table::misused(names) {
+        eprintln!("second: no file, or a comma, a quote or a line end in a file's name");
+        std::process::exit(2);
+    }
+    let files: Vec<_> = names.iter().map(|&name| (name, std::fs::read(name).ok())).collect();
+    let (text, right) = table::table(&files);
+    write_bytes(text.as_bytes())?;
+    if !right {
+        std::process::exit(1);
+    }
+    Ok(())
+}
+
+fn write_set(seed: &str, index: &str, folder: &str) -> Result<(), String> {
+    let set = sets::set(whole_number(seed)?, whole_number(index)?);
+    for (place, book) in set.iter().enumerate() {
+        let name = format!("{folder}/{place} of set {index}.book");
+        match book {
+            Some(book) => std::fs::write(&name, book).map_err(|e| format!("{name}: {e}"))?,
+            None => drop(std::fs::remove_file(&name)),
+        }
+        println!("{name}");
+    }
+    Ok(())
+}
+
+fn write_edges(folder: &str) -> Result<(), String> {
+    for (name, book) in sets::edges() {
+        let file = format!("{folder}/{name}.book");
+        std::fs::write(&file, book).map_err(|e| format!("{file}: {e}"))?;
+    }
     Ok(())
 }
 

@@ -14,6 +14,7 @@ pub mod pairs;
 pub mod parts;
 pub mod plain;
 pub mod rows;
+pub mod sets;
 pub mod slips;
 pub mod states;
 pub mod texts;

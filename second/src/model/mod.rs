@@ -17,6 +17,7 @@ pub mod salvage;
 pub mod sheets;
 pub mod slip;
 pub mod state;
+pub mod table;
 pub mod tillage;
 pub mod typed;
 pub mod usual;

@@ -4,7 +4,7 @@ use crate::model::feed::{feed, Answer};
 use crate::model::figures::signed;
 use crate::model::kind;
 use crate::model::lister::SIGNED;
-use crate::model::record::{number, LENGTHS};
+use crate::model::record::{number, values_of, LENGTHS};
 use crate::model::state::{State, CLOSED, LARGE};
 
 /// One line: its kind, its group, and its figures, six or the total's seven.
@@ -28,6 +28,10 @@ pub struct Entry {
 impl Entry {
     pub fn kind(&self) -> u8 {
         self.record[3]
+    }
+
+    pub fn values(&self) -> Vec<u128> {
+        values_of(&self.record)
     }
 
     /// The subtotal of the group before it, where it ends one.

@@ -14,6 +14,7 @@ mod sheets;
 mod slips;
 mod states;
 mod subtotals;
+mod table;
 mod tillage;
 mod typed;
 mod typed_choices;
