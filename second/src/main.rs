@@ -10,7 +10,8 @@ use makers::{
     cases, damages, desk, dice, doubts, farms, pairs, rows, sets, texts, trial, whole_books,
 };
 use model::{
-    compare, feed, kinds, lister, programs, records, salvage, sheets, state, table, typed, why,
+    compare, covered, feed, kinds, lister, programs, records, salvage, sheets, state, table, typed,
+    why,
 };
 use std::io::{self, BufRead, BufWriter, Read, Write};
 
@@ -36,6 +37,7 @@ const USAGE: &str = "usage:
   second booksheet                   reads a book, writes and says what sheet does
   second booklines                   reads a book, writes its line records
   second compare OLD NEW             two books, says what compare says of them
+  second covered OLD NEW SAID        whether what compare printed tells every line that two texts of the lister have not in common
   second pair SEED INDEX OLD NEW     writes two books by chance, one an edited copy of the other
   second records FILE|-              a book's records for machines, as records prints them
   second table FILE...               many books in one table for machines, as table prints it
@@ -73,6 +75,7 @@ fn main() {
         ["booksheet"] => tell_sheet(sheets::booksheet),
         ["booklines"] => book_lines(),
         ["compare", old, new] => compare_books(old, new),
+        ["covered", old, new, said] => all_told(old, new, said),
         ["pair", seed, index, old, new] => write_pair(seed, index, old, new),
         ["records", file] => tell_file(records::records, file),
         ["table", ..] => many_books(&words[1..]),
@@ -256,10 +259,17 @@ fn read_file(file: &str) -> Result<Vec<u8>, String> {
 }
 
 fn compare_books(old: &str, new: &str) -> Result<(), String> {
-    let (old, new) = (read_file(old)?, read_file(new)?);
+    let (old, new) = (read_book(old)?, read_book(new)?);
     write_bytes(compare::compare(&old, &new).as_bytes())?;
     eprint!("{}", compare::hints(&old, &new));
     Ok(())
+}
+
+/// Prints how many lines differ.
+fn all_told(old: &str, new: &str, said: &str) -> Result<(), String> {
+    let text = |file| String::from_utf8(read_file(file)?).map_err(|e| format!("{file}: {e}"));
+    let count = covered::covered(&text(old)?, &text(new)?, &text(said)?)?;
+    write_bytes(format!("{count}\n").as_bytes())
 }
 
 /// The status is 2 where no table can be made, and 1 where not every file is a closed book.

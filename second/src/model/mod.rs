@@ -1,6 +1,8 @@
 //! The farm book once more, from documents 01 and 02 alone: what is right.
 
+pub mod changes;
 pub mod compare;
+pub mod covered;
 pub mod feed;
 pub mod fields;
 pub mod figures;
@@ -19,6 +21,7 @@ pub mod slip;
 pub mod state;
 pub mod table;
 pub mod tillage;
+pub mod told;
 pub mod typed;
 pub mod usual;
 pub mod walk;

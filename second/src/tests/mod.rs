@@ -1,6 +1,7 @@
 //! The second program's own tests by subject: what the documents say, and what the makers of cases promise.
 
 mod cases;
+mod compare;
 mod figures;
 mod grazing;
 mod halves;
