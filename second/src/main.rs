@@ -10,8 +10,8 @@ use makers::{
     cases, damages, desk, dice, doubts, farms, pairs, rows, sets, texts, trial, whole_books,
 };
 use model::{
-    compare, covered, feed, kinds, lister, programs, records, salvage, sheets, state, table, typed,
-    why,
+    compare, covered, feed, kinds, lister, page, programs, records, salvage, sheets, state, table,
+    typed, why,
 };
 use std::io::{self, BufRead, BufWriter, Read, Write};
 
@@ -43,6 +43,7 @@ const USAGE: &str = "usage:
   second table FILE...               many books in one table for machines, as table prints it
   second set SEED INDEX FOLDER       writes a set of files by chance to a folder, some of them missing, and prints their names
   second edges FOLDER                writes books whose sums cross what eight bytes hold
+  second page FILE|-                 the member's page of a book, as page prints it
   second farm SEED INDEX             a farm's book by chance, of several groups
   second kinds                       the table of kinds for machines, without its help
   second doubts                      how many doubtful books reach each end of each field's range
@@ -81,6 +82,7 @@ fn main() {
         ["table", ..] => many_books(&words[1..]),
         ["set", seed, index, folder] => write_set(seed, index, folder),
         ["edges", folder] => write_edges(folder),
+        ["page", file] => tell_file(page::page, file),
         ["farm", seed, index] => by_chance(farms::farm, seed, index),
         ["kinds"] => write_bytes(kinds::table().as_bytes()),
         ["doubts"] => write_all(std::iter::once(format!("{}\n", doubts::enough()))),

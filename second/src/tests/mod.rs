@@ -6,6 +6,7 @@ mod figures;
 mod grazing;
 mod halves;
 mod lines;
+mod page;
 mod parts;
 mod programs;
 mod records;
