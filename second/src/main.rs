@@ -37,7 +37,7 @@ const USAGE: &str = "usage:
   second booksheet                   reads a book, writes and says what sheet does
   second booklines                   reads a book, writes its line records
   second compare OLD NEW             two books, says what compare says of them
-  second covered OLD NEW SAID        whether what compare printed tells every line that two texts of the lister have not in common
+  second covered OLD NEW SAID        whether compare's text reports every line that two texts of the lister have not in common
   second pair SEED INDEX OLD NEW     writes two books by chance, one an edited copy of the other
   second records FILE|-              a book's records for machines, as records prints them
   second table FILE...               many books in one table for machines, as table prints it
@@ -52,45 +52,56 @@ const USAGE: &str = "usage:
 fn main() {
     let args: Vec<String> = std::env::args().skip(1).collect();
     let words: Vec<&str> = args.iter().map(String::as_str).collect();
-    let done = match words[..] {
+    if let Err(fault) = answered(&words) {
+        eprintln!("second: {fault}");
+        std::process::exit(1);
+    }
+}
+
+/// What is right: the answers of a program.
+fn answered(words: &[&str]) -> Result<(), String> {
+    match *words {
         ["list", file] => list(file),
-        ["stored"] => write_all(cases::stored().into_iter().map(|case| case.text())),
-        ["cases", seed, count] => fresh(seed, count, "0"),
-        ["cases", seed, count, first] => fresh(seed, count, first),
         ["answers"] => answers(),
-        ["desk", seed, count] => desk_books(seed, count),
         ["typed"] => enter_typed(),
-        ["text", seed, index] => some_text(seed, index),
         ["salvage"] => save_damaged(None),
         ["salvage", list] => save_damaged(Some(list)),
-        ["damaged", seed, index] => some_damaged(seed, index),
-        ["book", seed, index] => some_book(seed, index),
         ["listed"] => tell(programs::listed),
         ["retyped"] => tell(programs::retyped),
         ["why"] => say_why(),
-        ["doubtful", seed, index] => some_doubtful(seed, index),
         ["sheeted"] => tell_sheet(sheets::sheeted),
         ["unsheeted"] => tell_sheet(sheets::unsheeted),
-        ["lines", seed, index] => by_chance(rows::lines, seed, index),
-        ["sheet", seed, index] => by_chance(rows::sheet, seed, index),
         ["booksheet"] => tell_sheet(sheets::booksheet),
         ["booklines"] => book_lines(),
         ["compare", old, new] => compare_books(old, new),
-        ["covered", old, new, said] => all_told(old, new, said),
-        ["pair", seed, index, old, new] => write_pair(seed, index, old, new),
+        ["covered", old, new, said] => all_reported(old, new, said),
         ["records", file] => tell_file(records::records, file),
         ["table", ..] => many_books(&words[1..]),
+        ["page", file] => tell_file(page::page, file),
+        ["kinds"] => write_bytes(kinds::table().as_bytes()),
+        _ => made(words),
+    }
+}
+
+/// What is tried: cases, books and texts, stored ones and by chance.
+fn made(words: &[&str]) -> Result<(), String> {
+    match *words {
+        ["stored"] => write_all(cases::stored().into_iter().map(|case| case.text())),
+        ["cases", seed, count] => fresh(seed, count, "0"),
+        ["cases", seed, count, first] => fresh(seed, count, first),
+        ["desk", seed, count] => desk_books(seed, count),
+        ["text", seed, index] => by_chance(texts::text, seed, index),
+        ["damaged", seed, index] => by_chance(damages::damaged, seed, index),
+        ["book", seed, index] => by_chance(whole_books::book, seed, index),
+        ["farm", seed, index] => by_chance(farms::farm, seed, index),
+        ["doubtful", seed, index] => by_chance(doubts::doubtful, seed, index),
+        ["doubts"] => write_all(std::iter::once(format!("{}\n", doubts::enough()))),
+        ["lines", seed, index] => by_chance(rows::lines, seed, index),
+        ["sheet", seed, index] => by_chance(rows::sheet, seed, index),
+        ["pair", seed, index, old, new] => write_pair(seed, index, old, new),
         ["set", seed, index, folder] => write_set(seed, index, folder),
         ["edges", folder] => write_edges(folder),
-        ["page", file] => tell_file(page::page, file),
-        ["farm", seed, index] => by_chance(farms::farm, seed, index),
-        ["kinds"] => write_bytes(kinds::table().as_bytes()),
-        ["doubts"] => write_all(std::iter::once(format!("{}\n", doubts::enough()))),
         _ => Err(USAGE.to_string()),
-    };
-    if let Err(fault) = done {
-        eprintln!("second: {fault}");
-        std::process::exit(1);
     }
 }
 
@@ -170,11 +181,6 @@ fn enter_typed() -> Result<(), String> {
     Ok(())
 }
 
-fn some_text(seed: &str, index: &str) -> Result<(), String> {
-    let (seed, index) = (whole_number(seed)?, whole_number(index)?);
-    write_bytes(&texts::text(seed, index))
-}
-
 /// The clean book is on standard output, what was dropped on standard error; the status is 1 where no book was saved or not all was read.
 fn save_damaged(list: Option<&str>) -> Result<(), String> {
     let mut damaged = Vec::new();
@@ -189,16 +195,6 @@ fn save_damaged(list: Option<&str>) -> Result<(), String> {
         std::process::exit(1);
     }
     Ok(())
-}
-
-fn some_damaged(seed: &str, index: &str) -> Result<(), String> {
-    let (seed, index) = (whole_number(seed)?, whole_number(index)?);
-    write_bytes(&damages::damaged(seed, index))
-}
-
-fn some_book(seed: &str, index: &str) -> Result<(), String> {
-    let (seed, index) = (whole_number(seed)?, whole_number(index)?);
-    write_bytes(&whole_books::book(seed, index))
 }
 
 /// What a program makes of the book on standard input, with its status.
@@ -226,11 +222,6 @@ fn say_why() -> Result<(), String> {
         std::process::exit(1);
     }
     Ok(())
-}
-
-fn some_doubtful(seed: &str, index: &str) -> Result<(), String> {
-    let (seed, index) = (whole_number(seed)?, whole_number(index)?);
-    write_bytes(&doubts::doubtful(seed, index))
 }
 
 /// Writes what a program of sheets writes, says what it says, and ends as it ends.
@@ -268,7 +259,7 @@ fn compare_books(old: &str, new: &str) -> Result<(), String> {
 }
 
 /// Prints how many lines differ.
-fn all_told(old: &str, new: &str, said: &str) -> Result<(), String> {
+fn all_reported(old: &str, new: &str, said: &str) -> Result<(), String> {
     let text = |file| String::from_utf8(read_file(file)?).map_err(|e| format!("{file}: {e}"));
     let count = covered::covered(&text(old)?, &text(new)?, &text(said)?)?;
     write_bytes(format!("{count}\n").as_bytes())

@@ -36,12 +36,13 @@ impl Growing {
     }
 }
 
-/// The farm's own records that a book may have: any, none, or tillage that takes up and nothing else.
+/// The farm's own records that a book may have: any, none, tillage that takes up and nothing else, or some grams of energy.
 #[derive(Clone, Copy, PartialEq, Eq)]
 enum Own {
     Any,
     None,
     TakesUp,
+    Grams,
 }
 
 fn own_record(dice: &mut Dice, state: &State, own: Own) -> Option<Vec<u8>> {
@@ -51,6 +52,7 @@ fn own_record(dice: &mut Dice, state: &State, own: Own) -> Option<Vec<u8>> {
             let kind = dice.of(&[kind::ENERGY, kind::SOIL, kind::TILLAGE]);
             Some(record_of(kind, &right_values(dice, state, kind)))
         }
+        Own::Grams => Some(record_of(kind::ENERGY, &[1, dice.below(50), dice.below(100)])),
         Own::TakesUp => {
             let mut values = right_values(dice, state, kind::TILLAGE);
             (values[2], values[3]) = (dice.between(1, 3), dice.between(1, 5));
@@ -63,7 +65,11 @@ fn own_record(dice: &mut Dice, state: &State, own: Own) -> Option<Vec<u8>> {
 fn add_group(dice: &mut Dice, book: &mut Growing, own: Own) {
     let group = u64::from(book.state.heading.group) + dice.between(1, 9);
     let class = dice.between(1, 4);
-    let head = if dice.one_in(4) { dice.edgy(0, 20_000) } else { dice.below(200) };
+    let head = match dice.below(4) {
+        0 => dice.edgy(0, 20_000),
+        1 => dice.below(9), // where a half of a gram a head is common
+        _ => dice.below(200),
+    };
     book.take(record_of(kind::HEADING, &[group, class, head]));
     for _ in 0..dice.below(10) {
         if dice.one_in(5) {
@@ -94,7 +100,7 @@ fn open_book(dice: &mut Dice, groups: u64, own: Own) -> Growing {
 /// A closed book of up to so many groups.
 pub fn closed(dice: &mut Dice, most: u64) -> Vec<u8> {
     let groups = dice.between(0, most);
-    let own = dice.of(&[Own::Any, Own::Any, Own::None, Own::TakesUp]);
+    let own = dice.of(&[Own::Any, Own::Any, Own::None, Own::TakesUp, Own::Grams]);
     open_book(dice, groups, own).closed()
 }
 
@@ -114,6 +120,7 @@ pub fn farm(seed: u64, index: u64) -> Vec<u8> {
         (_, 5) => cut(dice, 6),
         (_, 6..=8) => wrong(dice, seed, index),
         (_, 9) => open_book(dice, 0, Own::None).closed(),
+        (_, 10) => open_book(dice, 0, Own::Grams).closed(),
         _ => closed(dice, 12),
     }
 }

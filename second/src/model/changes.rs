@@ -26,12 +26,12 @@ pub fn kilograms(grams: i128) -> String {
 /// Each figure that differs, with the difference.
 pub fn figures_now(old: &Line, new: &Line) -> String {
     let pairs = FIGURES.iter().zip(old.figures.iter().zip(&new.figures));
-    let told = |(name, (&x, &y)): (&&str, (&i128, &i128))| {
+    let said = |(name, (&x, &y)): (&&str, (&i128, &i128))| {
         let sign = if y > x { "+" } else { "" };
         let (old, new, more) = (kilograms(x), kilograms(y), kilograms(y - x));
         format!("  {name} {old} kg, now {new}, {sign}{more}\n")
     };
-    pairs.filter(|(_, (x, y))| x != y).map(told).collect()
+    pairs.filter(|(_, (x, y))| x != y).map(said).collect()
 }
 
 /// Each figure that is not 0.
@@ -75,12 +75,12 @@ pub fn record_alone(word: Word, entry: &Entry) -> String {
 fn record_changed(old: &Entry, new: &Entry) -> String {
     let values = old.values().into_iter().zip(new.values());
     let fields = fields_of(old).iter().zip(values).filter(|(_, (v, w))| v != w);
-    let told =
+    let said =
         fields.map(|(field, (v, w))| format!("{}, now {}", value_text(field, v), field.typed(w)));
-    let told = told.collect::<Vec<_>>().join("; ");
+    let said = said.collect::<Vec<_>>().join("; ");
     let now =
         if old.number == new.number { String::new() } else { format!(", now {}", new.number) };
-    format!("record {}{now}, {}: {told}\n", old.number, kind_name(old.kind().into()))
+    format!("record {}{now}, {}: {said}\n", old.number, kind_name(old.kind().into()))
 }
 
 /// One record against another that is not the same: of another row each is alone.

@@ -45,12 +45,12 @@ fn cut(entries: &[Entry]) -> Cut<'_> {
     }
 }
 
-/// A section with its first line, where there is anything to tell.
-fn section(first: &str, told: String) -> String {
-    if told.is_empty() {
-        told
+/// A section with its first line, where it has anything to say.
+fn section(first: &str, said: String) -> String {
+    if said.is_empty() {
+        said
     } else {
-        format!("{first}\n{told}")
+        format!("{first}\n{said}")
     }
 }
 
@@ -96,12 +96,12 @@ fn groups(mut old: &[Part], mut new: &[Part]) -> String {
 /// A group that one book alone has.
 fn alone(word: Word, part: &Part) -> String {
     let records = part.heading.into_iter().chain(part.details);
-    let told: String = records.map(|entry| record_alone(word, entry)).collect();
+    let said: String = records.map(|entry| record_alone(word, entry)).collect();
     let (old, new) = match word {
         Word::Old => (part.subtotal, None),
         Word::New => (None, part.subtotal),
     };
-    told + &sums("subtotal", old, new)
+    said + &sums("subtotal", old, new)
 }
 
 /// A pair of parts: headings, details, and subtotals.

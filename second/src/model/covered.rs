@@ -1,13 +1,16 @@
-//! Whether nothing that differs goes unsaid: each line of one lister's text that the other has not is told by what compare prints.
+//! Whether nothing that differs goes unsaid: each line that one lister's text has and the other has not is reported by what compare prints.
 
-use crate::model::changes::{kilograms, FIGURES};
+use crate::model::changes::FIGURES;
 use crate::model::kind;
-use crate::model::told::{told_of, Record, Section, Told};
+use crate::model::reported::{read, Figure, Record, Reported, Section, Sums};
 use crate::model::words::kind_name;
 use std::collections::{BTreeMap, BTreeSet};
 
 /// A line of the lister: its kind, its group, and its figures.
 type Listed = (u8, u16, Vec<i128>);
+
+/// The texts of the old book and of the new one.
+type Pair<T> = [T; 2];
 
 fn listed(text: &str) -> Vec<Listed> {
     let line = |line: &str| {
@@ -33,67 +36,66 @@ fn lacking(some: &[Listed], others: &[Listed]) -> Vec<Listed> {
     some.iter().filter(|line| lacks(line)).cloned().collect()
 }
 
-/// The records told, old's or new's, of this kind.
-fn told_records<'a>(sections: &[&'a Section], kind: u8, new: bool) -> Vec<&'a Record> {
+/// The records of this kind that are reported of the old book, 0, or of the new one, 1.
+fn records_of<'a>(sections: &[&'a Section], kind: u8, book: usize) -> Vec<&'a Record> {
     let records = sections.iter().flat_map(|section| &section.records);
-    records
-        .filter(|r| r.name == kind_name(kind.into()) && if new { r.new } else { r.old })
-        .collect()
+    records.filter(|r| r.name == kind_name(kind.into()) && [r.old, r.new][book]).collect()
 }
 
-/// Whether a record told can be the one that gives this line: no figure told is another, and of a record that stands alone none is left out.
-fn gives(record: &Record, line: &Listed, new: bool) -> bool {
+/// Whether a record can be the one that gives this line: no figure reported is another, and of a record that stands alone none but 0 is left out.
+fn gives(record: &Record, line: &Listed, book: usize) -> bool {
     let alone = record.old != record.new;
-    FIGURES.iter().zip(&line.2).all(|(name, &grams)| match record.figures.get(*name) {
-        Some(&(x, y)) => grams == if new { y } else { x },
-        None => !alone || grams == 0,
+    FIGURES.iter().zip(&line.2).all(|(name, &grams)| {
+        match record.figures.iter().find(|figure| figure.0 == *name) {
+            Some(&(_, x, y)) => grams == [x, y][book],
+            None => !alone || grams == 0,
+        }
     })
 }
 
-/// Each line is told by a record of its kind, of which there are as many, or is one of those that are only counted: a farm's own line never is.
-fn lines_told(lines: &[Listed], sections: &[&Section], new: bool) -> Result<(), String> {
-    let of_group: Vec<&&Section> =
-        sections.iter().filter(|_| lines.iter().all(|l| l.1 > 0)).collect();
-    let mut counted: usize = of_group.iter().map(|section| section.counted).sum();
+/// Each line is reported by a record of its kind, of which there are as many, or is one of those that are only counted: a farm's own line never is.
+fn lines_covered(lines: &[Listed], sections: &[&Section], book: usize) -> Result<(), String> {
+    let of_group = lines.iter().all(|line| line.1 > 0);
+    let mut counted: usize = sections.iter().map(|s| if of_group { s.counted } else { 0 }).sum();
     let kinds: BTreeSet<u8> = lines.iter().map(|line| line.0).collect();
     for kind in kinds {
         let of_kind: Vec<&Listed> = lines.iter().filter(|line| line.0 == kind).collect();
-        let told = told_records(sections, kind, new);
-        let is_told = |line: &&&Listed| told.iter().any(|record| gives(record, line, new));
-        let found = of_kind.iter().filter(is_told).count().min(told.len());
-        let unsaid = of_kind.len() - found;
+        let records = records_of(sections, kind, book);
+        let found = |line: &&&Listed| records.iter().any(|record| gives(record, line, book));
+        let unsaid = of_kind.len() - of_kind.iter().filter(found).count().min(records.len());
         if unsaid > counted {
-            return Err(format!("of {of_kind:?} {unsaid} are not told"));
+            let book = ["old", "new"][book];
+            return Err(format!("{unsaid} lines of {book} are not reported, of {of_kind:?}"));
         }
         counted -= unsaid;
     }
     Ok(())
 }
 
-/// What is to be told of two subtotals or totals.
-fn sums_told(old: Option<&Listed>, new: Option<&Listed>) -> Option<(String, String)> {
-    let some = |word: &str, line: &Listed| {
-        let named = FIGURES.iter().zip(&line.2).filter(|(_, &grams)| grams != 0);
-        let text = named.map(|(name, &grams)| format!("  {name} {} kg\n", kilograms(grams)));
-        Some((format!(", only in {word}:"), text.collect()))
+/// What is to be reported of two subtotals or totals.
+fn sums_of(lines: Pair<Option<&Listed>>) -> Option<Sums> {
+    let named = |x: &[i128], y: &[i128], keep: fn(i128, i128) -> bool| -> Vec<Figure> {
+        let figures =
+            FIGURES.iter().zip(x.iter().zip(y)).map(|(name, (&x, &y))| (name.to_string(), x, y));
+        figures.filter(|&(_, x, y)| keep(x, y)).collect()
     };
-    match (old, new) {
-        (None, None) => None,
-        (Some(old), None) => some("old", old),
-        (None, Some(new)) => some("new", new),
-        (Some(old), Some(new)) if old == new => None,
-        (Some(old), Some(new)) => {
-            let pairs = FIGURES.iter().zip(old.2.iter().zip(&new.2)).filter(|(_, (x, y))| x != y);
-            let told = |(name, (&x, &y)): (&&str, (&i128, &i128))| {
-                let more = if y < x { kilograms(y - x) } else { format!("+{}", kilograms(y - x)) };
-                format!("  {name} {} kg, now {}, {more}\n", kilograms(x), kilograms(y))
-            };
-            Some((":".to_string(), pairs.map(told).collect()))
+    let one = |word: &str, line: &Listed| {
+        let (words, figures) =
+            (format!(", only in {word}:"), named(&line.2, &line.2, |x, _| x != 0));
+        Some(Sums { words, figures })
+    };
+    match lines {
+        [Some(old), Some(new)] => {
+            let figures = named(&old.2, &new.2, |x, y| x != y);
+            (!figures.is_empty()).then(|| Sums { words: ":".to_string(), figures })
         }
+        [Some(old), None] => one("old", old),
+        [None, Some(new)] => one("new", new),
+        [None, None] => None,
     }
 }
 
-fn with_kind(lines: &[Listed], kind: u8, group: u16) -> Option<&Listed> {
+fn sum_of(lines: &[Listed], kind: u8, group: u16) -> Option<&Listed> {
     lines.iter().find(|line| line.0 == kind && line.1 == group)
 }
 
@@ -103,34 +105,35 @@ fn details_of(lines: &[Listed], group: u16) -> Vec<Listed> {
     lines.iter().filter(|line| line.1 == group && !is_sum(line.0)).cloned().collect()
 }
 
-fn group_covered(old: &[Listed], new: &[Listed], told: &Told, group: u16) -> Result<(), String> {
-    let sections: Vec<&Section> = match group {
-        0 => told.sections.values().collect(),
-        _ => told.sections.get(&group).into_iter().collect(),
-    };
-    let (x, y) = (details_of(old, group), details_of(new, group));
-    lines_told(&lacking(&x, &y), &sections, false)?;
-    lines_told(&lacking(&y, &x), &sections, true)?;
-    let subtotals = [old, new].map(|lines| with_kind(lines, kind::SUBTOTAL, group));
-    let wanted = sums_told(subtotals[0], subtotals[1]);
-    let got = told.sections.get(&group).and_then(|section| section.subtotal.clone());
-    if wanted != got {
-        return Err(format!("subtotal of group {group}: {wanted:?} is to be told, and is {got:?}"));
+fn same(what: &str, wanted: Option<Sums>, got: Option<Sums>) -> Result<(), String> {
+    if wanted == got {
+        return Ok(());
     }
-    Ok(())
+    Err(format!("the {what}: {wanted:?} is to be reported, and it is {got:?}"))
 }
 
-/// How many lines differ, all of them told, or what is not.
+/// A group's details and its subtotal; the farm's own details may stand in any section.
+fn group_covered(books: &Pair<Vec<Listed>>, reported: &Reported, group: u16) -> Result<(), String> {
+    let in_group = |section: &&Section| group == 0 || section.group == group;
+    let sections: Vec<&Section> = reported.sections.iter().filter(in_group).collect();
+    let [old, new] = [0, 1].map(|book| details_of(&books[book], group));
+    lines_covered(&lacking(&old, &new), &sections, 0)?;
+    lines_covered(&lacking(&new, &old), &sections, 1)?;
+    let wanted = sums_of([0, 1].map(|book| sum_of(&books[book], kind::SUBTOTAL, group)));
+    let section = reported.sections.iter().find(|section| section.group == group);
+    let got = section.and_then(|section| section.subtotal.clone());
+    same(&format!("subtotal of group {group}"), wanted, got)
+}
+
+/// How many lines differ, all of them reported; or what is not.
 pub fn covered(old: &str, new: &str, said: &str) -> Result<usize, String> {
-    let (old, new, told) = (listed(old), listed(new), told_of(said)?);
-    let groups: BTreeSet<u16> = old.iter().chain(&new).map(|line| line.1).collect();
+    let (books, reported) = ([listed(old), listed(new)], read(said)?);
+    let groups: BTreeSet<u16> = books.iter().flatten().map(|line| line.1).collect();
     for &group in &groups {
-        group_covered(&old, &new, &told, group)?;
+        group_covered(&books, &reported, group)?;
     }
-    let totals = [&old, &new].map(|lines| with_kind(lines, kind::CLOSE, 0));
-    let wanted = sums_told(totals[0], totals[1]);
-    if wanted != told.total {
-        return Err(format!("total: {wanted:?} is to be told, and is {:?}", told.total));
-    }
-    Ok(lacking(&old, &new).len() + lacking(&new, &old).len())
+    let wanted = sums_of([0, 1].map(|book| sum_of(&books[book], kind::CLOSE, 0)));
+    same("total", wanted, reported.total)?;
+    let [old, new] = &books;
+    Ok(lacking(old, new).len() + lacking(new, old).len())
 }

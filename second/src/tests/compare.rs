@@ -148,23 +148,23 @@ total:
     );
 }
 
-/// Of those between, one that is the same is not told.
+/// Of those between, one that is the same is not reported.
 #[test]
 fn one_by_one() {
     let ration = |days: u64| [days, 30_000, 650];
     let (a, b, c) = (ration(1), ration(2), ration(3));
     let of = |x, y, z| book(&[TWELVE, (kind::ENTERIC, x), (kind::ENTERIC, y), (kind::ENTERIC, z)]);
-    let told = said(&of(&a, &b, &a), &of(&c, &b, &c));
+    let text = said(&of(&a, &b, &a), &of(&c, &b, &c));
     assert!(
-        told.contains("record 2, enteric: days 1, now 3\n")
-            && told.contains("record 4, enteric: days 1, now 3\n")
+        text.contains("record 2, enteric: days 1, now 3\n")
+            && text.contains("record 4, enteric: days 1, now 3\n")
     );
-    assert!(!told.contains("record 3"));
+    assert!(!text.contains("record 3"));
 }
 
 #[test]
 fn an_unfinished_book() {
-    let told = compare(&sample()[..57], &sample());
+    let text = compare(&sample()[..57], &sample());
     let wanted = "old: unfinished: the next length is not known
 new: accepted
 group 12:
@@ -176,15 +176,15 @@ total, only in new:
   CO2e 18241.034 kg
 all else is the same
 ";
-    assert_eq!(told, wanted);
+    assert_eq!(text, wanted);
 }
 
 #[test]
 fn a_farm_record() {
     let rest = &sample()[11..];
     let other = [record_of(kind::FARM, &[7, 2011, 2]), rest.to_vec()].concat();
-    let told = said(&sample(), &other);
-    assert!(told.starts_with("before the groups:\nrecord 0, farm: year 2010, now 2011; warming set 1, now 2\ntotal:\n  CO2e "));
+    let text = said(&sample(), &other);
+    assert!(text.starts_with("before the groups:\nrecord 0, farm: year 2010, now 2011; warming set 1, now 2\ntotal:\n  CO2e "));
     let factors = [record_of(kind::FARM, &[7, 2010, 21, 310]), rest.to_vec()].concat();
     let wanted = "before the groups:
 old record 0, farm: farm number 7; year 2010; warming set 1

@@ -25,9 +25,9 @@ fn bar(rect: &str, zero: &str) -> String {
 /// 826,954 g × 21 are 17,366,034 g, and 434,150.85 a head; the unit of the bars is 18,242 g.
 #[test]
 fn the_sample_by_hand() {
-    let told = page(&sample());
-    let text = told.printed;
-    assert_eq!((told.said.as_str(), told.right), ("", true));
+    let made = page(&sample());
+    let text = made.printed;
+    assert_eq!((made.said.as_str(), made.right), ("", true));
     assert!(text.contains("<title>Farm 7, 2010: greenhouse gas statement</title>"));
     assert!(text.contains("<p id=\"total\" class=\"sum\">18\u{202f}241<small>.034</small> <span>"));
     assert!(text.contains("CO<sub>2</sub>e is 21 &times; CH<sub>4</sub> + 310 &times; N"));
@@ -98,26 +98,26 @@ fn rows_without_figures() {
 
 #[test]
 fn pages_without_figures() {
-    let told = page(&sample()[..50]);
-    assert!(!told.right && told.printed.contains("<title>Farm 7, 2010: not for members</title>"));
+    let made = page(&sample()[..50]);
+    assert!(!made.right && made.printed.contains("<title>Farm 7, 2010: not for members</title>"));
     let why = "<h2>Why</h2>\n<p>the book ends inside a record, which needs 7 more bytes\n</p>\n";
-    assert!(told.printed.contains(why));
-    assert!(told
+    assert!(made.printed.contains(why));
+    assert!(made
         .printed
         .contains("Farm 7, 2010. Made from a book that is not closed, of 4 records.</p>"));
-    let told = page(&[]);
-    assert!(told.printed.contains("<h1>No farm</h1>") && told.said.starts_with("this is empty"));
-    assert!(told.printed.contains(
+    let made = page(&[]);
+    assert!(made.printed.contains("<h1>No farm</h1>") && made.said.starts_with("this is empty"));
+    assert!(made.printed.contains(
         "<p id=\"verdict\">No farm. Made from a book that is not closed, of 0 records.</p>"
     ));
-    let told = page(&[&sample()[..32], &[0, 4, 1, 99, 0, 0]].concat());
-    assert!(told.printed.contains("<p>record 3: the kind is 99; it must be at most 10\n</p>\n"));
-    assert!(told
+    let made = page(&[&sample()[..32], &[0, 4, 1, 99, 0, 0]].concat());
+    assert!(made.printed.contains("<p>record 3: the kind is 99; it must be at most 10\n</p>\n"));
+    assert!(made
         .printed
         .contains("Farm 7, 2010. Made from a book that is refused after 3 records.</p>"));
     for index in 0..200 {
-        let told = page(&farm(29, index));
-        assert_eq!(told.right, told.printed.contains("<table"));
-        assert_eq!(told.right, !told.printed.contains("Not for members"));
+        let made = page(&farm(29, index));
+        assert_eq!(made.right, made.printed.contains("<table"));
+        assert_eq!(made.right, !made.printed.contains("Not for members"));
     }
 }

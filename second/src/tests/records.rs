@@ -18,19 +18,19 @@ const SAMPLE: &str = "record,first,last,name,group,typed,ch4,n2o,co2,excreted,la
 
 #[test]
 fn the_sample_by_hand() {
-    let told = records(&sample());
-    assert_eq!((told.printed.as_str(), told.said.as_str(), told.right), (SAMPLE, "closed\n", true));
+    let made = records(&sample());
+    assert_eq!((made.printed.as_str(), made.said.as_str(), made.right), (SAMPLE, "closed\n", true));
     assert_eq!(records(&[sample(), vec![0]].concat()).printed, SAMPLE);
 }
 
 #[test]
 fn what_ends_early_has_the_rows_before_and_the_last_word() {
-    let told = records(&sample()[..50]);
-    assert_eq!(told.printed, SAMPLE[..SAMPLE.find("4,45").unwrap()]);
-    assert_eq!((told.said.as_str(), told.right), ("unfinished\n", false));
-    let told = records(&[]);
-    assert_eq!(told.printed.matches("\r\n").count(), 1);
-    assert_eq!(told.said, "this is empty: a book begins with its farm record\nunfinished\n");
+    let made = records(&sample()[..50]);
+    assert_eq!(made.printed, SAMPLE[..SAMPLE.find("4,45").unwrap()]);
+    assert_eq!((made.said.as_str(), made.right), ("unfinished\n", false));
+    let made = records(&[]);
+    assert_eq!(made.printed.matches("\r\n").count(), 1);
+    assert_eq!(made.said, "this is empty: a book begins with its farm record\nunfinished\n");
     let refused = [&sample()[..32], &[0, 4, 1, 99, 0, 0]].concat();
     assert!(records(&refused).said.ends_with("bin/why tells more\nrefused 3 3 0\n"));
 }
