@@ -3,6 +3,7 @@
 use crate::makers::dice::Dice;
 use crate::makers::farms::farm;
 use crate::makers::plain::plain_values;
+use crate::makers::whole_books::book;
 use crate::model::kind;
 use crate::model::record::record_of;
 use crate::model::state::MOST_RECORDS;
@@ -47,7 +48,7 @@ fn takes_up(dice: &mut Dice) -> Vec<u8> {
     [farm, tillage, record_of(kind::CLOSE, &[2])].concat()
 }
 
-/// Up to 30 files: mostly farms' books of every sort, some closed ones alone; a file that is missing has no bytes.
+/// Up to 30 files: mostly farms' books of every sort, or closed ones alone; now and then a long book or a text; a file that is missing has no bytes.
 pub fn set(seed: u64, index: u64) -> Vec<Option<Vec<u8>>> {
     let mut dice = Dice::of_case(seed ^ 0x5345_5453, index);
     let count = if index < 3 { index } else { dice.between(0, 30) };
@@ -56,6 +57,7 @@ pub fn set(seed: u64, index: u64) -> Vec<Option<Vec<u8>>> {
         0 if !all_closed => None,
         1 => Some(takes_up(dice)),
         2 if dice.one_in(4) => Some(hugest()),
+        3 if !all_closed => Some(book(seed, dice.between(15, 24))),
         _ if all_closed => {
             Some(farm(seed, 20 * dice.between(1, 40) + dice.of(&[0, 1, 2, 3, 9, 12, 15])))
         }
