@@ -85,21 +85,28 @@ fn group_removed(dice: &mut Dice, records: &mut Records) {
     }
 }
 
-/// A heading with another class or head, or another number that may still rise.
+/// A heading with another head, or any other value; now and then what stands under it in another order too.
 fn heading_changed(dice: &mut Dice, records: &mut Records) {
     let starts = starts_of(records);
-    if starts.len() > 1 {
-        let at = starts[dice.below(starts.len() as u64 - 1) as usize];
+    if starts.len() < 2 {
+        return;
+    }
+    let place = dice.below(starts.len() as u64 - 1) as usize;
+    let at = starts[place];
+    let of_length = records[at].len() == 9;
+    if of_length && dice.below(3) > 0 {
+        let head = dice.below(60) as u8;
+        records[at][7..].copy_from_slice(&[0, head]);
+    } else {
         records[at] = changed(dice, &records[at]);
+    }
+    if dice.one_in(3) {
+        turned(dice, &mut records[at + 1..starts[place + 1]]);
     }
 }
 
-/// What stands under a heading in another order, all of it or a part.
-fn reordered(dice: &mut Dice, records: &mut Records) {
-    let starts = starts_of(records);
-    let place = dice.below(starts.len() as u64) as usize;
-    let low = if place == 0 { 1 } else { starts[place - 1] + 1 };
-    let run = &mut records[low.min(starts[place])..starts[place]];
+/// Some records in another order, all of them or some.
+fn turned(dice: &mut Dice, run: &mut [Vec<u8>]) {
     match (run.len(), dice.below(3)) {
         (0 | 1, _) => (),
         (_, 0) => run.reverse(),
@@ -110,11 +117,19 @@ fn reordered(dice: &mut Dice, records: &mut Records) {
     }
 }
 
+/// What stands before the groups or under a heading in another order.
+fn reordered(dice: &mut Dice, records: &mut Records) {
+    let starts = starts_of(records);
+    let place = dice.below(starts.len() as u64) as usize;
+    let low = if place == 0 { 1 } else { starts[place - 1] + 1 };
+    turned(dice, &mut records[low.min(starts[place])..starts[place]]);
+}
+
 /// One edit of a book's records in any place.
 fn edited(dice: &mut Dice, mut records: Records) -> Records {
     let count = records.len() as u64;
     let (at, to) = (dice.below(count) as usize, dice.below(count) as usize);
-    match dice.below(16) {
+    match dice.below(18) {
         0 | 1 => drop(records.remove(at)),
         2 => records.insert(at, records[to].clone()),
         3 | 4 => added(dice, &mut records, at),
@@ -126,9 +141,9 @@ fn edited(dice: &mut Dice, mut records: Records) -> Records {
         }
         10 => group_added(dice, &mut records),
         11 => group_removed(dice, &mut records),
-        12 => heading_changed(dice, &mut records),
-        13 => records[0] = changed(dice, &records[0]),
-        14 if dice.one_in(2) => records[0] = of_other_version(&records[0]),
+        12..=14 => heading_changed(dice, &mut records),
+        15 => records[0] = changed(dice, &records[0]),
+        16 if dice.one_in(2) => records[0] = of_other_version(&records[0]),
         _ => reordered(dice, &mut records),
     }
     records
