@@ -6,8 +6,13 @@ mod model;
 #[cfg(test)]
 mod tests;
 
-use makers::{cases, damages, desk, dice, doubts, pairs, rows, texts, trial, whole_books};
-use model::{compare, feed, kinds, lister, programs, salvage, sheets, state, typed, why};
+use makers::{
+    cases, damages, desk, dice, doubts, farms, pairs, rows, sets, texts, trial, whole_books,
+};
+use model::{
+    compare, covered, feed, kinds, lister, page, programs, records, salvage, sheets, state, table,
+    typed, why,
+};
 use std::io::{self, BufRead, BufWriter, Read, Write};
 
 const USAGE: &str = "usage:
@@ -32,7 +37,14 @@ const USAGE: &str = "usage:
   second booksheet                   reads a book, writes and says what sheet does
   second booklines                   reads a book, writes its line records
   second compare OLD NEW             two books, says what compare says of them
+  second covered OLD NEW SAID        whether compare's text reports every line that two texts of the lister have not in common
   second pair SEED INDEX OLD NEW     writes two books by chance, one an edited copy of the other
+  second records FILE|-              a book's records for machines, as records prints them
+  second table FILE...               many books in one table for machines, as table prints it
+  second set SEED INDEX FOLDER       writes a set of files by chance to a folder, some of them missing, and prints their names
+  second edges FOLDER                writes books whose sums cross what eight bytes hold
+  second page FILE|-                 the member's page of a book, as page prints it
+  second farm SEED INDEX             a farm's book by chance, of several groups
   second kinds                       the table of kinds for machines, without its help
   second doubts                      how many doubtful books reach each end of each field's range
 ";
@@ -40,38 +52,56 @@ const USAGE: &str = "usage:
 fn main() {
     let args: Vec<String> = std::env::args().skip(1).collect();
     let words: Vec<&str> = args.iter().map(String::as_str).collect();
-    let done = match words[..] {
+    if let Err(fault) = answered(&words) {
+        eprintln!("second: {fault}");
+        std::process::exit(1);
+    }
+}
+
+/// What is right: the answers of a program.
+fn answered(words: &[&str]) -> Result<(), String> {
+    match *words {
         ["list", file] => list(file),
-        ["stored"] => write_all(cases::stored().into_iter().map(|case| case.text())),
-        ["cases", seed, count] => fresh(seed, count, "0"),
-        ["cases", seed, count, first] => fresh(seed, count, first),
         ["answers"] => answers(),
-        ["desk", seed, count] => desk_books(seed, count),
         ["typed"] => enter_typed(),
-        ["text", seed, index] => some_text(seed, index),
         ["salvage"] => save_damaged(None),
         ["salvage", list] => save_damaged(Some(list)),
-        ["damaged", seed, index] => some_damaged(seed, index),
-        ["book", seed, index] => some_book(seed, index),
         ["listed"] => tell(programs::listed),
         ["retyped"] => tell(programs::retyped),
         ["why"] => say_why(),
-        ["doubtful", seed, index] => some_doubtful(seed, index),
         ["sheeted"] => tell_sheet(sheets::sheeted),
         ["unsheeted"] => tell_sheet(sheets::unsheeted),
-        ["lines", seed, index] => by_chance(rows::lines, seed, index),
-        ["sheet", seed, index] => by_chance(rows::sheet, seed, index),
         ["booksheet"] => tell_sheet(sheets::booksheet),
         ["booklines"] => book_lines(),
         ["compare", old, new] => compare_books(old, new),
-        ["pair", seed, index, old, new] => write_pair(seed, index, old, new),
+        ["covered", old, new, said] => all_reported(old, new, said),
+        ["records", file] => tell_file(records::records, file),
+        ["table", ..] => many_books(&words[1..]),
+        ["page", file] => tell_file(page::page, file),
         ["kinds"] => write_bytes(kinds::table().as_bytes()),
+        _ => made(words),
+    }
+}
+
+/// What is tried: cases, books and texts, stored ones and by chance.
+fn made(words: &[&str]) -> Result<(), String> {
+    match *words {
+        ["stored"] => write_all(cases::stored().into_iter().map(|case| case.text())),
+        ["cases", seed, count] => fresh(seed, count, "0"),
+        ["cases", seed, count, first] => fresh(seed, count, first),
+        ["desk", seed, count] => desk_books(seed, count),
+        ["text", seed, index] => by_chance(texts::text, seed, index),
+        ["damaged", seed, index] => by_chance(damages::damaged, seed, index),
+        ["book", seed, index] => by_chance(whole_books::book, seed, index),
+        ["farm", seed, index] => by_chance(farms::farm, seed, index),
+        ["doubtful", seed, index] => by_chance(doubts::doubtful, seed, index),
         ["doubts"] => write_all(std::iter::once(format!("{}\n", doubts::enough()))),
+        ["lines", seed, index] => by_chance(rows::lines, seed, index),
+        ["sheet", seed, index] => by_chance(rows::sheet, seed, index),
+        ["pair", seed, index, old, new] => write_pair(seed, index, old, new),
+        ["set", seed, index, folder] => write_set(seed, index, folder),
+        ["edges", folder] => write_edges(folder),
         _ => Err(USAGE.to_string()),
-    };
-    if let Err(fault) = done {
-        eprintln!("second: {fault}");
-        std::process::exit(1);
     }
 }
 
@@ -94,15 +124,19 @@ fn write_all(texts: impl Iterator<Item = String>) -> Result<(), String> {
     out.flush().map_err(|e| e.to_string())
 }
 
-fn list(file: &str) -> Result<(), String> {
+/// A book by its file's name, or `-` for standard input.
+fn read_book(file: &str) -> Result<Vec<u8>, String> {
     let mut book = Vec::new();
-    let read = if file == "-" {
-        io::stdin().read_to_end(&mut book)
-    } else {
-        std::fs::File::open(file).and_then(|mut f| f.read_to_end(&mut book))
+    let read = match file {
+        "-" => io::stdin().read_to_end(&mut book),
+        _ => std::fs::File::open(file).and_then(|mut f| f.read_to_end(&mut book)),
     };
     read.map_err(|e| format!("{file}: {e}"))?;
-    write_all(std::iter::once(lister::list(&book)))
+    Ok(book)
+}
+
+fn list(file: &str) -> Result<(), String> {
+    write_all(std::iter::once(lister::list(&read_book(file)?)))
 }
 
 fn fresh(seed: &str, count: &str, first: &str) -> Result<(), String> {
@@ -147,11 +181,6 @@ fn enter_typed() -> Result<(), String> {
     Ok(())
 }
 
-fn some_text(seed: &str, index: &str) -> Result<(), String> {
-    let (seed, index) = (whole_number(seed)?, whole_number(index)?);
-    write_bytes(&texts::text(seed, index))
-}
-
 /// The clean book is on standard output, what was dropped on standard error; the status is 1 where no book was saved or not all was read.
 fn save_damaged(list: Option<&str>) -> Result<(), String> {
     let mut damaged = Vec::new();
@@ -168,21 +197,14 @@ fn save_damaged(list: Option<&str>) -> Result<(), String> {
     Ok(())
 }
 
-fn some_damaged(seed: &str, index: &str) -> Result<(), String> {
-    let (seed, index) = (whole_number(seed)?, whole_number(index)?);
-    write_bytes(&damages::damaged(seed, index))
-}
-
-fn some_book(seed: &str, index: &str) -> Result<(), String> {
-    let (seed, index) = (whole_number(seed)?, whole_number(index)?);
-    write_bytes(&whole_books::book(seed, index))
-}
-
 /// What a program makes of the book on standard input, with its status.
 fn tell(program: fn(&[u8]) -> programs::Told) -> Result<(), String> {
-    let mut book = Vec::new();
-    io::stdin().read_to_end(&mut book).map_err(|e| e.to_string())?;
-    let told = program(&book);
+    tell_file(program, "-")
+}
+
+/// The same of a book by its file's name.
+fn tell_file(program: fn(&[u8]) -> programs::Told, file: &str) -> Result<(), String> {
+    let told = program(&read_book(file)?);
     write_bytes(told.printed.as_bytes())?;
     eprint!("{}", told.said);
     if !told.right {
@@ -200,11 +222,6 @@ fn say_why() -> Result<(), String> {
         std::process::exit(1);
     }
     Ok(())
-}
-
-fn some_doubtful(seed: &str, index: &str) -> Result<(), String> {
-    let (seed, index) = (whole_number(seed)?, whole_number(index)?);
-    write_bytes(&doubts::doubtful(seed, index))
 }
 
 /// Writes what a program of sheets writes, says what it says, and ends as it ends.
@@ -235,9 +252,52 @@ fn read_file(file: &str) -> Result<Vec<u8>, String> {
 }
 
 fn compare_books(old: &str, new: &str) -> Result<(), String> {
-    let (old, new) = (read_file(old)?, read_file(new)?);
+    let (old, new) = (read_book(old)?, read_book(new)?);
     write_bytes(compare::compare(&old, &new).as_bytes())?;
     eprint!("{}", compare::hints(&old, &new));
+    Ok(())
+}
+
+/// Prints how many lines differ.
+fn all_reported(old: &str, new: &str, said: &str) -> Result<(), String> {
+    let text = |file| String::from_utf8(read_file(file)?).map_err(|e| format!("{file}: {e}"));
+    let count = covered::covered(&text(old)?, &text(new)?, &text(said)?)?;
+    write_bytes(format!("{count}\n").as_bytes())
+}
+
+/// The status is 2 where no table can be made, and 1 where not every file is a closed book.
+fn many_books(names: &[&str]) -> Result<(), String> {
+    if table::misused(names) {
+        eprintln!("second: no file, or a comma, a quote or a line end in a file's name");
+        std::process::exit(2);
+    }
+    let files: Vec<_> = names.iter().map(|&name| (name, std::fs::read(name).ok())).collect();
+    let (text, right) = table::table(&files);
+    write_bytes(text.as_bytes())?;
+    if !right {
+        std::process::exit(1);
+    }
+    Ok(())
+}
+
+fn write_set(seed: &str, index: &str, folder: &str) -> Result<(), String> {
+    let set = sets::set(whole_number(seed)?, whole_number(index)?);
+    for (place, book) in set.iter().enumerate() {
+        let name = format!("{folder}/{place} of set {index}.book");
+        match book {
+            Some(book) => std::fs::write(&name, book).map_err(|e| format!("{name}: {e}"))?,
+            None => drop(std::fs::remove_file(&name)),
+        }
+        println!("{name}");
+    }
+    Ok(())
+}
+
+fn write_edges(folder: &str) -> Result<(), String> {
+    for (name, book) in sets::edges() {
+        let file = format!("{folder}/{name}.book");
+        std::fs::write(&file, book).map_err(|e| format!("{file}: {e}"))?;
+    }
     Ok(())
 }
 

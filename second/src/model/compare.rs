@@ -1,128 +1,122 @@
-//! Document 02, W9 and W14: what differs between two books, once more, from the written decision alone.
+//! What differs between two books, by groups, once more, from the written decision alone.
 
-use crate::model::feed::{feed, Answer};
+use crate::model::changes::{between, figures_alone, figures_now, record_alone, Word};
 use crate::model::hints::hint;
 use crate::model::kind;
-use crate::model::lister::list;
-use crate::model::state::State;
+use crate::model::walk::{entries, Entry, Line};
 use crate::model::why::why;
-use crate::model::words::kind_name;
-use std::fmt::Write;
 
-/// An accepted record, the bytes of its lines, and their text.
-struct Entry {
-    record: Vec<u8>,
-    lines: Vec<u8>,
-    text: String,
+/// A heading with what stands under it and its subtotal; what stands before the first heading has neither.
+#[derive(Clone, Copy)]
+pub struct Part<'a> {
+    pub heading: Option<&'a Entry>,
+    pub details: &'a [Entry],
+    subtotal: Option<&'a Line>,
 }
 
-/// How many bytes the record at the front of some bytes has, where it is whole.
-fn whole(bytes: &[u8]) -> Option<usize> {
-    let length = usize::from(u16::from_be_bytes([*bytes.first()?, *bytes.get(1)?]));
-    ((4..=26).contains(&length) && bytes.len() >= length + 2).then_some(length + 2)
-}
-
-/// The records of some bytes, accepted or not.
-pub fn records_of(mut bytes: &[u8]) -> Vec<Vec<u8>> {
-    let mut records = Vec::new();
-    while let Some(size) = whole(bytes) {
-        records.push(bytes[..size].to_vec());
-        bytes = &bytes[size..];
+impl Part<'_> {
+    fn group(&self) -> u16 {
+        self.heading.map_or(0, |heading| heading.group)
     }
-    records
 }
 
-/// The accepted records of a book. The lister's text has a line for each of their lines.
-fn entries(book: &[u8]) -> Vec<Entry> {
-    let listed = list(book);
-    let mut texts = listed.lines();
-    let mut state = State::default();
-    let mut entries = Vec::new();
-    for record in records_of(book) {
-        let reply = feed(&state, &record, 1000);
-        if state.stage >= 2 || matches!(reply.answer, Answer::Refused(_)) {
-            break;
-        }
-        state = reply.state;
-        let mut text = String::new();
-        let mut rest = &reply.lines[..];
-        while !rest.is_empty() {
-            let size = 2 + usize::from(u16::from_be_bytes([rest[0], rest[1]]));
-            rest = &rest[size..];
-            writeln!(text, "{}", texts.next().expect("a text for each line")).unwrap();
-        }
-        entries.push(Entry { record, lines: reply.lines, text });
-    }
-    entries
+/// A book's accepted records, cut at its headings and before its close.
+struct Cut<'a> {
+    before: Part<'a>,
+    groups: Vec<Part<'a>>,
+    total: Option<&'a Line>,
 }
 
-/// Whether two records are the same; two closes are, whatever they count.
-fn alike(a: &Entry, b: &Entry) -> bool {
-    a.record == b.record || (a.record[3] == kind::CLOSE && b.record[3] == kind::CLOSE)
-}
-
-/// Whether two runs are the same records in another order, all of them details of a group or of the farm.
-fn moved(a: &[Entry], b: &[Entry]) -> bool {
-    let details = a.iter().chain(b).all(|entry| matches!(entry.record[3], 3..=7 | 9 | 10));
-    let sorted = |entries: &[Entry]| {
-        let mut records: Vec<Vec<u8>> = entries.iter().map(|entry| entry.record.clone()).collect();
-        records.sort();
-        records
+fn cut(entries: &[Entry]) -> Cut<'_> {
+    let close = entries.last().filter(|last| last.kind() == kind::CLOSE);
+    let open = entries.len() - usize::from(close.is_some());
+    let is_heading = |&at: &usize| entries[at].kind() == kind::HEADING;
+    let starts: Vec<usize> = (0..open).filter(is_heading).collect();
+    let end_of = |place: usize| starts.get(place).copied().unwrap_or(open);
+    let group = |(place, &start): (usize, &usize)| {
+        let end = end_of(place + 1);
+        let subtotal = entries.get(end).and_then(|next| next.lines.first());
+        Part { heading: Some(&entries[start]), details: &entries[start + 1..end], subtotal }
     };
-    !a.is_empty() && details && sorted(a) == sorted(b)
+    Cut {
+        before: Part { heading: None, details: &entries[..end_of(0)], subtotal: None },
+        groups: starts.iter().enumerate().map(group).collect(),
+        total: close.and_then(|close| close.lines.last()),
+    }
 }
 
-fn tell(word: &str, number: usize, entry: &Entry) -> String {
-    format!("{word} record {number}: {}\n{}", kind_name(u64::from(entry.record[3])), entry.text)
+/// A section with its first line, where it has anything to say.
+fn section(first: &str, said: String) -> String {
+    if said.is_empty() {
+        said
+    } else {
+        format!("{first}\n{said}")
+    }
 }
 
 /// What the program prints of two books.
 pub fn compare(old: &[u8], new: &[u8]) -> String {
     let (a, b) = (entries(old), entries(new));
-    let shorter = a.len().min(b.len());
-    let front = (0..shorter).take_while(|&i| alike(&a[i], &b[i])).count();
-    let back = (0..shorter - front)
-        .take_while(|&i| alike(&a[a.len() - 1 - i], &b[b.len() - 1 - i]))
-        .count();
-    let (x, y) = (a.len() - back, b.len() - back);
+    let (old_cut, new_cut) = (cut(&a), cut(&b));
+    let verdict = |book| why(book).0.lines().next().unwrap_or_default().to_string();
+    let mut said = format!("old: {}\nnew: {}\n", verdict(old), verdict(new));
+    said += &section("before the groups:", both(&old_cut.before, &new_cut.before));
+    said += &groups(&old_cut.groups, &new_cut.groups);
+    said += &sums("total", old_cut.total, new_cut.total);
+    let records = |entries: &[Entry]| -> Vec<Vec<u8>> {
+        entries.iter().map(|entry| entry.record.clone()).collect()
+    };
+    said += match (old == new, records(&a) == records(&b)) {
+        (true, _) => "nothing differs\n",
+        (_, true) => "no accepted record differs\n",
+        _ => "all else is the same\n",
+    };
+    said
+}
+
+/// The groups of both by rising number: equal numbers make a pair, else the lower one is alone in its book.
+fn groups(mut old: &[Part], mut new: &[Part]) -> String {
     let mut said = String::new();
-    for (word, book) in [("old", old), ("new", new)] {
-        writeln!(said, "{word}: {}", why(book).0.lines().next().unwrap()).unwrap();
-    }
-    let (n, m) = (a.len(), b.len());
-    writeln!(said, "accepted records: {n} in old, {m} in new; the first {front} and the last {back} are the same").unwrap();
-    if moved(&a[front..x], &b[front..y]) {
-        writeln!(
-            said,
-            "records {front} to {} are the same in another order, with the same lines",
-            x - 1
-        )
-        .unwrap();
-    } else {
-        said += match (x > front, y > front) {
-            (false, false) => "",
-            (false, true) => "added:\n",
-            (true, false) => "removed:\n",
-            (true, true) => "changed:\n",
+    loop {
+        let numbers = [old.first(), new.first()].map(|part| part.map(Part::group));
+        let Some(group) = numbers.iter().flatten().min() else {
+            return said;
         };
-        (front..x).for_each(|i| said += &tell("old", i, &a[i]));
-        (front..y).for_each(|i| said += &tell("new", i, &b[i]));
+        let here = numbers.map(|number| number == Some(*group));
+        said += &match here {
+            [true, true] => section(&format!("group {group}:"), both(&old[0], &new[0])),
+            [true, _] => format!("group {group}, removed:\n{}", alone(Word::Old, &old[0])),
+            _ => format!("group {group}, added:\n{}", alone(Word::New, &new[0])),
+        };
+        old = &old[usize::from(here[0])..];
+        new = &new[usize::from(here[1])..];
     }
-    let others: Vec<usize> = (0..back).filter(|&i| a[x + i].lines != b[y + i].lines).collect();
-    if !others.is_empty() {
-        said += "the same records, which give other lines:\n";
+}
+
+/// A group that one book alone has.
+fn alone(word: Word, part: &Part) -> String {
+    let records = part.heading.into_iter().chain(part.details);
+    let said: String = records.map(|entry| record_alone(word, entry)).collect();
+    let (old, new) = match word {
+        Word::Old => (part.subtotal, None),
+        Word::New => (None, part.subtotal),
+    };
+    said + &sums("subtotal", old, new)
+}
+
+/// A pair of parts: headings, details, and subtotals.
+fn both(old: &Part, new: &Part) -> String {
+    between(old, new) + &sums("subtotal", old.subtotal, new.subtotal)
+}
+
+/// Two subtotals or totals, or the one that is there.
+fn sums(name: &str, old: Option<&Line>, new: Option<&Line>) -> String {
+    match (old, new) {
+        (Some(old), Some(new)) => section(&format!("{name}:"), figures_now(old, new)),
+        (Some(line), None) => format!("{name}, only in old:\n{}", figures_alone(line)),
+        (None, Some(line)) => format!("{name}, only in new:\n{}", figures_alone(line)),
+        (None, None) => String::new(),
     }
-    for &i in &others {
-        said += &tell("old", x + i, &a[x + i]);
-        said += &tell("new", y + i, &b[y + i]);
-    }
-    if x == front && y == front && others.is_empty() {
-        return said + "nothing differs\n";
-    }
-    let rest = back - others.len();
-    said + &format!(
-        "the same lines: those of the first {front} records and of {rest} of the last {back}\n"
-    )
 }
 
 /// A hint where one of the two is no book.

@@ -20,7 +20,7 @@ pub fn list(book: &[u8]) -> String {
 }
 
 /// The places of CO2 and CO2e among a line's figures.
-const SIGNED: [usize; 2] = [2, 6];
+pub const SIGNED: [usize; 2] = [2, 6];
 
 /// Kind, group, and every 8-byte figure of one line, with a minus sign where it is below zero.
 fn line_text(line: &[u8]) -> String {

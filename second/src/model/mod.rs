@@ -1,6 +1,8 @@
 //! The farm book once more, from documents 01 and 02 alone: what is right.
 
+pub mod changes;
 pub mod compare;
+pub mod covered;
 pub mod feed;
 pub mod fields;
 pub mod figures;
@@ -10,15 +12,22 @@ pub mod judge;
 pub mod kind;
 pub mod kinds;
 pub mod lister;
+pub mod page;
+pub mod page_tables;
+pub mod page_texts;
 pub mod programs;
 pub mod record;
+pub mod records;
+pub mod reported;
 pub mod salvage;
 pub mod sheets;
 pub mod slip;
 pub mod state;
+pub mod table;
 pub mod tillage;
 pub mod typed;
 pub mod usual;
+pub mod walk;
 pub mod warming;
 pub mod why;
 pub mod words;

@@ -85,7 +85,7 @@ fn first_record(bytes: &[u8]) -> &[u8] {
 }
 
 /// The kind's name and its values as people say them.
-fn typed_line(record: &[u8]) -> String {
+pub fn typed_line(record: &[u8]) -> String {
     let (kind, values) = (u64::from(record[3]), values_of(record));
     let mut line = kind_name(kind).to_string();
     for (field, &value) in spoken_of(kind, values.len()).iter().zip(&values) {

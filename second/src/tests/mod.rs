@@ -1,18 +1,22 @@
 //! The second program's own tests by subject: what the documents say, and what the makers of cases promise.
 
 mod cases;
+mod compare;
 mod figures;
 mod grazing;
 mod halves;
 mod lines;
+mod page;
 mod parts;
 mod programs;
+mod records;
 mod refusals;
 mod salvage;
 mod sheets;
 mod slips;
 mod states;
 mod subtotals;
+mod table;
 mod tillage;
 mod typed;
 mod typed_choices;
