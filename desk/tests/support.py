@@ -42,7 +42,7 @@ class Server:
     def __init__(self, *words: str, store: str | None = None, environment: dict[str, str] | None = None) -> None:
         self.folder = tempfile.TemporaryDirectory()
         self.store = store or str(Path(self.folder.name) / "books.db")
-        self.port = _free_port()
+        self.port = free_port()
         self._words = words
         self._environment = {**os.environ, "PYTHONPATH": str(ROOT), **(environment or {})}
         self.start()
@@ -100,7 +100,7 @@ class Tablet:
         self.path = ""
 
     def begin(self) -> None:
-        answer = self.server.ask("POST", "/books", Upload_Defer_Length="1", **self._own)
+        answer = answered(self.server.ask("POST", "/books", Upload_Defer_Length="1", **self._own))
         assert answer.status == 201, (answer.status, answer.body)
         self.path = answer.headers["Location"]
 
@@ -120,7 +120,7 @@ class Tablet:
                 if sizes.random() < 0.1:
                     at = self.how_far()
                 wrong = sizes.random() < 0.05
-                answer = self.send(at + (1 if wrong else 0), self.book[at : at + sizes.randint(1, 400)])
+                answer = answered(self.send(at + (1 if wrong else 0), self.book[at : at + sizes.randint(1, 400)]))
                 at = answer.offset
             except (OSError, http.client.HTTPException):
                 time.sleep(0.05)
@@ -138,7 +138,14 @@ class Tablet:
             return at
 
 
-def _free_port() -> int:
+def answered(answer: Answer) -> Answer:
+    """A store that does not answer is asked again later."""
+    if answer.status == 503:
+        raise ConnectionError(answer.body)
+    return answer
+
+
+def free_port() -> int:
     with socket.socket() as held:
         held.bind(("127.0.0.1", 0))
         return int(held.getsockname()[1])
