@@ -62,15 +62,15 @@ class Request:
     def body(self) -> bytes:
         """All bytes that the client said it would send; one that ends early is refused."""
         if self.header("Transfer-Encoding"):
-            raise Refuse(411, "send a Content-Length: a body without one is not taken", ("Connection", "close"))
+            raise Refuse(411, "send a Content-Length: a body without one is not taken")
         length = number_of(self.header("Content-Length") or "0")
         if length is None:
-            raise Refuse(400, "Content-Length is no number", ("Connection", "close"))
+            raise Refuse(400, "Content-Length is no number")
         if length > BODY_MOST:
-            raise Refuse(413, f"a part has at most {BODY_MOST} bytes: send it in smaller parts", ("Connection", "close"))
+            raise Refuse(413, f"a part has at most {BODY_MOST} bytes: send it in smaller parts")
         body = self._environ["wsgi.input"].read(length) if length else b""
         if len(body) != length:
-            raise Refuse(400, "the part ended early: nothing of it is taken", ("Connection", "close"))
+            raise Refuse(400, "the part ended early: nothing of it is taken")
         return body
 
 

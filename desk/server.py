@@ -42,7 +42,9 @@ class Handler(WSGIRequestHandler):
             if sum(len(name) + len(value) for name, value in self.headers.items()) > HEADER_BYTES:
                 self.send_error(431)
             else:
-                ServerHandler(self.rfile, self.wfile, sys.stderr, self.get_environ(), multithread=True).run(self.server.get_app())  # type: ignore[attr-defined]
+                handler = ServerHandler(self.rfile, self.wfile, sys.stderr, self.get_environ(), multithread=True)
+                handler.request_handler = self  # type: ignore[attr-defined]  # as the library has it
+                handler.run(self.server.get_app())  # type: ignore[attr-defined]
 
     def log_message(self, format: str, *args: Any) -> None:  # noqa: A002
         """A line for each request would say who reads what: none."""

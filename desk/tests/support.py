@@ -5,6 +5,7 @@ from __future__ import annotations
 import http.client
 import os
 import random
+import resource
 import signal
 import socket
 import subprocess
@@ -39,20 +40,28 @@ def _bytes(text: str) -> bytes:
 class Server:
     """bin/desk's own program as a process, on a port that stays the same when it is started again."""
 
-    def __init__(self, *words: str, store: str | None = None, environment: dict[str, str] | None = None) -> None:
+    def __init__(self, *words: str, store: str | None = None, environment: dict[str, str] | None = None, most: int | None = None) -> None:
         self.folder = tempfile.TemporaryDirectory()
         self.store = store or str(Path(self.folder.name) / "books.db")
         self.port = free_port()
         self._words = words
+        self._said = open(f"{self.folder.name}/said", "ab")
+        self.most = most  # the bytes of the longest file that it may write: a disk that is full
         self._environment = {**os.environ, "PYTHONPATH": str(ROOT), **(environment or {})}
         self.start()
 
     def start(self) -> None:
         words = [sys.executable, "-m", "desk", "--listen", f"127.0.0.1:{self.port}", "--store", self.store, *self._words]
-        self.process = subprocess.Popen(words, env=self._environment, stdout=subprocess.PIPE, stderr=subprocess.PIPE)
+        most = self.most
+        limit = None if most is None else lambda: resource.setrlimit(resource.RLIMIT_FSIZE, (most, most))
+        self.process = subprocess.Popen(words, env=self._environment, stdout=subprocess.PIPE, stderr=self._said, preexec_fn=limit)
         assert self.process.stdout is not None
         if not self.process.stdout.readline().startswith(b"the desk is at"):
-            raise RuntimeError(self.process.communicate()[1].decode())
+            raise RuntimeError(self.said())
+
+    def said(self) -> str:
+        """What it said on its standard error."""
+        return Path(f"{self.folder.name}/said").read_text()
 
     def kill(self) -> None:
         """As when the machine's plug is pulled from the program."""
@@ -61,6 +70,7 @@ class Server:
 
     def close(self) -> None:
         self.kill()
+        self._said.close()
         self.folder.cleanup()
 
     def __enter__(self) -> Server:

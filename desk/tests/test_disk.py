@@ -1,6 +1,5 @@
 """An answer comes after the commit is on the disk: with a slow fsync the answer is slow. And a store that can't keep a part says so."""
 
-import os
 import shutil
 import subprocess
 import tempfile
@@ -8,6 +7,8 @@ import time
 import unittest
 from pathlib import Path
 
+from desk.check import check
+from desk.store import Store
 from desk.tests.support import SAMPLE, Server, Tablet
 
 SLOW = """
@@ -41,13 +42,19 @@ class Disk(unittest.TestCase):
         self.assertEqual(answer.status, 204)
         self.assertGreaterEqual(took, 0.3)
 
-    def test_a_store_that_does_not_answer(self) -> None:
-        with Server() as server:
-            tablet = Tablet(server, SAMPLE)
-            tablet.begin()
-            tablet.send(0, SAMPLE[:30])
-            for place in Path(server.store).parent.glob("books.db*"):
-                os.truncate(place, 100)
-            answer = tablet.send(30, SAMPLE[30:60])
+    def test_a_full_disk(self) -> None:
+        with Server(most=200_000) as server:
+            tablet, at, answer = Tablet(server, SAMPLE), 0, None
+            while answer is None or answer.status == 204:
+                if at == 0 or at == len(SAMPLE):
+                    tablet, at = Tablet(server, SAMPLE), 0
+                    tablet.begin()
+                answer = tablet.send(at, SAMPLE[at : at + 10])
+                at = answer.offset if answer.status == 204 else at
             self.assertEqual(answer.status, 503)
             self.assertIn(b"the store does not answer", answer.body)
+            server.kill()
+            server.most = None
+            server.start()
+            self.assertEqual(tablet.how_far(), at)
+            self.assertEqual(check(Store(server.store)), [])
