@@ -6,7 +6,6 @@ import http.client
 import os
 import random
 import resource
-import signal
 import socket
 import subprocess
 import sys
@@ -65,8 +64,8 @@ class Server:
 
     def kill(self) -> None:
         """As when the machine's plug is pulled from the program."""
-        self.process.send_signal(signal.SIGKILL)
-        self.process.communicate()
+        self.process.kill()
+        self.process.wait()
 
     def close(self) -> None:
         self.kill()
@@ -115,7 +114,7 @@ class Tablet:
         self.path = answer.headers["Location"]
 
     def how_far(self) -> int:
-        return self.server.ask("HEAD", self.path, **self._own).offset
+        return answered(self.server.ask("HEAD", self.path, **self._own)).offset
 
     def send(self, offset: int, part: bytes) -> Answer:
         return self.server.ask("PATCH", self.path, part, Content_Type=PART, Upload_Offset=str(offset), **self._own)
@@ -156,6 +155,9 @@ def answered(answer: Answer) -> Answer:
 
 
 def free_port() -> int:
-    with socket.socket() as held:
-        held.bind(("127.0.0.1", 0))
-        return int(held.getsockname()[1])
+    """One below those that the system gives to clients, so that it stays free while a server is down."""
+    while True:
+        port = random.randint(20000, 30000)
+        with socket.socket() as held:
+            if held.connect_ex(("127.0.0.1", port)) != 0:
+                return port
