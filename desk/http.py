@@ -1,0 +1,91 @@
+"""Requests and answers: what a client sends is looked at here before anything else sees it."""
+
+from __future__ import annotations
+
+import re
+from collections.abc import Callable
+from http import HTTPStatus
+from typing import Any, NamedTuple
+
+# The most bytes of one part.
+BODY_MOST = 1 << 20
+
+# No sign, no blank, no other script's digits; far below what a database's number holds.
+WHOLE_NUMBER = re.compile(r"0|[1-9][0-9]{0,14}", re.ASCII)
+
+POLICY = "default-src 'none'; style-src 'unsafe-inline'; img-src data:; form-action 'none'; frame-ancestors 'none'; base-uri 'none'"
+TEXT, HTML, CSV, JSON, BYTES = (
+    "text/plain; charset=utf-8",
+    "text/html; charset=utf-8",
+    "text/csv; charset=utf-8; header=present",
+    "application/json",
+    "application/octet-stream",
+)
+
+
+class Response(NamedTuple):
+    """A status, a body with its content type, and headers besides."""
+
+    status: int
+    body: bytes = b""
+    kind: str = TEXT
+    headers: tuple[tuple[str, str], ...] = ()
+    policy: str = POLICY
+
+
+class Refuse(Exception):
+    """The request gets this answer, and nothing is changed."""
+
+    def __init__(self, status: int, words: str, *headers: tuple[str, str]) -> None:
+        super().__init__(words)
+        self.response = Response(status, (words + "\n").encode(), TEXT, headers)
+
+
+def number_of(text: str | None) -> int | None:
+    """A whole number as a header has it; None for anything else."""
+    return int(text) if text is not None and WHOLE_NUMBER.fullmatch(text) else None
+
+
+class Request:
+    """What a WSGI server hands over."""
+
+    def __init__(self, environ: dict[str, Any]) -> None:
+        self._environ = environ
+        self.method: str = environ["REQUEST_METHOD"]
+        self.path: str = environ.get("PATH_INFO", "")
+
+    def header(self, name: str) -> str | None:
+        """A header's text, or None."""
+        plain = name.upper().replace("-", "_")
+        return self._environ.get(plain if plain in ("CONTENT_TYPE", "CONTENT_LENGTH") else "HTTP_" + plain) or None
+
+    def body(self) -> bytes:
+        """All bytes that the client said it would send; one that ends early is refused."""
+        if self.header("Transfer-Encoding"):
+            raise Refuse(411, "send a Content-Length: a body without one is not taken")
+        length = number_of(self.header("Content-Length") or "0")
+        if length is None:
+            raise Refuse(400, "Content-Length is no number")
+        if length > BODY_MOST:
+            raise Refuse(413, f"a part has at most {BODY_MOST} bytes: send it in smaller parts")
+        body = self._environ["wsgi.input"].read(length) if length else b""
+        if len(body) != length:
+            raise Refuse(400, "the part ended early: nothing of it is taken")
+        return body
+
+
+def send(response: Response, method: str, start_response: Callable[..., Any]) -> list[bytes]:
+    """The answer, with the headers that every answer has."""
+    headers = [
+        ("Content-Type", response.kind),
+        ("Content-Length", str(len(response.body))),
+        ("X-Content-Type-Options", "nosniff"),
+        ("Content-Security-Policy", response.policy),
+        ("Referrer-Policy", "no-referrer"),
+        ("Cache-Control", "no-store"),
+        *response.headers,
+    ]
+    if response.status == HTTPStatus.NO_CONTENT:
+        headers = [header for header in headers if header[0] not in ("Content-Type", "Content-Length")]
+    start_response(f"{response.status} {HTTPStatus(response.status).phrase}", headers)
+    return [] if method == "HEAD" or response.status == HTTPStatus.NO_CONTENT else [response.body]
