@@ -1,0 +1,5 @@
+pub mod Texts
+pub mod Overs
+pub mod Gathers
+mod Knowns
+pub mod Pages

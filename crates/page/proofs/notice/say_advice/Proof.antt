@@ -1,0 +1,19 @@
+-- One of two texts. Assumes nothing.
+use borrow.Author.Needs.{needs}
+use Rattle.page.specs.Parts.{adviceText}
+use Rattle.page.proofs.notice.say_advice.Statement.{statement}
+use Rattle.page.proofs.notice.say_advice.Tie as tie
+
+pub say-advice-spec : {M : Type 1} → statement M
+unfolding adviceText
+say-advice-spec =
+    tie.close
+    (tie.spec
+    (λ c. search needs)
+    (λ c κs. search needs)
+    (λ c. search needs)
+    (λ c. rw (c .before .before .before .before .before .if1 .taken) (c .before .before .say .ensures))
+    (λ c. search needs)
+    (λ c κs. search needs)
+    (λ c. search needs)
+    (λ c. rw (c .before .before .before .before .before .if1 .left) (c .before .before .say2 .ensures)))
