@@ -12,5 +12,6 @@ pub mod Items
 pub mod Writing
 pub mod Exporting
 pub mod Refusals
+pub mod Places
 pub mod OneAnswer
 pub mod Examples

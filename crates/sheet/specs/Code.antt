@@ -16,7 +16,9 @@ use Rattle.sheet.specs.declared.lines.Total.{Total}
 use Rattle.sheet.specs.declared.Answer.{Answer}
 use Rattle.sheet.specs.declared.Answer.the-variants.{Written, Refused}
 use Rattle.sheet.specs.Numbers.{half, full, Number, Cell}
-use Rattle.sheet.specs.Rows.{Row}
+use Rattle.sheet.specs.Rows.{columnCount, Row}
+use Rattle.sheet.specs.declared.faults.Spot.{Spot}
+use Rattle.sheet.specs.Faults.{Place}
 use Rattle.sheet.specs.Sheets.{Made, made, refused}
 
 -- a number in 64 bits, or the word that it is too big for them
@@ -64,6 +66,14 @@ answerAfter k (refused code row) room = Refused code row
 abbrev pub madeOf : Made → List ℕ
 madeOf (made t) = t
 madeOf (refused code row) = []
+
+-- r is the place p in the row of this kind with which the text begins
+pub record IsSpot (text : List ℕ) (kind : ℕ) (p : Place) (r : Spot) : Type 0 where
+  pub kinds : r .kind ≡ kind
+  pub column : r .column ≡ p .column
+  pub rest : drop (r .at) text ≡ p .rest
+  pub inside : r .at ≤ length text
+  pub few : r .column < columnCount
 
 -- what the code asks of a column
 pub record Fair (c : Column) : Type 0 where

@@ -3,4 +3,5 @@ pub mod Rows
 pub mod Sheets
 pub mod Refusals
 pub mod Remarks
+pub mod Faults
 pub mod Code

@@ -8,6 +8,7 @@ use Rattle.base.specs.Choice.{pick}
 use Rattle.printing.specs.Ascii.{ascii}
 use Rattle.printing.specs.Decimal.{decimal}
 use Rattle.names.specs.Names.{sentence}
+use Rattle.sheet.specs.Faults.{faultText}
 use Rattle.sheet.specs.declared.Answer.{Answer}
 use Rattle.sheet.specs.declared.Answer.the-variants.{Written, Refused}
 
@@ -30,6 +31,10 @@ rowHead row = pick (eqb row 0) [] (ascii "row " ++ (decimal row ++ ascii ": "))
 abbrev pub sentenceText : ℕ → ℕ → List ℕ
 sentenceText code row = rowHead row ++ (sentence code ++ ascii "\n")
 
+-- 20 names the place, the others have their sentence
+abbrev pub peopleText : List ℕ → ℕ → ℕ → List ℕ
+peopleText text code row = pick (eqb code 20) (faultText text row) (sentenceText code row)
+
 abbrev pub rowWord : ℕ → List ℕ
 rowWord row = pick (eqb row 0) [] (ascii " row " ++ decimal row)
 
@@ -39,7 +44,7 @@ refusedText code row = ascii "refused " ++ (decimal code ++ (rowWord row ++ asci
 -- what is said at the end, of the text and the answer: the machine's line is the last
 abbrev pub endText : List ℕ → Answer → List ℕ
 endText text (Written n) = linesText (lineCount text)
-endText text (Refused code row) = sentenceText code row ++ refusedText code row
+endText text (Refused code row) = peopleText text code row ++ refusedText code row
 
 -- what is longer than the most bytes that the program has room for
 abbrev pub mostText : ℕ → List ℕ

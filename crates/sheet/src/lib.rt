@@ -3,6 +3,7 @@ pub mod numbers; // numbers.rt: numbers read off a text
 pub mod rows; // rows.rt: a row of columns read off a text
 pub mod lines; // lines.rt: a line record from its values, its row as text, and the bytes of several
 pub mod remarks; // remarks.rt: what is told of a sheet that is read
+mod faults; // faults.rt: where a sheet is not of its form, and what to do
 
 use base::first_of;
 use base::rest_of;

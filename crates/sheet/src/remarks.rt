@@ -1,5 +1,6 @@
 // What is told of a sheet that is read: a sentence where it is refused, the last word, and the status.
 use crate::Answer;
+use crate::faults::say_fault;
 use printing::say;
 use printing::say_number;
 ghost use mathlib.Core.Path.{_≡_};
@@ -9,7 +10,7 @@ ghost use lib.Dec.{eqb};
 ghost use lib.ListN.{length};
 ghost use Rattle.base.specs.Choice.{pick};
 ghost use Rattle.printing.specs.Said.{Said};
-ghost use Rattle.sheet.specs.Remarks.{feeds, lineCount, linesText, rowHead, sentenceText, rowWord, refusedText, endText};
+ghost use Rattle.sheet.specs.Remarks.{feeds, lineCount, linesText, rowHead, peopleText, rowWord, refusedText, endText};
 ghost use Rattle.sheet.specs.Remarks.{mostText, tooLongText, linesTooLongText, statusByte};
 
 fn one_if_feed(b: u8) -> usize
@@ -60,10 +61,13 @@ fn say_row_head(out: &mut [u8], row: usize) -> usize
     say(out, number, b": ")
 }
 
-// The sentence for people.
-fn say_people(out: &mut [u8], code: u8, row: usize) -> usize
-    ensures { λ r. ⌜ Said (now (out .entry)) (now (out .exit)) 0 (sentenceText code row) r ⌝ }
+// The sentence for people. Of a text that is not of a sheet's form it names the place.
+fn say_people(out: &mut [u8], text: &[u8], code: u8, row: usize) -> usize
+    ensures { λ r. ⌜ Said (now (out .entry)) (now (out .exit)) 0 (peopleText (now (text .entry)) code row) r ⌝ }
 {
+    if code == 20 {
+        return say_fault(out, text, row);
+    }
     let head = say_row_head(out, row);
     let words = names::say_sentence(out, head, code as u64);
     say(out, words, b"\n")
@@ -80,10 +84,10 @@ fn say_row(out: &mut [u8], at: usize, row: usize) -> usize
     say_number(out, word, row as u64)
 }
 
-fn say_refused(out: &mut [u8], code: u8, row: usize) -> usize
-    ensures { λ r. ⌜ Said (now (out .entry)) (now (out .exit)) 0 (sentenceText code row ++ refusedText code row) r ⌝ }
+fn say_refused(out: &mut [u8], text: &[u8], code: u8, row: usize) -> usize
+    ensures { λ r. ⌜ Said (now (out .entry)) (now (out .exit)) 0 (peopleText (now (text .entry)) code row ++ refusedText code row) r ⌝ }
 {
-    let people = say_people(out, code, row);
+    let people = say_people(out, text, code, row);
     let word = say(out, people, b"refused ");
     let number = say_number(out, word, code as u64);
     let end = say_row(out, number, row);
@@ -96,7 +100,7 @@ pub fn say_end(out: &mut [u8], text: &[u8], answer: Answer) -> usize
 {
     match answer {
         Answer::Written(n) => say_lines(out, count_lines(text)),
-        Answer::Refused(code, row) => say_refused(out, code, row),
+        Answer::Refused(code, row) => say_refused(out, text, code, row),
     }
 }
 

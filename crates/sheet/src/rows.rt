@@ -100,7 +100,7 @@ pub fn starts(text: &[u8], at: usize, word: &[u8]) -> bool
     true
 }
 
-fn read_cell(text: &[u8], at: usize, c: Column) -> Read
+pub(crate) fn read_cell(text: &[u8], at: usize, c: Column) -> Read
     requires { ⌜ at ≤ length (now text) ⌝ }
     requires { ⌜ Fair c ⌝ }
     ensures { λ r. ⌜ IsRead (now (text .entry)) (readCell c (drop at (now (text .entry)))) r ⌝ }
@@ -142,7 +142,7 @@ fn with_end(text: &[u8], k: Read, word: &[u8]) -> Read
     }
 }
 
-fn read_column(text: &[u8], at: usize, c: Column) -> Read
+pub(crate) fn read_column(text: &[u8], at: usize, c: Column) -> Read
     requires { ⌜ at ≤ length (now text) ⌝ }
     requires { ⌜ Fair c ⌝ }
     ensures { λ r. ⌜ IsRead (now (text .entry)) (readColumn c (drop at (now (text .entry)))) r ⌝ }
