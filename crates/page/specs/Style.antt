@@ -42,7 +42,7 @@ styleText =
     ++ (ascii "ol { margin:.25rem 0 0; padding-left:1.25rem }\n"
     ++ (ascii "footer { margin-top:2.5rem; border-top:1px solid var(--rule); padding-top:.6rem; color:var(--soft); font-size:.8125rem }\n"
     ++ (ascii "@media screen and (max-width:64rem) {\n  main { margin:0 auto; padding:2rem 1.5rem }\n  table { font-size:.8125rem }\n"
-    ++ (ascii "  td, thead th + th { padding-left:.6rem }\n}\n@media screen and (max-width:47.9rem) {\n"
+    ++ (ascii "  td, thead th + th { padding-left:.4rem }\n}\n@media screen and (max-width:47.9rem) {\n"
     ++ (ascii "  main { padding:1.5rem 1rem 2rem }\n  table { font-size:.875rem }\n  header { display:block }\n"
     ++ (ascii "  .sum { font-size:2.75rem }\n  .sum span { display:block; font-size:1.125rem; line-height:1.5 }\n"
     ++ (ascii "  .two { grid-template-columns:1fr; gap:2rem }\n  tbody th { white-space:normal }\n"

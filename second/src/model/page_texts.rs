@@ -58,7 +58,7 @@ footer { margin-top:2.5rem; border-top:1px solid var(--rule); padding-top:.6rem;
 @media screen and (max-width:64rem) {
   main { margin:0 auto; padding:2rem 1.5rem }
   table { font-size:.8125rem }
-  td, thead th + th { padding-left:.6rem }
+  td, thead th + th { padding-left:.4rem }
 }
 @media screen and (max-width:47.9rem) {
   main { padding:1.5rem 1rem 2rem }
