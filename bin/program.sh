@@ -2,8 +2,9 @@
 # Sourced first by the script of each program, which has set $here (this folder), sets what differs and calls `run "$@"`: $name, $sample, $about
 # and $example (for --help); and where they are wanted $bytes (yes where the program writes a book's bytes), $heading (names of the columns, for a
 # terminal), $usage and $count where other arguments are right, $option (a word: with --WORD the program is given it too and reads nothing), and
-# $files, the names for --help of the files that it may write, one or two, which are whole or not there (whole.sh).
-name='' sample='' about='' example='' bytes='' heading='' usage='' count='' option='' files='' # none of them comes from the environment
+# $files, the names for --help of the files that it may write, one or two, which are whole or not there (whole.sh), with what is said besides of one
+# that is not written ($unwritten).
+name='' sample='' about='' example='' bytes='' heading='' usage='' count='' option='' files='' unwritten='' # none comes from the environment
 root=${here%/*}
 . "$here/whole.sh"
 

@@ -68,7 +68,7 @@ take() { mv -f "$1" "$2" || { say "$3 could not take its name"; return 1; }; }
 # left PLACE FILE: says what became of a file that was not written.
 left() {
     [ -n "$1" ] || return 0
-    if [ -e "$1" ]; then say "$2 stays as it was"; else say "$2 is not written"; fi
+    if [ -e "$1" ]; then say "$2 stays as it was$unwritten"; else say "$2 is not written$unwritten"; fi
 }
 
 # settle GOOD: where GOOD is yes the files take their names, the list first; else, or where one can't, what was there stays, and that is said.
