@@ -4,10 +4,10 @@
 use Prim.Native.Nat.{ℕ, zero, suc, _+_, _≤_, _<_, min}
 use native.Mathlib.Omega.{arith}
 use mathlib.Core.Path.{_≡_, refl, sym, ap, _∙_}
-use mathlib.Core.Bool.{Bool, true, false, _&&_, _||_}
+use mathlib.Core.Bool.{Bool, true, _&&_, _||_}
 use mathlib.Core.Logic.{⊎-elim}
 use mathlib.Core.List.{List, [], _∷_, _++_, append-nil, append-assoc}
-use borrow.Author.Tests.{eq-eqb, ne-eqb, eqb-true, eqb-false, leb-true}
+use borrow.Author.Tests.{ne-eqb, eqb-true, eqb-false, leb-true}
 use lib.Dec.{eqb, leb}
 use lib.ListN.{length, take, drop, length-append, length-drop, take-append-drop}
 use Rattle.base.proofs.Tests.{by-test, lt-or-ge, and-l, and-r, neither}
@@ -19,13 +19,13 @@ use Rattle.account.specs.Account.{noRecord}
 use Rattle.account.specs.Range.{AccountInRange}
 use Rattle.account.specs.Line.{joined}
 use Rattle.account.specs.Judge.{recordRow, valuesOf, judge}
-use Rattle.account.proofs.Keeps.{in-range-none, in-range-judge}
+use Rattle.account.proofs.Keeps.{in-range-none}
 use Rattle.book.specs.Front.{Front, unfinished, badLength, whole, need, front}
 use Rattle.book.specs.State.{noRecordYet}
 use Rattle.book.specs.Run.{book, run}
 use Rattle.book.proofs.Runs.{book-ended, book-unfinished, book-bad, book-whole}
 use Rattle.walk.specs.Walk.{Entry, recordAt, linesOf, atFront, nextOf, recordsIn, entriesAfter, entriesOf}
-use Rattle.walk.proofs.NextRecords.{next-ended, next-open}
+use Rattle.walk.proofs.NextRecords.{next-open}
 use Rattle.walk.proofs.Walks.{stands, entries-end, entries-next}
 use Rattle.promises.proofs.Headings.{Grown, Stopped, judged}
 use Rattle.why.proofs.Faults.{refused-is}
