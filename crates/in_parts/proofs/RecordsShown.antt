@@ -165,4 +165,5 @@ numbers-two line =
 pub figures-shown : (line : List ℕ) → Whole line
     → lineRow Sheet line ≡ columnText 0 (getD (lineNumbers line) 0 0) ++ (44 ∷ (columnText 1 (getD (lineNumbers line) 1 0) ++ figuresText line))
 unfolding figuresText lineRow
-figures-shown line w = rw (le-ltb (length line) (frontSize line) (omega (arith, w))) (two-columns (isTotal line) (lineNumbers line) (numbers-two line))
+figures-shown line w =
+    rw (le-ltb (length line) (frontSize line) (omega (arith, w))) (two-columns (isTotal line) (lineNumbers line) (numbers-two line))

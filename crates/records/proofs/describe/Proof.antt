@@ -1,5 +1,6 @@
 -- Part by part. Assumes nothing.
 use mathlib.Core.Path.{refl}
+use native.Mathlib.Omega.{arith}
 use borrow.Author.Needs.{needs}
 use Rattle.records.proofs.describe.Statement.{statement}
 use Rattle.records.proofs.describe.Tie as tie
