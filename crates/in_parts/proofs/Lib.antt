@@ -8,3 +8,4 @@ pub mod Retype
 pub mod RetypeEnd
 pub mod Records
 pub mod RecordsWhole
+pub mod RecordsShown

@@ -2,7 +2,7 @@
 -- may come these are the rows of the book's accepted records, and the account is rule 2's; and what stands after the first 114,716 bytes changes
 -- nothing of it.
 -- Assumes nothing.
-use Prim.Native.Nat.{ℕ, zero, suc, _+_, _-_, _*_, _/_, _≤_, _<_}
+use Prim.Native.Nat.{ℕ, zero, suc, _+_, _*_, _/_, _≤_, _<_}
 use native.Mathlib.Omega.{arith}
 use native.Mathlib.Nat.{add-zero}
 use mathlib.Core.Path.{_≡_, refl, sym, ap, _∙_}
@@ -25,7 +25,7 @@ use Rattle.walk.specs.Walk.{Entry, nextOf, recordsIn, entriesOf}
 use Rattle.walk.proofs.Walks.{stands, entries-end}
 use Rattle.retype.specs.Book.{Retyping, nothingYet, andThen, acceptedIn, typedBy, lineMost}
 use Rattle.retype.proofs.Steps.{as-it-is, grouped}
-use Rattle.records.specs.Table.{Row, textOf, rowsFrom, tableOf, withText, rowsBy, rowsAfter, rowsMost}
+use Rattle.records.specs.Table.{textOf, rowsFrom, tableOf, withText, rowsBy, rowsAfter, rowsMost}
 use Rattle.records.proofs.Steps.{none-asked, none-accepted, one-is, one-stops, one-more}
 use Rattle.in_parts.specs.Retype.{retypedIn, linesIn}
 use Rattle.in_parts.specs.Records.{rowsIn, recordsFor}

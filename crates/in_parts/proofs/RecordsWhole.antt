@@ -1,13 +1,13 @@
--- Theorems: the lines whose figures stand in the table of a book's records are, in order, those that rule 2 gives for the book, which the lister prints;
--- and the typed cells of the table, a line feed after each, are the text that retype prints.
+-- Theorems: the lines whose figures stand in the table of a book's records are, in order, those that rule 2 gives for the book, which the lister
+-- prints; and the typed cells of the table, a line feed after each, are the text that retype prints.
 -- Assumes nothing.
 use Prim.Native.Nat.{ℕ, zero, suc, _+_, _≤_, _<_, min}
 use native.Mathlib.Omega.{arith}
 use mathlib.Core.Path.{_≡_, refl, sym, ap, _∙_}
-use mathlib.Core.Bool.{Bool, true, false, _&&_, _||_}
+use mathlib.Core.Bool.{Bool, true, _&&_, _||_}
 use mathlib.Core.Logic.{⊎-elim}
 use mathlib.Core.List.{List, [], _∷_, _++_, append-nil, append-assoc}
-use borrow.Author.Tests.{eq-eqb, ne-eqb, eqb-true, eqb-false, leb-true}
+use borrow.Author.Tests.{ne-eqb, eqb-true, eqb-false, leb-true}
 use lib.Dec.{eqb, leb}
 use lib.ListN.{length, take, drop, length-append, length-drop, take-append-drop}
 use Rattle.base.proofs.Tests.{by-test, lt-or-ge, and-l, and-r, neither}
@@ -19,13 +19,13 @@ use Rattle.account.specs.Account.{noRecord}
 use Rattle.account.specs.Range.{AccountInRange}
 use Rattle.account.specs.Line.{joined}
 use Rattle.account.specs.Judge.{recordRow, valuesOf, judge}
-use Rattle.account.proofs.Keeps.{in-range-none, in-range-judge}
+use Rattle.account.proofs.Keeps.{in-range-none}
 use Rattle.book.specs.Front.{Front, unfinished, badLength, whole, need, front}
 use Rattle.book.specs.State.{noRecordYet}
 use Rattle.book.specs.Run.{book, run}
 use Rattle.book.proofs.Runs.{book-ended, book-unfinished, book-bad, book-whole}
 use Rattle.walk.specs.Walk.{Entry, recordAt, linesOf, atFront, nextOf, recordsIn, entriesAfter, entriesOf}
-use Rattle.walk.proofs.NextRecords.{next-ended, next-open}
+use Rattle.walk.proofs.NextRecords.{next-open}
 use Rattle.walk.proofs.Walks.{stands, entries-end, entries-next}
 use Rattle.promises.proofs.Headings.{Grown, Stopped, judged}
 use Rattle.why.proofs.Faults.{refused-is}
@@ -57,8 +57,9 @@ rows-lines : (number first : ℕ) (es : List Entry) → linesIn (rowsFrom number
 unfolding rowsFrom entryLines linesIn
 rows-lines number first [] = refl
 rows-lines number first (e ∷ es) =
-    lines-both (entryRows number first e) (rowsFrom (suc number) (first + length (e .bytes)) es)
-    ∙ rw (after-lines (e .lines) (ownRow number first (e .bytes) (ownIn (e .lines))) refl, rows-lines (suc number) (first + length (e .bytes)) es) refl
+    let next = first + length (e .bytes) in
+    lines-both (entryRows number first e) (rowsFrom (suc number) next es)
+    ∙ rw (after-lines (e .lines) (ownRow number first (e .bytes) (ownIn (e .lines))) refl, rows-lines (suc number) next es) refl
 
 -- ---- the lines of a run
 
@@ -165,8 +166,10 @@ rows-typed : (number first : ℕ) (es : List Entry) → typedIn (rowsFrom number
 unfolding rowsFrom typedIn textTyped recordsIn
 rows-typed number first [] = refl
 rows-typed number first (e ∷ es) =
-    typed-both (entryRows number first e) (rowsFrom (suc number) (first + length (e .bytes)) es)
-    ∙ rw (after-typed (e .lines) (ownRow number first (e .bytes) (ownIn (e .lines))) (typed-some (e .bytes)), line-is (e .bytes), rows-typed (suc number) (first + length (e .bytes)) es) refl
+    let next = first + length (e .bytes) in
+    let own = ownRow number first (e .bytes) (ownIn (e .lines)) in
+    typed-both (entryRows number first e) (rowsFrom (suc number) next es)
+    ∙ rw (after-typed (e .lines) own (typed-some (e .bytes)), line-is (e .bytes), rows-typed (suc number) next es) refl
 
 -- The theorem: the typed cells are the text of the book's accepted records.
 pub records-typed : (xs : List ℕ) → typedIn (tableOf xs) ≡ textTyped (acceptedIn xs)

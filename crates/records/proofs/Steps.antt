@@ -1,6 +1,6 @@
 -- Laws of one record and of the loop over records: what the code's parts make together.
 -- Assumes nothing.
-use Prim.Native.Nat.{ℕ, zero, suc, _+_, _-_, _*_, _/_, _≤_, _<_}
+use Prim.Native.Nat.{ℕ, suc, _+_, _-_, _*_, _/_, _≤_, _<_}
 use native.Mathlib.Omega.{arith}
 use native.Mathlib.Nat.{add-zero}
 use native.Mathlib.Numerals.{add-one}
@@ -121,22 +121,22 @@ module _ (a : Account) (rest : List ℕ) (t : Next) (e : t ≡ nextOf a rest) (h
       ap (λ (x : Retyping). x .text) (typing.first-typed a rest t e h 0)
       ∙ ap (λ (x : Retyping). line ++ x .text) (typing.none-asked (t .account) (drop (t .size) rest)) ∙ append-nil line
 
-  module _ (v : AccountInRange a) {xs zs : List ℕ} {r : Retyped} (p : Retypes (retypedBy (length xs / lineMost) a rest) xs zs 0 r) (n : length xs ≡ lineMost)
-    where
-      typed-put : Put xs zs 0 (lineTyped (recordRow bytes) (valuesOf bytes)) (r .written)
-      typed-put =
-          let one : length xs / lineMost ≡ 1 = omega arith in
-          let q : retypedBy (length xs / lineMost) a rest .text ≡ typedBy 1 a rest .text = rw (one, in-range-test a v) refl in
-          rw (q ∙ typed-text) at (p .put)
+  module _ (v : AccountInRange a) {xs zs : List ℕ} {r : Retyped} (p : Retypes (retypedBy (length xs / lineMost) a rest) xs zs 0 r)
+      (n : length xs ≡ lineMost) where
+    typed-put : Put xs zs 0 (lineTyped (recordRow bytes) (valuesOf bytes)) (r .written)
+    typed-put =
+        let one : length xs / lineMost ≡ 1 = omega arith in
+        let q : retypedBy (length xs / lineMost) a rest .text ≡ typedBy 1 a rest .text = rw (one, in-range-test a v) refl in
+        rw (q ∙ typed-text) at (p .put)
 
-      pub typed-some : 1 ≤ r .written
-      typed-some = cell-some bytes typed-put
+    pub typed-some : 1 ≤ r .written
+    typed-some = cell-some bytes typed-put
 
-      pub cell-room : {cell : List ℕ} → cell ≡ take (r .written - 1) zs → length cell ≤ lineMost
-      cell-room q = omega (arith, ap length q, length-take (r .written - 1) zs, typed-put .room, n)
+    pub cell-room : {cell : List ℕ} → cell ≡ take (r .written - 1) zs → length cell ≤ lineMost
+    cell-room q = omega (arith, ap length q, length-take (r .written - 1) zs, typed-put .room, n)
 
-      pub typed-as : take (r .written - 1) zs ≡ typedText bytes
-      typed-as = typed-cell bytes typed-put
+    pub typed-as : take (r .written - 1) zs ≡ typedText bytes
+    typed-as = typed-cell bytes typed-put
 
   -- its lines
   pub lines-as : {zs : List ℕ} (ys : List ℕ) → zs ≡ linesNext a rest ++ ys → take (t .written) zs ≡ linesOf a bytes

@@ -3,7 +3,6 @@
 use Prim.Native.Nat.{ℕ, _+_, _-_, _≤_, _<_}
 use native.Mathlib.Omega.{arith}
 use mathlib.Core.Path.{_≡_, refl, sym, ap, _∙_}
-use mathlib.Core.Bool.{Bool, true, false}
 use mathlib.Core.List.{List, [], _∷_, _++_, append-nil, append-assoc}
 use lib.ListN.{length, getD, take, drop}
 use lib.Seq.{take-all, getD-drop}
@@ -33,7 +32,8 @@ module _ (line : List ℕ) where
   figures-none h = rw (lt-ltb _ _ h) refl
 
   module _ (h : frontSize line ≤ length line) {v : List ℕ} where
-    pub figures-total : getD line 3 0 ≡ 8 → v ≡ drop 2 (valuesAt totalFields line 0) → figuresText line ≡ columnsText Sheet 2 (drop 2 v) ++ ascii "\r\n"
+    pub figures-total : getD line 3 0 ≡ 8 → v ≡ drop 2 (valuesAt totalFields line 0)
+        → figuresText line ≡ columnsText Sheet 2 (drop 2 v) ++ ascii "\r\n"
     unfolding figuresText lineNumbers
     figures-total k e = rw (le-ltb _ _ h, e, eq-eqb _ _ k) refl
 
@@ -78,7 +78,8 @@ module _ (row : ℕ) (least : 1 ≤ row) (most : row ≤ lastRow) where
 
 -- ---- rows
 
-pub own-text : (p n g t f : List ℕ) → p ++ ((44 ∷ (n ++ (44 ∷ []))) ++ (g ++ ((44 ∷ []) ++ (t ++ f)))) ≡ p ++ (44 ∷ (n ++ (44 ∷ (g ++ (44 ∷ (t ++ f))))))
+pub own-text : (p n g t f : List ℕ)
+    → p ++ ((44 ∷ (n ++ (44 ∷ []))) ++ (g ++ ((44 ∷ []) ++ (t ++ f)))) ≡ p ++ (44 ∷ (n ++ (44 ∷ (g ++ (44 ∷ (t ++ f))))))
 own-text p n g t f = ap (λ (l : List ℕ). p ++ (44 ∷ l)) (append-assoc n (44 ∷ []) (g ++ (44 ∷ (t ++ f))))
 
 -- the rows of a record that gives these lines, n bytes of which are a subtotal's

@@ -338,7 +338,8 @@ fn put_rows(from: Account, at: usize, book: &[u8], out: &mut [u8]) -> Retyped
 // The rows of the next records of book from index at on after an account, as many as the buffer has room for, from its start, up to a record that is
 // not accepted. An account outside its ranges is that of no book, and after the book's end there is nothing: no rows.
 pub fn rows(from: Account, at: usize, book: &[u8], out: &mut [u8]) -> Retyped
-    ensures { λ r. ⌜ Retypes (rowsAfter (length (now (out .entry)) / rowsMost) from at (now (book .entry))) (now (out .entry)) (now (out .exit)) 0 r ⌝ }
+    ensures { λ r. ⌜ Retypes (rowsAfter (length (now (out .entry)) / rowsMost) from at (now (book .entry)))
+        (now (out .entry)) (now (out .exit)) 0 r ⌝ }
     ensures { λ r. ⌜ r .taken ≤ length (now (book .entry)) - at ⌝ }
 {
     if from.in_range() & (at <= book.len()) {

@@ -95,7 +95,7 @@ fn remark(w: Work, given: Given) {
 
 // The last word. Where a read or a write failed there is none: the book was not seen whole, or its rows were not.
 fn end(w: Work, input: Input) {
-    let mut text = [0u8; 128];
+    let mut text = [0u8; 96];
     let n = lister::put_last(&mut text, w.account, input.good, w.written);
     report(&text[..n]);
 }

@@ -22,7 +22,8 @@ put-column-spec =
     let c11 = c8 .before .before .before in
     let p = c2 .put-signed .ensures in
     let b = c8 .put-byte .ensures in
-    (rw (with-sign (c11 .args .column) (c11 .args .v) (c5 .is-signed .ensures) (c4 .if1 .taken)) (and-then b (p .0)), omega (arith, p .1, b .next)))
+    let a = c11 .args in
+    (rw (with-sign (a .column) (a .v) (c5 .is-signed .ensures) (c4 .if1 .taken)) (and-then b (p .0)), omega (arith, p .1, b .next)))
     (λ c κs. search needs)
     (λ c. search needs)
     (λ c.
@@ -33,4 +34,5 @@ put-column-spec =
     let c11 = c8 .before .before .before in
     let p = c2 .put-decimal .ensures in
     let b = c8 .put-byte .ensures in
-    (rw (without-sign (c11 .args .column) (c11 .args .v) (c5 .is-signed .ensures) (c4 .if1 .left)) (and-then b (p .0)), omega (arith, p .1, b .next))))
+    let a = c11 .args in
+    (rw (without-sign (a .column) (a .v) (c5 .is-signed .ensures) (c4 .if1 .left)) (and-then b (p .0)), omega (arith, p .1, b .next))))

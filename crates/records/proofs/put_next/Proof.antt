@@ -19,8 +19,9 @@ put-next-spec =
     let c7 = c5 .before .before in
     let c10 = c7 .before .before .before in
     let t = c5 .next-record .ensures in
-    let e = next-is (c10 .args .a) (c7 .rest-of .ensures) (t .0) in (
-      stops (c10 .args .a) (c10 .args .at) (c10 .args .book .now) _ e (c .if1 .taken) (c10 .args .out .now) (c10 .args .end) (omega (arith, c10 .pre .2)),
+    let s = c10 .args in
+    let e = next-is (s .a) (c7 .rest-of .ensures) (t .0) in (
+      stops (s .a) (s .at) (s .book .now) _ e (c .if1 .taken) (s .out .now) (s .end) (omega (arith, c10 .pre .2)),
       (omega arith, omega (arith, c10 .pre .1), t .1 .1 .2),
     ))
     (λ c. search needs)

@@ -12,7 +12,9 @@ begin-spec =
     (tie.spec
     (λ c κs. search needs)
     (λ c. search needs)
-    (λ c. let c3 = c .before .before .before in let s = c3 .say-header .ensures in sym (length-take-le _ _ (omega (arith, s .put .room, s .long))))
+    (λ c.
+    let c3 = c .before .before .before in
+    let s = c3 .say-header .ensures in sym (length-take-le _ _ (omega (arith, s .put .room, s .long))))
     (λ c κs. search needs)
     (λ c κs. search needs)
     (λ c. search needs)

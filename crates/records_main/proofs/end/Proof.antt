@@ -14,6 +14,8 @@ end-spec =
     (λ c. search needs)
     (λ c κs. search needs)
     (λ c. search needs)
-    (λ c. let c2 = c .before .before in let p = c2 .put-last .ensures in sym (length-take-le _ _ (omega (arith, p .room, put-length p))))
+    (λ c.
+    let c2 = c .before .before in
+    let p = c2 .put-last .ensures in sym (length-take-le _ _ (omega (arith, p .room, put-length p))))
     (λ c κs. search needs)
     (λ c. search needs))

@@ -13,6 +13,8 @@ remark-spec =
     (λ c. search needs)
     (λ c κs. search needs)
     (λ c. search needs)
-    (λ c. let c2 = c .before .before in let s = c2 .say-remark .ensures in sym (length-take-le _ _ (omega (arith, s .put .room, s .long))))
+    (λ c.
+    let c2 = c .before .before in
+    let s = c2 .say-remark .ensures in sym (length-take-le _ _ (omega (arith, s .put .room, s .long))))
     (λ c κs. search needs)
     (λ c. search needs))

@@ -15,7 +15,9 @@ turn-spec =
     (λ c κs. search needs)
     (λ c. search needs)
     (λ c. search needs)
-    (λ c. let c5 = c .before .before .before .before .before in let t = c5 .rows .ensures .0 .put in sym (length-take-le _ _ (omega (arith, t .room, put-length t))))
+    (λ c.
+    let c5 = c .before .before .before .before .before in
+    let t = c5 .rows .ensures .0 .put in sym (length-take-le _ _ (omega (arith, t .room, put-length t))))
     (λ c κs. search needs)
     (λ c. search needs)
     (λ c.
