@@ -3,6 +3,7 @@
 pub mod changes;
 pub mod compare;
 pub mod covered;
+pub mod faults;
 pub mod feed;
 pub mod fields;
 pub mod figures;

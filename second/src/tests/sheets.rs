@@ -64,10 +64,11 @@ fn numbers_outside_their_fields() {
 
 #[test]
 fn a_sentence_stands_before_a_refusal() {
-    let form = "row 1: not of a sheet's form: first the row kind,group,ch4,n2o,co2,excreted,land,grazing,co2e, \
-        then rows of nine columns, digits without leading zeros, the last empty but on kind 8; CRLF behind each\n\
-        refused 20 row 1\n";
-    assert_eq!(unsheeted(b"").1, form);
+    let names = "kind,group,ch4,n2o,co2,excreted,land,grazing,co2e";
+    assert_eq!(
+        unsheeted(b"").1,
+        format!("row 1: the first row has to be {names}\nrefused 20 row 1\n")
+    );
     let field = "row 2: a number is outside its field: kind is 3 to 10 or 16, group up to 65535, \
         a figure up to 18446744073709551615, co2 and co2e -9223372036854775808 to 9223372036854775807\n\
         refused 21 row 2\n";
@@ -88,4 +89,30 @@ fn the_makers_meet_every_answer() {
 #[test]
 fn a_sheet_that_was_cut_to_nothing_is_not_damaged_again() {
     assert!(sheet(1_478_361_860, 199).is_empty());
+}
+
+#[test]
+fn a_sheet_s_fault_is_named() {
+    let first =
+        |text: &str| unsheeted(text.as_bytes()).1.lines().next().unwrap_or_default().to_string();
+    let row = |text: &str| first(&format!("{HEADER}{text}"));
+    assert!(first(&format!("\u{feff}{HEADER}")).starts_with("row 1: a byte order mark"));
+    assert!(first(&HEADER.replace(',', ";")).starts_with("row 1: cells are separated by commas"));
+    assert!(
+        first(&HEADER.replace("\r", "")).starts_with("row 1: the row ends in a line feed alone")
+    );
+    assert!(row("3,7,0,0,0,0,0,0,\n")
+        .starts_with("row 2, column co2e: \"\": the row ends in a line feed alone"));
+    assert!(row("8,0,0,0,0,0,0,0,5\n")
+        .starts_with("row 2, column co2e: \"5\": the row ends in a line feed alone"));
+    assert!(row("3,7,01,0,0,0,0,0,\r\n")
+        .starts_with("row 2, column ch4: \"01\": expected a whole number"));
+    assert!(row("3,7,\"1\",0,0,0,0,0,\r\n")
+        .starts_with("row 2, column ch4: \"\"1\"\": cells have no quotes"));
+    assert!(row("3;7;1\r\n")
+        .starts_with("row 2, column kind: \"3;7;1\": cells are separated by commas"));
+    assert!(row("3,7,0,0,0,0,0,0,1\r\n")
+        .starts_with("row 2, column co2e: \"1\": expected nothing before"));
+    assert!(row("8,0,0,0,0,0,0,0,\r\n")
+        .starts_with("row 2, column co2e: \"\": expected a whole number"));
 }
