@@ -3,3 +3,5 @@ pub mod Overs
 pub mod Gathers
 mod Knowns
 pub mod Pages
+pub mod Promises
+pub mod OneAnswer

@@ -64,7 +64,8 @@ module _ (p : Place) (xs : List ℕ) where
   pub goes-outside : not (accountInRange (p .account)) || ltb (length xs) (p .at) ≡ true → goesOn p xs ≡ false
   goes-outside h = outside (accountInRange (p .account)) (p .at) (length xs) _ h
 
-  module _ (size stage : ℕ) (e : size ≡ nextOf (p .account) (drop (p .at) xs) .size) (f : stage ≡ nextOf (p .account) (drop (p .at) xs) .account .stage) where
+  module _ (size stage : ℕ) (e : size ≡ nextOf (p .account) (drop (p .at) xs) .size) (f : stage ≡ nextOf (p .account) (drop
+      (p .at) xs) .account .stage) where
     pub goes-none : eqb size 0 || eqb stage 3 ≡ true → goesOn p xs ≡ false
     goes-none h =
         let t = nextOf (p .account) (drop (p .at) xs) in
@@ -86,7 +87,8 @@ module _ (p : Place) (xs : List ℕ) where
 
   -- the next one
   module _ (k : ℕ) (e : k ≡ kindAt p xs) (o : goesOn p xs ≡ true) where
-    pub place-moves : (t : Next) → t ≡ nextOf (p .account) (drop (p .at) xs) → {q : Place} → q ≡ movedBy p k (t .account) (t .size) → q ≡ placeAfter p xs
+    pub place-moves : (t : Next) → t ≡ nextOf (p .account) (drop (p .at) xs) → {q : Place} → q ≡ movedBy p k (t .account)
+        (t .size) → q ≡ placeAfter p xs
     place-moves t f q =
         let n = nextOf (p .account) (drop (p .at) xs) in
         q

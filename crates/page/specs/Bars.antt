@@ -1,5 +1,5 @@
--- The bars of the member's page, a cascade: each begins where the last one ended. A step is a sum of CO2e, counted from 2^63 on, so that what is below
--- zero has a number too and steps are compared as they stand.
+-- The bars of the member's page, a cascade: each begins where the last one ended. A step is a sum of CO2e, counted from 2^63 on, so that what is
+-- below zero has a number too and steps are compared as they stand.
 -- Assumes nothing.
 use Prim.Native.Nat.{ℕ, _+_, _-_, _/_, _%_, _^_}
 use mathlib.Core.List.{List, [], _++_}

@@ -5,3 +5,4 @@ pub mod Figures
 pub mod Style
 pub mod Parts
 pub mod Page
+pub mod Promised

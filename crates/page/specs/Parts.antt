@@ -1,4 +1,5 @@
--- The member's page, part by part, from top to bottom: head, total, groups, sources, gases, notes and foot; and the page of a book that is not closed.
+-- The member's page, part by part, from top to bottom: head, total, groups, sources, gases, notes and foot; and the page of a book that is not
+-- closed.
 -- Assumes nothing.
 use Prim.Native.Nat.{ℕ}
 use mathlib.Core.List.{List, [], _++_}
@@ -283,9 +284,11 @@ notesText =
     ++ (ascii "<li>what cattle graze, in CO<sub>2</sub>e</li>\n</ul>\n</div>\n<div>\n<h2>Left out</h2>\n<ul>\n"
     ++ (ascii "<li>methane from the digestion of pigs</li>\n<li>methane from cattle manure</li>\n<li>crops</li>\n<li>trees</li>\n"
     ++ (ascii "<li>other credits</li>\n</ul>\n</div>\n</section>\n<section>\n<h2>How exact this is</h2>\n"
-    ++ (ascii "<p class=\"note\">Each record of the book gives whole grams, the third decimal here. From there on everything is added, and nothing is\n"
-    ++ (ascii "rounded: the parts of each table make its total to the gram. Only CO<sub>2</sub>e per head is a quotient, rounded to the gram. The figures\n"
-    ++ ascii "are as right as what was entered: feed, head, days and shares.</p>\n</section>\n")))))))))
+    ++ (ascii "<p class=\"note\">Each record of the book gives whole grams, the third decimal here. "
+    ++ (ascii "From there on everything is added, and nothing is\n"
+    ++ (ascii "rounded: the parts of each table make its total to the gram. Only CO<sub>2</sub>e per head is a quotient, "
+    ++ (ascii "rounded to the gram. The figures\n"
+    ++ ascii "are as right as what was entered: feed, head, days and shares.</p>\n</section>\n")))))))))))
 
 -- the foot, with the verdict
 unfoldable pub footText : Survey → List ℕ
@@ -313,11 +316,13 @@ unfoldable pub warningText : Bool → List ℕ
 warningText refused =
     pick refused
     (ascii "<div class=\"not\">\n<h2>Not for members</h2>\n"
-    ++ (ascii "<p><b>The book of this farm is refused.</b> There are no figures on this page, because a record of the book is wrong. Please do not mail it.</p>\n"
-    ++ ascii "</div>\n<section>\n<h2>Why</h2>\n<p>"))
+    ++ (ascii "<p><b>The book of this farm is refused.</b> There are no figures on this page, because a record of the book is wrong. "
+    ++ (ascii "Please do not mail it.</p>\n"
+    ++ ascii "</div>\n<section>\n<h2>Why</h2>\n<p>")))
     (ascii "<div class=\"not\">\n<h2>Not for members</h2>\n"
-    ++ (ascii "<p><b>The book of this farm is not closed.</b> There are no figures on this page, because the year may still change. Please do not mail it.</p>\n"
-    ++ ascii "</div>\n<section>\n<h2>Why</h2>\n<p>"))
+    ++ (ascii "<p><b>The book of this farm is not closed.</b> There are no figures on this page, because the year may still change. "
+    ++ (ascii "Please do not mail it.</p>\n"
+    ++ ascii "</div>\n<section>\n<h2>Why</h2>\n<p>")))
 
 -- what to do
 unfoldable pub adviceText : Bool → List ℕ

@@ -45,18 +45,25 @@ next-row-spec =
     (λ c κs. search needs)
     (λ c.
     let a = c .before .before .before .before .before .before .before .args in
-    let o = goes-outside (a .p) (a .book .now) (rw (c .before .before .before .in-range .ensures) at (c .before .if1 .taken)) in
-    (place-stays (a .p) (a .book .now) o (c .stopped .ensures .0), rw (c .stopped .ensures .1, row-stays (a .p) (a .book .now) _ o) (said-none (omega arith))))
+    let o = goes-outside (a .p) (a .book .now) (rw (c .before .before .before .in-range .ensures) at (c .before .if1 .taken)) in (
+      place-stays (a .p) (a .book .now) o (c .stopped .ensures .0),
+      rw (c .stopped .ensures .1, row-stays (a .p) (a .book .now) _ o)
+          (said-none (omega arith)),
+    ))
     (λ c κs. inside-bytes (c .before .before .in-range .result) _ _ (c .if1 .left))
     (λ c κs.
     let a = c .before .before .before .before .before .before .before .args in
-    in-range-parts _ (inside-range _ (a .p .at) (length (a .book .now)) (rw (c .before .before .before .in-range .ensures) at (c .before .if1 .left))))
+    in-range-parts _ (inside-range _ (a .p .at) (length (a .book .now)) (rw (c .before .before .before .in-range .ensures) at
+    (c .before .if1 .left))))
     (λ c κs. search needs)
     (λ c.
     let n = c .before .before .before .before .before in
     let a = entry n .args in
-    let o = goes-none (a .p) (a .book .now) _ _ (size-is n) (stage-is n) (c .before .if2 .taken) in
-    (place-stays (a .p) (a .book .now) o (c .stopped2 .ensures .0), rw (c .stopped2 .ensures .1, row-stays (a .p) (a .book .now) _ o) (said-none (omega arith))))
+    let o = goes-none (a .p) (a .book .now) _ _ (size-is n) (stage-is n) (c .before .if2 .taken) in (
+      place-stays (a .p) (a .book .now) o (c .stopped2 .ensures .0),
+      rw (c .stopped2 .ensures .1, row-stays (a .p) (a .book .now) _ o)
+          (said-none (omega arith)),
+    ))
     (λ c κs.
     let n = c .before .before .before .before in
     let a = entry n .args in
@@ -82,7 +89,8 @@ next-row-spec =
     let n = c .before .before .before .before .before .before .before .before .before .before in
     let a = entry n .args in
     let k = rw (rest-is n) at (c .before .before .before .before .before .kind-of .ensures) in
-    let o = goes-some (a .p) (a .book .now) _ _ (size-is n) (stage-is n) (inside-is n) (c .before .before .before .before .before .before .if2 .left) in (
+    let o = goes-some (a .p) (a .book .now) _ _ (size-is n) (stage-is n) (inside-is n)
+    (c .before .before .before .before .before .before .if2 .left) in (
       place-moves (a .p) (a .book .now) _ k o _ (next-is n) (c .moved .ensures),
       rw (row-moves (a .p) (a .book .now) _ k o _) (c .before .before .before .say-row .ensures),
     )))

@@ -50,7 +50,12 @@ gather-spec =
     (l .inv .sum, rise-next _ _ _ (standing (l .inv) _ (next-is n) (c .before .before .before .if1 .left))))
     (λ c.
     let n = c .before .before .before .before .before .before .before .before .before in
-    omega (arith, gathering-inside (n .before .before .before .loop .inv) _ (next-is n) (c .before .before .before .before .before .if1 .left), entry n .good))
+    omega (
+      arith,
+      gathering-inside (n .before .before .before .loop .inv) _ (next-is n)
+          (c .before .before .before .before .before .if1 .left),
+      entry n .good,
+    ))
     (λ c.
     let n = c .before .before .before .before .before .before .before .before .before in
     let l = n .before .before .before .loop in

@@ -60,7 +60,8 @@ pub +say-threes-spec : {M : Type 1} → statement M
     (λ c. search needs)
     (λ c.
     let a = c .before .before .before .before .before .before .before .before .before .before .before .before .before .before .before .before .args in
-    rw (threes-more (a .most) (a .v) (c .before .before .before .before .before .before .before .before .before .before .before .before .before .before
+    rw (threes-more (a .most) (a .v)
+    (c .before .before .before .before .before .before .before .before .before .before .before .before .before .before
     .if1 .left) (c .before .before .before .before .before .before .before .before .before .before .before .before .before .if2 .left)) (
     c .before .before .before .before .before .before .before .before .before .before .before .say-threes .ensures
     ⟫ c .before .before .before .before .before .before .say .ensures

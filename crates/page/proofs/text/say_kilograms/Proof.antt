@@ -20,7 +20,8 @@ say-kilograms-spec =
     (λ c. search needs)
     (λ c. omega (
       arith,
-      leb-true 9223372036854775808 (c .before .before .before .before .before .before .before .before .before .args .w) (sym (c .before .before .before .before .before .before .before .is-below .ensures) ∙ c .before .before .before
+      leb-true 9223372036854775808 (c .before .before .before .before .before .before .before .before .before .args .w)
+          (sym (c .before .before .before .before .before .before .before .is-below .ensures) ∙ c .before .before .before
           .before .before .before .if1 .taken),
     ))
     (λ c κs. search needs)
