@@ -46,7 +46,7 @@ end-at unfinished a ys e early z = rw (book-unfinished a ys early e) refl
 end-at badLength a ys e early z = rw (book-bad a ys early e) refl
 end-at whole a ys e early z = absurd (omega arith)
 
-end-next : (a : Account) (ys : List ℕ) → nextOf a ys .size ≡ 0 → book a ys .state .account ≡ nextOf a ys .account
+pub end-next : (a : Account) (ys : List ℕ) → nextOf a ys .size ≡ 0 → book a ys .state .account ≡ nextOf a ys .account
 end-next a ys z =
     ⊎-elim
     (λ (h : a .stage < 2). let o = next-open a ys h in rw o (end-at (front ys) a ys refl h (rw o at z)))

@@ -3,5 +3,6 @@ pub mod Columns
 pub mod Adding
 mod Words
 pub mod TableRows
+pub mod TableFarm
 pub mod TableSums
 pub mod OneAnswer

@@ -1,6 +1,7 @@
 -- What the table shows of a book: where it ended, how many records were accepted, its farm record, and its total line.
 -- Assumes nothing.
 use Prim.Native.Nat.{ℕ, _+_}
+use mathlib.Core.Path.{_≡_}
 use mathlib.Core.Bool.{Bool, true, false, _&&_}
 use mathlib.Core.List.{List, [], _∷_}
 use lib.ListN.{length, getD, replicate}
@@ -11,9 +12,13 @@ use Rattle.codec.specs.Codec.{valuesAt}
 use Rattle.line_bytes.specs.Lines.{figureCount}
 use Rattle.line_rows.specs.Rows.{lineNumbers}
 use Rattle.account.specs.declared.Account.{Account}
+use Rattle.account.specs.Account.{noRecord}
+use Rattle.account.specs.Sorts.{isFarm}
+use Rattle.account.specs.Judge.{recordRow, valuesOf}
 use Rattle.account.specs.Line.{totalOf}
 use Rattle.book.specs.State.{noRecordYet}
 use Rattle.book.specs.Run.{run}
+use Rattle.walk.specs.Walk.{recordAt, accepts}
 use Rattle.table.specs.declared.Seen.{Seen}
 
 -- the account that a book comes to: what stands after a close or a refusal changes nothing
@@ -39,6 +44,13 @@ seenBy a book =
 
 unfoldable pub seenOf : List ℕ → Seen
 seenOf book = seenBy (endOf book) book
+
+-- what is promised of farm number and year: the first record is a farm record that is accepted, and they are its own
+pub record FarmShown (book : List ℕ) : Type 0 where
+  pub farm : isFarm (recordRow (recordAt book)) ≡ true
+  pub accepted : accepts noRecord (recordAt book) ≡ true
+  pub number : seenOf book .farm ≡ getD (valuesOf (recordAt book)) 0 0
+  pub year : seenOf book .year ≡ getD (valuesOf (recordAt book)) 1 0
 
 -- of a file that could not be read
 abbrev pub notRead : Seen
