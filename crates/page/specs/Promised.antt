@@ -9,7 +9,7 @@ use Rattle.page.specs.declared.Group.{Group}
 use Rattle.page.specs.declared.Place.{Place}
 use Rattle.page.specs.declared.Scale.{Scale}
 use Rattle.page.specs.declared.Survey.{Survey}
-use Rattle.page.specs.Page.{placeAfter, rowAt}
+use Rattle.page.specs.Page.{noPlace, placeAfter, rowAt}
 
 -- ---- in parts
 
@@ -17,6 +17,11 @@ use Rattle.page.specs.Page.{placeAfter, rowAt}
 unfoldable pub rowsBy : ℕ → Scale → Place → List ℕ → List ℕ
 rowsBy zero sc p xs = []
 rowsBy (suc n) sc p xs = rowAt sc p xs ++ rowsBy n sc (placeAfter p xs) xs
+
+-- the place after so many calls
+unfoldable pub placeBy : ℕ → List ℕ → Place
+placeBy zero xs = noPlace
+placeBy (suc n) xs = placeAfter (placeBy n xs) xs
 
 -- ---- the groups
 
