@@ -1,4 +1,5 @@
--- The groups add up: the bar of each row goes on by the row's CO2e from the step before it, and after the farm's CO2 the step is that of the total.
+-- The groups add up: the bar of each row goes on by the row's CO2e from the step before it, and after the farm's CO2 the step is that of the total. So
+-- do the gases. And the heading that a row bears.
 -- Assumes nothing.
 use Prim.Native.Nat.{ℕ, zero, suc, _+_, _-_, _*_, _^_, _%_, _≤_, _<_}
 use mathlib.Core.Path.{_≡_, refl, sym, ap, _∙_, subst}
@@ -23,9 +24,10 @@ use Rattle.account.specs.Account.{noRecord}
 use Rattle.account.specs.Figures.{figuresOf}
 use Rattle.account.specs.Sorts.{sortOf, bySort}
 use Rattle.account.specs.Range.{AccountInRange}
-use Rattle.account.specs.Judge.{Step, versionOf, kindByte, recordRow, valuesOf, inPlace, first, refusals, accepted, judge}
+use Rattle.account.specs.Judge.{Step, versionOf, kindByte, recordRow, valuesOf, inPlace, NotRefused, first, refusals, accepted, judge}
 use Rattle.account.proofs.Sorts.{by-sort, sort-farm, heads-two}
 use Rattle.account.proofs.Refusals.{not-refused}
+use Rattle.account.proofs.Details.{judge-accepted}
 use Rattle.account.proofs.EachFigure.{of-farm}
 use Rattle.account.proofs.Keeps.{in-range-none}
 use Rattle.account.specs.Line.{co2eIn}
@@ -35,7 +37,7 @@ use Rattle.page.specs.declared.Scale.{Scale}
 use Rattle.page.specs.Bars.{plus8, noStep}
 use Rattle.page.specs.Figures.{warmed, groupStep, groupOf}
 use Rattle.page.specs.Page.{goesOn, kindAt, placeAfter}
-use Rattle.page.specs.Promised.{placeBy}
+use Rattle.page.specs.Promised.{placeBy, headingOf}
 use Rattle.page.proofs.Promises.{still, stand, place-is, range-next, inside-next}
 use Rattle.page.proofs.Pages.{place-stays}
 
@@ -83,8 +85,8 @@ row-adds from grazed a r s =
     let G = plainly f (a .subtotal .ch4) (a .subtotal .n2o .0) (a .sums .grazing .0 - grazed) in
     let most = bound a r in
     let sum : A ≡ B + G =
-        rw (s .ch4, s .n2o, mul-add (f .ch4) (s .x) (a .subtotal .ch4), mul-add (f .n2o) (s .y) (a .subtotal .n2o .0))
-        (shuffle _ _ _ _ (a .sums .grazing .0) grazed (s .grazing)) in
+    rw (s .ch4, s .n2o, mul-add (f .ch4) (s .x) (a .subtotal .ch4), mul-add (f .n2o) (s .y) (a .subtotal .n2o .0))
+    (shuffle _ _ _ _ (a .sums .grazing .0) grazed (s .grazing)) in
     let all = warmed-plain f (a .sums .ch4) (a .sums .n2o .0) (a .sums .grazing .0) most in
     let before = warmed-plain f (s .x) (s .y) grazed (omega (arith, sum, most)) in
     let group = warmed-plain f (a .subtotal .ch4) (a .subtotal .n2o .0) (a .sums .grazing .0 - grazed) (omega (arith, sum, most)) in
@@ -131,7 +133,7 @@ module _ (from grazed : ℕ) (a : Account) (range : AccountInRange a) (s : Stand
       let x : s .x ≡ 0 = omega (arith, s .ch4, c) in
       let y : s .y ≡ 0 = omega (arith, s .n2o, n) in
       let zero-of : (h : Farm) → warmed h (s .x) (s .y) grazed ≡ 0 = λ h.
-          rw (x, y, g) (warmed-plain h 0 0 0 (rw (mul-zero (h .ch4), mul-zero (h .n2o)) (lit< tt)) ∙ (rw (mul-zero (h .ch4), mul-zero (h .n2o)) refl)) in
+      rw (x, y, g) (warmed-plain h 0 0 0 (rw (mul-zero (h .ch4), mul-zero (h .n2o)) (lit< tt)) ∙ (rw (mul-zero (h .ch4), mul-zero (h .n2o)) refl)) in
       s .step ∙ ap (plus8 noStep) (zero-of (a .farm) ∙ sym (zero-of f))
 
   accepted-keeps : eqb (first (refusals a r)) 0 ≡ true → Kept (accepted a (recordRow r) (valuesOf r))
@@ -221,3 +223,39 @@ page-ends-in-total a r w =
     ap (λ (n : ℕ). plus8 (plus8 noStep n) (a .sums .co2 .0)) (warmed-plain (a .farm) (a .sums .ch4) (a .sums .n2o .0) (a .sums .grazing .0) most)
     ∙ last-step W (a .sums .co2 .0) most w
     ∙ sym (ap (plus8 noStep) (words-plus (a .sums .co2 .0) W w (omega (arith, most))))
+
+four : (x y z c : ℕ) → x + y + z < 2 ^ 63 → (((x + y) % 2 ^ 64 + z) % 2 ^ 64 + c) % 2 ^ 64 ≡ (c + (x + y + z)) % 2 ^ 64
+four x y z c h =
+    let e : (x + y) % 2 ^ 64 ≡ x + y = omega (arith, h) in
+    let f : (x + y + z) % 2 ^ 64 ≡ x + y + z = omega (arith, h) in
+    let g : x + y + z + c ≡ c + (x + y + z) = omega arith in
+    rw (e, f) (ap (λ (n : ℕ). n % 2 ^ 64) g)
+
+-- The gases add up: CO2e of CH4, of N2O, CO2 and grazing make the total line's CO2e.
+pub page-gases-add-up : (a : Account) → AccountInRange a → a .sums .co2 .0 < 2 ^ 64
+    → plus8 (plus8 (plus8 (warmed (a .farm) (a .sums .ch4) 0 0) (warmed (a .farm) 0 (a .sums .n2o .0) 0)) (a .sums .grazing .0)) (a .sums .co2 .0)
+    ≡ co2Word (co2eIn a)
+unfolding co2eOf
+page-gases-add-up a r w =
+    let f = a .farm in
+    let W = plainly f (a .sums .ch4) (a .sums .n2o .0) (a .sums .grazing .0) in
+    let most = bound a r in
+    let first : plainly f (a .sums .ch4) 0 0 ≡ f .ch4 * a .sums .ch4 = rw (mul-zero (f .n2o)) (omega arith) in
+    let second : plainly f 0 (a .sums .n2o .0) 0 ≡ f .n2o * a .sums .n2o .0 = rw (mul-zero (f .ch4)) (omega arith) in
+    let ch4 = warmed-plain f (a .sums .ch4) 0 0 (rw first (omega (arith, most))) ∙ first in
+    let n2o = warmed-plain f 0 (a .sums .n2o .0) 0 (rw second (omega (arith, most))) ∙ second in
+    rw (ch4, n2o) (four (f .ch4 * a .sums .ch4) (f .n2o * a .sums .n2o .0) (a .sums .grazing .0) (a .sums .co2 .0) most)
+    ∙ sym (words-plus (a .sums .co2 .0) W w (omega (arith, most)))
+
+-- ---- the heading that a row bears
+
+-- An accepted heading sets group, class and head to its values; every other record leaves them as they are. So a row, which has those of the account,
+-- bears the last heading before the record that ends it.
+pub page-bears-heading : (a : Account) (r : List ℕ) → NotRefused a r
+    → judge a r .account .heading ≡ pick (eqb (kindByte r) 2) (headingOf (valuesOf r)) (a .heading)
+unfolding accepted
+page-bears-heading a r t =
+    rw (judge-accepted a r t)
+    (by-sort (λ (s : Step). s .account .heading ≡ pick (eqb (kindByte r) 2) (headingOf (valuesOf r)) (a .heading)) (sortOf (recordRow r))
+    (λ q. rw (kind-other r (rw q refl)) refl) (λ q. rw (kind-heads r q) refl) (λ q. rw (kind-other r (rw q refl)) refl)
+    (λ q. rw (kind-other r (rw q refl)) refl) (λ q. rw (kind-other r (rw q refl)) refl))
