@@ -4,4 +4,5 @@ pub mod Gathers
 mod Knowns
 pub mod Pages
 pub mod Promises
+pub mod AddsUp
 pub mod OneAnswer

@@ -97,10 +97,10 @@ rows-after sc from grazed u a (r ∷ rs) = rows-step sc from grazed a r rs u (λ
 
 -- a place in a book
 module _ (sc : Scale) (xs : List ℕ) (p : Place) where
-  abbrev rest : List ℕ
+  abbrev pub rest : List ℕ
   rest = drop (p .at) xs
 
-  abbrev found : Next
+  abbrev pub found : Next
   found = nextOf (p .account) rest
 
   -- what is still to be printed there
@@ -122,7 +122,7 @@ module _ (sc : Scale) (xs : List ℕ) (p : Place) where
         neither false false e = sym e
 
     module _ (o : goesOn p xs ≡ true) where
-      still : eqb (found .size) 0 || eqb (found .account .stage) 3 ≡ false
+      pub still : eqb (found .size) 0 || eqb (found .account .stage) 3 ≡ false
       still = both (eqb (found .size) 0) (eqb (found .account .stage) 3) (sym goes-is ∙ o)
         where
           both : (b c : Bool) → not b && not c ≡ true → b || c ≡ false
@@ -130,10 +130,10 @@ module _ (sc : Scale) (xs : List ℕ) (p : Place) where
           both false true e = sym e
           both false false e = refl
 
-      stand : Stands (p .account) rest found
+      pub stand : Stands (p .account) rest found
       stand = next-stands p xs found refl still
 
-      place-is : placeAfter p xs ≡ movedBy p (kindAt p xs) (found .account) (found .size)
+      pub place-is : placeAfter p xs ≡ movedBy p (kindAt p xs) (found .account) (found .size)
       place-is = rw o refl
 
       -- its row, and then those of the place after it
@@ -146,10 +146,10 @@ module _ (sc : Scale) (xs : List ℕ) (p : Place) where
           rw (o, ← drop-drop (found .size) (p .at) xs)
           (rw k at (step ∙ rows-after sc _ _ _ (found .account) (recordsOf (drop (found .size) rest))))
 
-      range-next : AccountInRange (placeAfter p xs .account)
+      pub range-next : AccountInRange (placeAfter p xs .account)
       range-next = rw (place-is, stand .account) (in-range-judge (p .account) (take (found .size) rest) range (stand .early))
 
-      inside-next : placeAfter p xs .at ≤ length xs
+      pub inside-next : placeAfter p xs .at ≤ length xs
       inside-next = rw place-is (next-inside p xs found refl still inside)
 
       nearer : p .at + 6 ≤ placeAfter p xs .at

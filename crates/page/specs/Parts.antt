@@ -273,9 +273,9 @@ gasTable s =
 
 -- ---- the notes and the foot
 
--- what is counted and what is left out (document 01, "What the build covers", W7 and W10), and how exact it is
-unfoldable pub notesText : List ℕ
-notesText =
+-- what is counted and what is left out: document 01, "What the build covers", as W7 and W10 change it
+unfoldable pub countedText : List ℕ
+countedText =
     ascii "<section class=\"two\">\n<div>\n<h2>Counted</h2>\n<ul>\n<li>methane from the digestion of cattle</li>\n"
     ++ (ascii "<li>nitrous oxide from cattle manure in store</li>\n"
     ++ (ascii "<li>methane, nitrous oxide and nitrogen for land of pig manure</li>\n"
@@ -283,12 +283,17 @@ notesText =
     ++ (ascii "<li>CO<sub>2</sub> that a change of tillage takes up or gives off</li>\n"
     ++ (ascii "<li>what cattle graze, in CO<sub>2</sub>e</li>\n</ul>\n</div>\n<div>\n<h2>Left out</h2>\n<ul>\n"
     ++ (ascii "<li>methane from the digestion of pigs</li>\n<li>methane from cattle manure</li>\n<li>crops</li>\n<li>trees</li>\n"
-    ++ (ascii "<li>other credits</li>\n</ul>\n</div>\n</section>\n<section>\n<h2>How exact this is</h2>\n"
-    ++ (ascii "<p class=\"note\">Each record of the book gives whole grams, the third decimal here. "
-    ++ (ascii "From there on everything is added, and nothing is\n"
-    ++ (ascii "rounded: the parts of each table make its total to the gram. Only CO<sub>2</sub>e per head is a quotient, "
-    ++ (ascii "rounded to the gram. The figures\n"
-    ++ ascii "are as right as what was entered: feed, head, days and shares.</p>\n</section>\n")))))))))))
+    ++ ascii "<li>other credits</li>\n</ul>\n</div>\n</section>\n"))))))
+
+-- how exact it is
+unfoldable pub exactText : List ℕ
+exactText =
+    ascii "<section>\n<h2>How exact this is</h2>\n"
+    ++ (ascii "<p class=\"note\">Each record of the book gives whole grams, the third decimal here. From there on everything is added, "
+    ++ (ascii "and nothing is\n"
+    ++ (ascii "rounded: the parts of each table make its total to the gram. Only CO<sub>2</sub>e per head is a quotient, rounded to "
+    ++ (ascii "the gram. The figures\n"
+    ++ ascii "are as right as what was entered: feed, head, days and shares.</p>\n</section>\n"))))
 
 -- the foot, with the verdict
 unfoldable pub footText : Survey → List ℕ
@@ -306,8 +311,9 @@ restText s =
     ++ (groupsFoot s
     ++ (sourcesText s
     ++ (gasTable s
-    ++ (notesText
-    ++ footText s))))
+    ++ (countedText
+    ++ (exactText
+    ++ footText s)))))
 
 -- ---- the page of a book that is not closed: no figure of its lines
 

@@ -4,9 +4,9 @@ use Prim.Native.Nat.{ℕ}
 use mathlib.Core.List.{List, _++_}
 use Rattle.printing.specs.Ascii.{ascii}
 
--- the style: for screens of any width, light and dark, and for A4; it ends where the farm stands on each printed page
-unfoldable pub styleText : List ℕ
-styleText =
+-- the page, its type and its colours
+unfoldable pub typeStyle : List ℕ
+typeStyle =
     ascii "</title>\n<style>\n:root { --ground:#f1efe8; --paper:#fffefb; --ink:#1d2420; --soft:#566059; --rule:#cfcbbd;\n"
     ++ (ascii "  --bar:#2f6b4f; --up:#1d5c8a; --warn:#8f1d14; --warnbg:#fcefec;\n"
     ++ (ascii "  --serif:\"Iowan Old Style\",\"Palatino Linotype\",Palatino,\"Noto Serif\",Georgia,serif;\n"
@@ -20,8 +20,12 @@ styleText =
     ++ (ascii "header { display:flex; justify-content:space-between; align-items:baseline; border-bottom:2px solid; padding-bottom:.75rem }\n"
     ++ (ascii "h1 { font-size:1.75rem; line-height:1.2 }\n.total { padding:1.75rem 0 .25rem }\n.total p + p { margin-top:.35rem }\n"
     ++ (ascii ".sum { font-size:4.25rem; line-height:1.1; letter-spacing:-.01em; white-space:nowrap }\n"
-    ++ (ascii ".sum span { font-size:1.5rem; letter-spacing:0 }\n.soft, header p, h2 + p:not(.note) { color:var(--soft) }\n"
-    ++ (ascii "section { margin-top:2.5rem }\nh2 { font-size:1.375rem; line-height:1.25; margin-bottom:.25rem }\n"
+    ++ ascii ".sum span { font-size:1.5rem; letter-spacing:0 }\n.soft, header p, h2 + p:not(.note) { color:var(--soft) }\n"))))))))))))
+
+-- sections, tables and bars
+unfoldable pub tableStyle : List ℕ
+tableStyle =
+    ascii "section { margin-top:2.5rem }\nh2 { font-size:1.375rem; line-height:1.25; margin-bottom:.25rem }\n"
     ++ (ascii "table { width:100%; border-collapse:collapse; margin-top:.75rem; font-size:.875rem; line-height:1.35 }\n"
     ++ (ascii "th { font-weight:400; text-align:left; vertical-align:bottom; padding:.45rem 0 .2rem }\n"
     ++ (ascii "td { text-align:right; vertical-align:bottom; padding:.45rem 0 .2rem 1rem; white-space:nowrap }\n"
@@ -40,8 +44,12 @@ styleText =
     ++ (ascii ".not { margin-top:2rem; padding:1.5rem 1.75rem; border:4px solid var(--warn); background:var(--warnbg) }\n"
     ++ (ascii ".not h2 { font-size:2.25rem; color:var(--warn) }\n.not h2 + p { color:var(--ink) }\n"
     ++ (ascii "ol { margin:.25rem 0 0; padding-left:1.25rem }\n"
-    ++ (ascii "footer { margin-top:2.5rem; border-top:1px solid var(--rule); padding-top:.6rem; color:var(--soft); font-size:.8125rem }\n"
-    ++ (ascii "@media screen and (max-width:64rem) {\n  main { margin:0 auto; padding:2rem 1.5rem }\n  table { font-size:.8125rem }\n"
+    ++ ascii "footer { margin-top:2.5rem; border-top:1px solid var(--rule); padding-top:.6rem; color:var(--soft); font-size:.8125rem }\n"))))))))))))))))))
+
+-- narrow screens
+unfoldable pub narrowStyle : List ℕ
+narrowStyle =
+    ascii "@media screen and (max-width:64rem) {\n  main { margin:0 auto; padding:2rem 1.5rem }\n  table { font-size:.8125rem }\n"
     ++ (ascii "  td, thead th + th { padding-left:.4rem }\n}\n@media screen and (max-width:47.9rem) {\n"
     ++ (ascii "  main { padding:1.5rem 1rem 2rem }\n  table { font-size:.875rem }\n  header { display:block }\n"
     ++ (ascii "  .sum { font-size:2.75rem }\n  .sum span { display:block; font-size:1.125rem; line-height:1.5 }\n"
@@ -55,8 +63,12 @@ styleText =
     ++ (ascii "  .wide td:not(.co2e)::before { content:attr(data-l); float:left; color:var(--soft); font-weight:400 }\n"
     ++ (ascii "  .wide td:empty { display:none }\n"
     ++ (ascii "  .wide .bars { display:block; padding:.25rem 0 0; border-bottom:1px solid var(--rule) }\n"
-    ++ (ascii "  .wide tfoot tr { border-top:1px solid; border-bottom:3px double; padding:.5rem 0 }\n}\n@media print {\n"
-    ++ (ascii "  @page { size:A4; margin:15mm 16mm 18mm;\n"
+    ++ ascii "  .wide tfoot tr { border-top:1px solid; border-bottom:3px double; padding:.5rem 0 }\n}\n")))))))))))))
+
+-- A4 and the dark; it ends where the farm stands on each printed page
+unfoldable pub printStyle : List ℕ
+printStyle =
+    ascii "@media print {\n  @page { size:A4; margin:15mm 16mm 18mm;\n"
     ++ (ascii "    @bottom-right { content:counter(page) \" of \" counter(pages); font:8pt sans-serif; color:#566059 } }\n"
     ++ (ascii "  :root { --ground:#fff; --paper:#fff }\n  body { font-size:9.5pt; line-height:1.4 }\n"
     ++ (ascii "  main { max-width:none; margin:0; padding:0 }\n"
@@ -66,4 +78,7 @@ styleText =
     ++ (ascii "@media screen and (prefers-color-scheme:dark) {\n"
     ++ (ascii "  :root { --ground:#111512; --paper:#1a1f1c; --ink:#e9ece7; --soft:#a7b1a9; --rule:#3b443e;\n"
     ++ (ascii "    --bar:#7cc29f; --up:#8dbde8; --warn:#ffb4aa; --warnbg:#2f1a18 }\n}\n"
-    ++ ascii "@media print { @page { @bottom-left { content:\""))))))))))))))))))))))))))))))))))))))))))))))))))))))))))
+    ++ ascii "@media print { @page { @bottom-left { content:\"")))))))))
+
+unfoldable pub styleText : List ℕ
+styleText = typeStyle ++ (tableStyle ++ (narrowStyle ++ printStyle))

@@ -16,7 +16,7 @@ use printing::say_number;
 ghost use Prim.Native.Nat.{_≤_};
 ghost use lib.ListN.{length};
 ghost use Rattle.printing.specs.Said.{Said};
-ghost use Rattle.page.specs.Parts.{farmText, footText, groupsFoot, notesText, restText};
+ghost use Rattle.page.specs.Parts.{farmText, footText, groupsFoot, countedText, exactText, restText};
 
 // The row of the farm, where the book has a record of energy, organic soil or tillage.
 fn say_farm(out: &mut [u8], at: usize, s: Survey) -> usize
@@ -55,10 +55,10 @@ fn say_groups_foot(out: &mut [u8], at: usize, s: Survey) -> usize
     )
 }
 
-// What is counted, what is left out, and how exact it is.
-fn say_notes(out: &mut [u8], at: usize) -> usize
+// What is counted, and what is left out.
+fn say_counted(out: &mut [u8], at: usize) -> usize
     requires { ⌜ at ≤ length (now out) ⌝ }
-    ensures { λ r. ⌜ Said (now (out .entry)) (now (out .exit)) at notesText r ⌝ }
+    ensures { λ r. ⌜ Said (now (out .entry)) (now (out .exit)) at countedText r ⌝ }
 {
     say(
         out,
@@ -86,7 +86,19 @@ fn say_notes(out: &mut [u8], at: usize) -> usize
 </ul>
 </div>
 </section>
-<section>
+",
+    )
+}
+
+// How exact it is.
+fn say_exact(out: &mut [u8], at: usize) -> usize
+    requires { ⌜ at ≤ length (now out) ⌝ }
+    ensures { λ r. ⌜ Said (now (out .entry)) (now (out .exit)) at exactText r ⌝ }
+{
+    say(
+        out,
+        at,
+        b"<section>
 <h2>How exact this is</h2>
 <p class=\"note\">Each record of the book gives whole grams, the third decimal here. From there on everything is added, and nothing is
 rounded: the parts of each table make its total to the gram. Only CO<sub>2</sub>e per head is a quotient, rounded to the gram. The figures
@@ -131,6 +143,7 @@ pub(crate) fn say_rest(out: &mut [u8], at: usize, s: Survey) -> usize
     let second = say_groups_foot(out, first, s);
     let third = say_sources(out, second, s);
     let fourth = say_gas_table(out, third, s);
-    let fifth = say_notes(out, fourth);
-    say_foot(out, fifth, s)
+    let fifth = say_counted(out, fourth);
+    let sixth = say_exact(out, fifth);
+    say_foot(out, sixth, s)
 }

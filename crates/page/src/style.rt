@@ -1,14 +1,14 @@
-// The style.
+// The style of the page: for screens of any width, light and dark, and for A4.
 use printing::say;
 ghost use Prim.Native.Nat.{_≤_};
 ghost use lib.ListN.{length};
 ghost use Rattle.printing.specs.Said.{Said};
-ghost use Rattle.page.specs.Style.{styleText};
+ghost use Rattle.page.specs.Style.{typeStyle, tableStyle, narrowStyle, printStyle, styleText};
 
-// The style of the page: for screens of any width, light and dark, and for A4.
-pub(crate) fn say_style(out: &mut [u8], at: usize) -> usize
+// The page, its type and its colours.
+fn say_type(out: &mut [u8], at: usize) -> usize
     requires { ⌜ at ≤ length (now out) ⌝ }
-    ensures { λ r. ⌜ Said (now (out .entry)) (now (out .exit)) at styleText r ⌝ }
+    ensures { λ r. ⌜ Said (now (out .entry)) (now (out .exit)) at typeStyle r ⌝ }
 {
     say(
         out,
@@ -34,7 +34,19 @@ h1 { font-size:1.75rem; line-height:1.2 }
 .sum { font-size:4.25rem; line-height:1.1; letter-spacing:-.01em; white-space:nowrap }
 .sum span { font-size:1.5rem; letter-spacing:0 }
 .soft, header p, h2 + p:not(.note) { color:var(--soft) }
-section { margin-top:2.5rem }
+",
+    )
+}
+
+// Sections, tables and bars.
+fn say_tables(out: &mut [u8], at: usize) -> usize
+    requires { ⌜ at ≤ length (now out) ⌝ }
+    ensures { λ r. ⌜ Said (now (out .entry)) (now (out .exit)) at tableStyle r ⌝ }
+{
+    say(
+        out,
+        at,
+        b"section { margin-top:2.5rem }
 h2 { font-size:1.375rem; line-height:1.25; margin-bottom:.25rem }
 table { width:100%; border-collapse:collapse; margin-top:.75rem; font-size:.875rem; line-height:1.35 }
 th { font-weight:400; text-align:left; vertical-align:bottom; padding:.45rem 0 .2rem }
@@ -61,7 +73,19 @@ ul, .note { margin:0; padding-left:1.1rem; font-size:.875rem }
 .not h2 + p { color:var(--ink) }
 ol { margin:.25rem 0 0; padding-left:1.25rem }
 footer { margin-top:2.5rem; border-top:1px solid var(--rule); padding-top:.6rem; color:var(--soft); font-size:.8125rem }
-@media screen and (max-width:64rem) {
+",
+    )
+}
+
+// Narrow screens.
+fn say_narrow(out: &mut [u8], at: usize) -> usize
+    requires { ⌜ at ≤ length (now out) ⌝ }
+    ensures { λ r. ⌜ Said (now (out .entry)) (now (out .exit)) at narrowStyle r ⌝ }
+{
+    say(
+        out,
+        at,
+        b"@media screen and (max-width:64rem) {
   main { margin:0 auto; padding:2rem 1.5rem }
   table { font-size:.8125rem }
   td, thead th + th { padding-left:.4rem }
@@ -86,7 +110,19 @@ footer { margin-top:2.5rem; border-top:1px solid var(--rule); padding-top:.6rem;
   .wide .bars { display:block; padding:.25rem 0 0; border-bottom:1px solid var(--rule) }
   .wide tfoot tr { border-top:1px solid; border-bottom:3px double; padding:.5rem 0 }
 }
-@media print {
+",
+    )
+}
+
+// A4 and the dark; it ends where the farm stands on each printed page.
+fn say_print(out: &mut [u8], at: usize) -> usize
+    requires { ⌜ at ≤ length (now out) ⌝ }
+    ensures { λ r. ⌜ Said (now (out .entry)) (now (out .exit)) at printStyle r ⌝ }
+{
+    say(
+        out,
+        at,
+        b"@media print {
   @page { size:A4; margin:15mm 16mm 18mm;
     @bottom-right { content:counter(page) \" of \" counter(pages); font:8pt sans-serif; color:#566059 } }
   :root { --ground:#fff; --paper:#fff }
@@ -105,4 +141,14 @@ footer { margin-top:2.5rem; border-top:1px solid var(--rule); padding-top:.6rem;
 }
 @media print { @page { @bottom-left { content:\"",
     )
+}
+
+pub(crate) fn say_style(out: &mut [u8], at: usize) -> usize
+    requires { ⌜ at ≤ length (now out) ⌝ }
+    ensures { λ r. ⌜ Said (now (out .entry)) (now (out .exit)) at styleText r ⌝ }
+{
+    let first = say_type(out, at);
+    let second = say_tables(out, first);
+    let third = say_narrow(out, second);
+    say_print(out, third)
 }

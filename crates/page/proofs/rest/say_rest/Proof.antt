@@ -16,19 +16,24 @@ say-rest-spec =
     (λ c κs. search needs)
     (λ c κs. search needs)
     (λ c κs. search needs)
+    (λ c κs. search needs)
     (λ c. (c .before .before .before .before .before .before .before .before .before .before .before .before .before .before .before .before .before
-    .before .before .before .before .before .say-farm .ensures
+    .before .before .before .before .before .before .before .before .before .say-farm .ensures
     ⟫ c .before .before .before .before .before .before .before .before .before .before .before .before .before .before .before .before .before
-    .before .say-groups-foot .ensures
-    ⟫ c .before .before .before .before .before .before .before .before .before .before .before .before .before .before .say-sources .ensures
-    ⟫ c .before .before .before .before .before .before .before .before .before .before .say-gas-table .ensures
-    ⟫ c .before .before .before .before .before .before .say-notes .ensures
+    .before .before .before .before .before .say-groups-foot .ensures
+    ⟫ c .before .before .before .before .before .before .before .before .before .before .before .before .before .before .before .before .before
+    .before .say-sources .ensures
+    ⟫ c .before .before .before .before .before .before .before .before .before .before .before .before .before .before .say-gas-table .ensures
+    ⟫ c .before .before .before .before .before .before .before .before .before .before .say-counted .ensures
+    ⟫ c .before .before .before .before .before .before .say-exact .ensures
     ⟫ c .before .before .say-foot .ensures) .long)
     (λ c. c .before .before .before .before .before .before .before .before .before .before .before .before .before .before .before .before .before
-    .before .before .before .before .before .say-farm .ensures
+    .before .before .before .before .before .before .before .before .before .say-farm .ensures
     ⟫ c .before .before .before .before .before .before .before .before .before .before .before .before .before .before .before .before .before
-    .before .say-groups-foot .ensures
-    ⟫ c .before .before .before .before .before .before .before .before .before .before .before .before .before .before .say-sources .ensures
-    ⟫ c .before .before .before .before .before .before .before .before .before .before .say-gas-table .ensures
-    ⟫ c .before .before .before .before .before .before .say-notes .ensures
+    .before .before .before .before .before .say-groups-foot .ensures
+    ⟫ c .before .before .before .before .before .before .before .before .before .before .before .before .before .before .before .before .before
+    .before .say-sources .ensures
+    ⟫ c .before .before .before .before .before .before .before .before .before .before .before .before .before .before .say-gas-table .ensures
+    ⟫ c .before .before .before .before .before .before .before .before .before .before .say-counted .ensures
+    ⟫ c .before .before .before .before .before .before .say-exact .ensures
     ⟫ c .before .before .say-foot .ensures))

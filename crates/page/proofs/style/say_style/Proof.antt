@@ -1,5 +1,6 @@
--- One text. Assumes nothing.
+-- One text after the other. Assumes nothing.
 use borrow.Author.Needs.{needs}
+use Rattle.printing.proofs.Sayings.{_⟫_}
 use Rattle.page.specs.Style.{styleText}
 use Rattle.page.proofs.style.say_style.Statement.{statement}
 use Rattle.page.proofs.style.say_style.Tie as tie
@@ -9,7 +10,15 @@ unfolding styleText
 say-style-spec =
     tie.close
     (tie.spec
-    (λ c. search needs)
     (λ c κs. search needs)
-    (λ c. search needs)
-    (λ c. c .before .before .say .ensures))
+    (λ c κs. search needs)
+    (λ c κs. search needs)
+    (λ c κs. search needs)
+    (λ c. (c .before .before .before .before .before .before .before .before .before .before .before .before .before .before .say-type .ensures
+    ⟫ c .before .before .before .before .before .before .before .before .before .before .say-tables .ensures
+    ⟫ c .before .before .before .before .before .before .say-narrow .ensures
+    ⟫ c .before .before .say-print .ensures) .long)
+    (λ c. c .before .before .before .before .before .before .before .before .before .before .before .before .before .before .say-type .ensures
+    ⟫ c .before .before .before .before .before .before .before .before .before .before .say-tables .ensures
+    ⟫ c .before .before .before .before .before .before .say-narrow .ensures
+    ⟫ c .before .before .say-print .ensures))
