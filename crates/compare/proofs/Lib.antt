@@ -1,11 +1,1 @@
-pub mod Entries
-pub mod SameBytes
-pub mod Walks
-pub mod Pairs
-pub mod Tellings
-pub mod Texts
-pub mod MovedRecords
-pub mod Truths
-pub mod SameDetails
-pub mod MovedTruth
-pub mod OneAnswer
+

@@ -1,5 +1,10 @@
 pub mod Same
 pub mod Moved
-pub mod Compare
+pub mod Places
+pub mod Plans
+pub mod Figures
+pub mod Values
+pub mod Sections
+pub mod Steps
 pub mod Remarks
 pub mod Inner
