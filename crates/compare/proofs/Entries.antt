@@ -22,7 +22,8 @@ use Rattle.walk.specs.Walk.{linesOf, nextOf, linesNext}
 use Rattle.book.proofs.RecordRuns.{record-whole}
 use Rattle.walk.proofs.Walks.{Stands, stands, entries-next, entries-end}
 use Rattle.compare.specs.declared.places.Taken.{Taken}
-use Rattle.compare.specs.Inner.{Readable, Turned, Written}
+use Rattle.compare.specs.Inner.{Turned, Written}
+use Rattle.compare.specs.Records.{Readable}
 
 -- what a record that is not refused is
 readable : (a : Account) (r : List ℕ) → WholeRecord r → (judge a r .account .stage ≡ 3 → ⊥) → Readable r

@@ -1,1 +1,11 @@
-
+pub mod SameBytes
+pub mod Wordings
+pub mod Entries
+pub mod Walks
+pub mod Onward
+pub mod Sums
+pub mod Pairs
+pub mod MovedRecords
+pub mod Sides
+pub mod Pieces
+pub mod NextGroups

@@ -9,12 +9,12 @@ use native.Mathlib.Nat.{sub-zero, add-zero}
 use native.Mathlib.Numerals.{add-one}
 use borrow.Author.Tests.{leb-true}
 use lib.ListN.{length, take, drop, length-drop, drop-of-length-le}
-use lib.Seq.{drop-drop}
-use lib.Dec.{eqb}
+use lib.Seq.{drop-drop, length-take-le}
+use lib.Dec.{eqb, leb}
 use Rattle.base.specs.Choice.{pick}
 use Rattle.base.proofs.Tests.{by-test, and-l, and-r}
 use Rattle.account.specs.declared.Account.{Account}
-use Rattle.account.specs.Range.{AccountInRange}
+use Rattle.account.specs.Range.{AccountInRange, accountInRange}
 use Rattle.account.proofs.Clauses.{in-range-parts}
 use Rattle.account.proofs.Keeps.{in-range-none, in-range-judge}
 use Rattle.walk.specs.declared.Next.{Next}
@@ -30,16 +30,20 @@ valid-start xs = record { range = in-range-none; few = omega arith; inside = ome
 
 pub valid-stands : (xs : List ℕ) (p : Place) → standsIn xs p ≡ true → Valid xs p
 valid-stands xs p e =
-    let l = and-r _ _ e in
+    let l = and-r (accountInRange (p .account)) (leb (p .number) (p .at) && leb (p .at) (length xs)) e in
     record {
-      range = in-range-parts (p .account) (and-l _ _ e);
-      few = leb-true _ _ (and-l _ _ l);
-      inside = leb-true _ _ (and-r _ _ l);
+      range = in-range-parts (p .account) (and-l (accountInRange (p .account)) (leb (p .number) (p .at) && leb (p .at) (length xs)) e);
+      few = leb-true (p .number) (p .at) (and-l (leb (p .number) (p .at)) (leb (p .at) (length xs)) l);
+      inside = leb-true (p .at) (length xs) (and-r (leb (p .number) (p .at)) (leb (p .at) (length xs)) l);
     }
 
 -- no bytes are left
 pub left-none : (xs : List ℕ) (p : Place) → length xs ≤ p .at → leftOf xs p ≡ []
 left-none xs p h = rw (drop-of-length-le xs {i = p .at} h) (entries-nil (p .account))
+
+-- a record has a kind
+pub long-enough : (n : ℕ) (r rest : List ℕ) → r ≡ take n rest → n ≤ length rest → 6 ≤ n → 4 ≤ length r
+long-enough n r rest e h k = omega (arith, ap length e, length-take-le n rest h)
 
 -- ---- one record, as the code finds it
 
@@ -54,6 +58,9 @@ module _ (xs : List ℕ) (p : Place) (v : Valid xs p) (t : Taken) (u : Turned (p
   module _ (k : 0 < t .n) where
     pub passed-on : record { account = t .next; at = p .at + t .n; number = p .number + 1 } ≡ oneOn xs p
     passed-on = rw (u .found k, u .account k, u .size k) refl
+
+    pub passed-at : (s : Place) → s ≡ oneOn xs p → s .at ≡ p .at + t .n
+    passed-at s e = ap (λ (q : Place). q .at) (e ∙ sym passed-on)
 
     pub passed-inside : p .at + t .n ≤ length xs
     passed-inside = omega (arith, u .inside, length-drop (p .at) xs, v .inside)

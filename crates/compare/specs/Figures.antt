@@ -12,7 +12,7 @@ use Rattle.line_rows.specs.Rows.{isSigned}
 use Rattle.typed_words.specs.Words.{nthPart}
 use Rattle.printing.specs.Ascii.{ascii}
 use Rattle.printing.specs.Decimal.{pointed}
-use Rattle.compare.specs.Same.{same}
+use Rattle.compare.specs.Records.{same}
 
 -- ---- one figure
 

@@ -1,10 +1,12 @@
-pub mod Same
-pub mod Moved
-pub mod Places
-pub mod Plans
+pub mod Records
 pub mod Figures
 pub mod Values
+pub mod Places
+pub mod Moved
+pub mod Plans
 pub mod Sections
 pub mod Steps
 pub mod Remarks
 pub mod Inner
+pub mod InnerPairs
+pub mod InnerSides

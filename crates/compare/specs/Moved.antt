@@ -7,7 +7,7 @@ use mathlib.Core.Bool.{Bool, true, _&&_}
 use lib.Dec.{eqb}
 use Rattle.base.specs.Choice.{pick}
 use Rattle.promises.specs.WholeLines.{isDetail}
-use Rattle.compare.specs.Same.{same}
+use Rattle.compare.specs.Records.{same}
 
 -- how often the record r stands among rs
 unfoldable pub timesIn : List ℕ → List (List ℕ) → ℕ

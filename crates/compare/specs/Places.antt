@@ -1,19 +1,20 @@
 -- A walk over a book's accepted records: where it stands, what is left from there, and how a book is cut into parts. Before the first heading, then
 -- each heading with what follows it up to the next heading or the close; the close is in no part.
 -- Assumes nothing.
-use Prim.Native.Nat.{ℕ, zero, suc, _+_}
+use Prim.Native.Nat.{ℕ, zero, suc, _+_, _-_}
 use mathlib.Core.List.{List, [], _∷_}
 use mathlib.Core.Bool.{Bool, _&&_, _||_}
-use lib.ListN.{length, getD, drop}
+use lib.ListN.{length, getD, take, drop}
 use lib.Dec.{eqb, leb}
 use Rattle.base.specs.Choice.{pick}
-use Rattle.codec.specs.Codec.{inTwelve}
+use Rattle.line_bytes.specs.Lines.{lineSize, totalSize}
 use Rattle.account.specs.declared.Account.{Account}
 use Rattle.account.specs.Account.{noRecord}
 use Rattle.account.specs.Range.{accountInRange}
-use Rattle.account.specs.Judge.{kindByte, valuesOf}
+use Rattle.account.specs.Judge.{kindByte}
 use Rattle.walk.specs.Walk.{Entry, nextOf, entriesAfter}
 use Rattle.compare.specs.declared.places.Place.{Place}
+use Rattle.compare.specs.Records.{valuesIn}
 
 -- ---- where a walk stands
 
@@ -70,10 +71,6 @@ afterPart (e ∷ es) = pick (ends e) (e ∷ es) (afterPart es)
 abbrev pub noGroup : ℕ
 noGroup = 65536
 
--- the values of a record in twelve places, zeros after them
-abbrev pub valuesIn : List ℕ → List ℕ
-valuesIn r = inTwelve (valuesOf r)
-
 -- the number of the group whose heading comes next
 abbrev pub groupAt : List Entry → ℕ
 groupAt [] = noGroup
@@ -90,3 +87,23 @@ afterGroup es = afterPart (drop 1 es)
 abbrev pub firstBytes : List Entry → List ℕ
 firstBytes [] = []
 firstBytes (e ∷ es) = e .bytes
+
+-- where the part after a place ends
+abbrev pub partEnd : List ℕ → Place → Place
+partEnd xs p = onward (length (partOf (leftOf xs p))) xs p
+
+-- ---- sums
+
+-- the subtotal of a group: the first line that the record after its part gives
+unfoldable pub subtotalOf : Bool → List Entry → List ℕ
+subtotalOf grouped [] = []
+subtotalOf grouped (e ∷ es) = pick grouped (take lineSize (e .lines)) []
+
+-- the lines of the close
+unfoldable pub closeLines : List Entry → List ℕ
+closeLines [] = []
+closeLines (e ∷ es) = pick (closes e) (e .lines) []
+
+-- the last of them
+abbrev pub lastLine : List ℕ → List ℕ
+lastLine l = drop (length l - totalSize) l

@@ -10,7 +10,7 @@ use Rattle.base.specs.Choice.{pick}
 use Rattle.compare.specs.declared.plans.Plan.{Plan}
 use Rattle.compare.specs.declared.runs.Counts.{Counts}
 use Rattle.walk.specs.Walk.{Entry, recordsIn}
-use Rattle.compare.specs.Same.{same}
+use Rattle.compare.specs.Records.{same}
 use Rattle.compare.specs.Moved.{sameDetails}
 
 -- ---- pairs of records, one of either book
@@ -63,9 +63,10 @@ backOf es ns = backRuns es ns .trailing
 abbrev pub between : ℕ → ℕ → List Entry → List (List ℕ)
 between front back es = recordsIn (take (length es - front - back) (drop front es))
 
--- there are some, and they are the same details in another order
+-- there are some, equally many in both, and they are the same details in another order
 abbrev pub movedOf : ℕ → ℕ → List Entry → List Entry → Bool
-movedOf front back es ns = not (eqb (length es - front - back) 0) && sameDetails (between front back es) (between front back ns)
+movedOf front back es ns =
+    not (eqb (length es - front - back) 0) && (eqb (length es) (length ns) && sameDetails (between front back es) (between front back ns))
 
 -- those between go one by one: they are not in another order, and there are equally many
 abbrev pub pairedOf : Bool → List Entry → List Entry → Bool

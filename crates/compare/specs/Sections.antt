@@ -7,15 +7,15 @@ use mathlib.Core.Bool.{Bool, true, false, _&&_}
 use lib.ListN.{length, take, drop}
 use lib.Dec.{eqb, ltb}
 use Rattle.base.specs.Choice.{pick}
-use Rattle.line_bytes.specs.Lines.{figureCount, lineSize, totalSize}
+use Rattle.line_bytes.specs.Lines.{figureCount}
 use Rattle.printing.specs.Ascii.{ascii}
 use Rattle.printing.specs.Decimal.{decimal}
 use Rattle.why.specs.Why.{whyOf}
 use Rattle.why.specs.Remarks.{machineText}
 use Rattle.walk.specs.Walk.{Entry, entriesOf}
 use Rattle.compare.specs.declared.plans.Plan.{Plan}
-use Rattle.compare.specs.Same.{same}
-use Rattle.compare.specs.Places.{closes, partOf, afterPart, noGroup, groupAt, groupSize, afterGroup, firstBytes}
+use Rattle.compare.specs.Records.{same}
+use Rattle.compare.specs.Places.{partOf, afterPart, noGroup, groupAt, groupSize, afterGroup, firstBytes, subtotalOf, closeLines, lastLine}
 use Rattle.compare.specs.Plans.{planOf, oldTold, newTold, movedMany}
 use Rattle.compare.specs.Figures.{sumText}
 use Rattle.compare.specs.Values.{wordOf, aloneText, pairText, firstPair}
@@ -60,11 +60,6 @@ othersText n =
     pick (eqb n 0) []
     (pick (eqb n 1) (ascii "1 record is the same and gives another line\n") (decimal n ++ ascii " records are the same and give other lines\n"))
 
--- the subtotal of a group: the first line that the record after its part gives
-unfoldable pub subtotalOf : Bool → List Entry → List ℕ
-subtotalOf grouped [] = []
-subtotalOf grouped (e ∷ es) = pick grouped (take lineSize (e .lines)) []
-
 unfoldable pub tailText : ℕ → List ℕ → List ℕ → List ℕ
 tailText others s t = othersText others ++ sumText (ascii "subtotal") figureCount s t
 
@@ -106,15 +101,6 @@ addedText j ns =
     ++ (alonesText true j (take (groupSize ns) ns) ++ tailText 0 [] (subtotalOf true (afterGroup ns)))
 
 -- ---- all groups, and the total
-
--- the lines of the close
-unfoldable pub closeLines : List Entry → List ℕ
-closeLines [] = []
-closeLines (e ∷ es) = pick (closes e) (e .lines) []
-
--- the last of them
-abbrev pub lastLine : List ℕ → List ℕ
-lastLine l = drop (length l - totalSize) l
 
 unfoldable pub totalText : List Entry → List Entry → List ℕ
 totalText es ns = sumText (ascii "total") (figureCount + 1) (lastLine (closeLines es)) (lastLine (closeLines ns))

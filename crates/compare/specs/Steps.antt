@@ -16,11 +16,11 @@ use Rattle.compare.specs.declared.Cursor.{Cursor}
 use Rattle.compare.specs.declared.Side.{Side}
 use Rattle.compare.specs.declared.Step.{Step}
 use Rattle.compare.specs.declared.places.Place.{Place}
-use Rattle.compare.specs.Same.{same}
-use Rattle.compare.specs.Places.{start, leftOf, onward, standsIn, partOf, noGroup, groupAt, firstBytes}
+use Rattle.compare.specs.Records.{same}
+use Rattle.compare.specs.Places.{start, leftOf, onward, standsIn, partOf, partEnd, noGroup, groupAt, firstBytes, subtotalOf}
 use Rattle.compare.specs.Plans.{planOf, oldTold, newTold, movedMany}
 use Rattle.compare.specs.Values.{firstAlone, firstPair}
-use Rattle.compare.specs.Sections.{movedText, subtotalOf, tailText, silent, groupTitle, totalText, lastText, bookText}
+use Rattle.compare.specs.Sections.{movedText, tailText, silent, groupTitle, totalText, lastText, bookText}
 
 -- a piece of the text, and the cursor after it
 pub record Stepping : Type 0 where
@@ -47,10 +47,6 @@ beginning = atPlaces 0 start start
 
 abbrev pub ended : Cursor
 ended = atPlaces 7 start start
-
--- where the part after a place ends
-abbrev pub partEnd : List ℕ → Place → Place
-partEnd xs p = onward (length (partOf (leftOf xs p))) xs p
 
 -- a group alone: its heading and its part
 abbrev pub aloneSide : List ℕ → Place → Side

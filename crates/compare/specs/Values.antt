@@ -15,8 +15,7 @@ use Rattle.printing.specs.Decimal.{decimal}
 use Rattle.names.specs.Names.{kindName, labelOf, valueText, unitText}
 use Rattle.promises.specs.WholeLines.{isDetail}
 use Rattle.walk.specs.Walk.{Entry}
-use Rattle.compare.specs.Same.{same}
-use Rattle.compare.specs.Places.{valuesIn}
+use Rattle.compare.specs.Records.{same, valuesIn}
 use Rattle.compare.specs.Figures.{figuresText}
 
 -- ---- values

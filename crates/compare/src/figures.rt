@@ -1,5 +1,5 @@
 // The figures of a line in kilograms, and sums that one book has or both.
-use crate::runs::same;
+use crate::records::same;
 use codec::numbers::be64;
 use line_rows::is_signed;
 use printing::say;

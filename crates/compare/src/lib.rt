@@ -5,6 +5,7 @@ mod figures; // figures.rt: figures in kilograms
 mod groups; // groups.rt: the steps from section to section
 mod moved; // moved.rt: the same records in another order
 mod plans; // plans.rt: two runs of records compared
+mod records; // records.rt: a record's bytes
 mod runs; // runs.rt: pairs of records
 mod sections; // sections.rt: the steps of a section
 mod values; // values.rt: a record in words
@@ -17,7 +18,7 @@ use crate::places::start;
 use crate::sections::before_step;
 use crate::sections::section_step;
 ghost use mathlib.Core.Path.{_≡_};
-ghost use Rattle.compare.specs.Inner.{ValidSide};
+ghost use Rattle.compare.specs.InnerSides.{ValidSide};
 ghost use Rattle.compare.specs.Places.{start as startPlace};
 ghost use Rattle.compare.specs.Steps.{Steps, idle as idleSide, atPlaces, beginning, noStep, stageStep, sideIn, stepOf};
 

@@ -2,17 +2,15 @@
 use crate::places::Place;
 use crate::places::reach;
 use crate::plans::less;
+use crate::records::detail;
+use crate::records::same;
 use crate::runs::one_if;
-use crate::runs::same;
-use account::sort::Sort;
-use account::sort::sort_of;
 use base::first_of;
 use base::rest_of;
 use book::front::ready;
 ghost use mathlib.Core.Path.{_≡_};
 ghost use Prim.Native.Nat.{_-_, _≤_};
 ghost use lib.ListN.{length, take};
-ghost use Rattle.promises.specs.WholeLines.{isDetail};
 ghost use Rattle.book.specs.WholeRecords.{recordsOf};
 ghost use Rattle.compare.specs.Inner.{Valid};
 ghost use Rattle.compare.specs.Places.{leftOf};
@@ -37,21 +35,6 @@ fn times(r: &[u8], xs: &[u8], many: usize) -> usize
         i += 1;
     }
     n
-}
-
-// Whether the record r is a detail, of the group or of the farm.
-pub(crate) fn detail(r: &[u8]) -> bool
-    requires { ⌜ 4 ≤ length (now r) ⌝ }
-    ensures { λ b. ⌜ b ≡ isDetail (now (r .entry)) ⌝ }
-{
-    let row = by_row::table::row_of(r[2], r[3]);
-    match sort_of(row as u64) {
-        Sort::OfGroup => true,
-        Sort::OfFarm => true,
-        Sort::Opens => false,
-        Sort::Heads => false,
-        Sort::Closes => false,
-    }
 }
 
 // Whether the record r is a detail and stands as often among the first m records of xs as among the first n of ys.
@@ -120,6 +103,9 @@ pub(crate) fn moved(
 {
     let o = between(n, front, back);
     if o == 0 {
+        return false;
+    }
+    if n != m {
         return false;
     }
     let c = reach(old, p, front);

@@ -1,10 +1,11 @@
 // A book read record by record, and where its parts end.
+use crate::records::kind_of;
+use crate::records::values;
 use account::Account;
 use base::first_of;
 use base::rest_of;
 use codec::kinds::CLOSE;
 use codec::kinds::HEADING;
-use codec::numbers::be8;
 use line_bytes::LINES_MOST;
 use line_bytes::LINE_SIZE;
 use line_bytes::TOTAL_SIZE;
@@ -16,11 +17,10 @@ ghost use lib.Dec.{eqb};
 ghost use lib.ListN.{length, take, drop};
 ghost use Rattle.line_bytes.specs.Lines.{linesMost};
 ghost use Rattle.account.specs.Range.{AccountInRange};
-ghost use Rattle.account.specs.Judge.{kindByte, recordRow};
-ghost use Rattle.compare.specs.Inner.{Valid, Readable, Turned, Written};
-ghost use Rattle.compare.specs.Places.{start as startPlace, leftOf, oneOn, onward, standsIn, partOf, groupAt, firstBytes, valuesIn};
-ghost use Rattle.compare.specs.Sections.{subtotalOf, closeLines, lastLine};
-ghost use Rattle.compare.specs.Steps.{partEnd};
+ghost use Rattle.account.specs.Judge.{kindByte};
+ghost use Rattle.compare.specs.Inner.{Valid, Turned, Written};
+ghost use Rattle.compare.specs.Places.{start as startPlace, leftOf, oneOn, onward, standsIn, partOf, partEnd, groupAt};
+ghost use Rattle.compare.specs.Places.{subtotalOf, closeLines, lastLine};
 
 // Above every group's number.
 pub(crate) const NO_GROUP: u64 = 65536;
@@ -122,13 +122,6 @@ pub(crate) fn reach(book: &[u8], p: Place, k: usize) -> Place
     q
 }
 
-pub(crate) fn kind_of(r: &[u8]) -> u64
-    requires { ⌜ 4 ≤ length (now r) ⌝ }
-    ensures { λ k. ⌜ k ≡ kindByte (now (r .entry)) ⌝ }
-{
-    be8(r, 3)
-}
-
 // Whether a part ends before the record r: a heading or the close.
 fn ends(r: &[u8]) -> bool
     requires { ⌜ 4 ≤ length (now r) ⌝ }
@@ -158,23 +151,6 @@ pub(crate) fn end_of_part(book: &[u8], p: Place) -> Place
         q = after(book, q, t);
     }
     q
-}
-
-// The row of a record in the table.
-pub(crate) fn row_at(r: &[u8]) -> u64
-    requires { ⌜ 4 ≤ length (now r) ⌝ }
-    ensures { λ k. ⌜ k ≡ recordRow (now (r .entry)) ⌝ }
-{
-    let row = by_row::table::row_of(r[2], r[3]);
-    row as u64
-}
-
-// The values of a record, zeros after them.
-pub(crate) fn values(r: &[u8]) -> [u64; 12]
-    requires { ⌜ Readable (now r) ⌝ }
-    ensures { λ v. ⌜ v ≡ valuesIn (now (r .entry)) ⌝ }
-{
-    by_row::read(row_at(r), r, 4)
 }
 
 // The number of the group whose heading comes next.

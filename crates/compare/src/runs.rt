@@ -1,6 +1,7 @@
 // Pairs of records, one of either book: how many are the same at the beginning and at the end, and how many of them give other lines.
 use crate::places::Place;
 use crate::places::turn;
+use crate::records::same;
 use account::Account;
 use base::first_of;
 use base::rest_of;
@@ -10,10 +11,11 @@ ghost use Prim.Native.Nat.{_+_, _≤_, _<_};
 ghost use lib.ListN.{length, take};
 ghost use Rattle.base.specs.Choice.{pick};
 ghost use Rattle.account.specs.Range.{AccountInRange};
-ghost use Rattle.compare.specs.Same.{same};
+ghost use Rattle.compare.specs.Records.{same};
 ghost use Rattle.compare.specs.Places.{leftOf};
 ghost use Rattle.compare.specs.Plans.{oneMore, runsOf};
-ghost use Rattle.compare.specs.Inner.{Valid, Looked, CountsIn};
+ghost use Rattle.compare.specs.Inner.{Valid};
+ghost use Rattle.compare.specs.InnerPairs.{Looked, CountsIn};
 
 // How many pairs there are, how many of the first and of the last ones are the same, and how many of these and of all that are the same give
 // other lines.
@@ -34,23 +36,6 @@ pub(crate) struct Pair {
     pub b: Account,
     pub records: bool,
     pub lines: bool,
-}
-
-// Whether both are the same bytes.
-pub(crate) fn same(xs: &[u8], ys: &[u8]) -> bool
-    ensures { λ r. ⌜ r ≡ same (now (xs .entry)) (now (ys .entry)) ⌝ }
-{
-    if xs.len() != ys.len() {
-        return false;
-    }
-    let mut i = 0;
-    while i < xs.len() {
-        if xs[i] != ys[i] {
-            return false;
-        }
-        i += 1;
-    }
-    true
 }
 
 // Whether the first n bytes of xs and the first m of ys are the same.

@@ -1,9 +1,9 @@
 // A record in words: its values, and the figures of its own line.
 use crate::figures::say_figures;
-use crate::moved::detail;
-use crate::places::row_at;
-use crate::places::values;
-use crate::runs::same;
+use crate::records::detail;
+use crate::records::row_at;
+use crate::records::same;
+use crate::records::values;
 use base::first_of;
 use by_row::table::values_of;
 use line_bytes::FIGURES;
@@ -20,7 +20,7 @@ ghost use Prim.Native.Nat.{_≤_};
 ghost use Rattle.base.specs.Choice.{pick};
 ghost use lib.ListN.{length};
 ghost use Rattle.printing.specs.Said.{Said};
-ghost use Rattle.compare.specs.Inner.{Readable};
+ghost use Rattle.compare.specs.Records.{Readable};
 ghost use Rattle.compare.specs.Values.{otherText, fieldText, betweenText, nextText, fieldsFrom, rowText, valuesText};
 ghost use Rattle.compare.specs.Values.{wordOf, numberedText, aloneText, bothText, changedText, pairText};
 

@@ -1,17 +1,13 @@
+-- Assumes nothing.
+use native.Mathlib.Omega.{arith}
 use borrow.Author.Needs.{needs}
+use Rattle.printing.proofs.Sayings.{said-none}
 use Rattle.compare.proofs.end_step.Statement.{statement}
 use Rattle.compare.proofs.end_step.Tie as tie
-use Rattle.compare.proofs.end_step.Reads as reads
-use Rattle.compare.proofs.end_step.Lts as lts
-use Rattle.compare.proofs.at_stage.Reads as at-stage-reads
-
--- src/lib.rt:104:9
-at-stage-requires : tie.Need-at-stage-requires
-at-stage-requires c κs = search needs
-
--- src/lib.rt:101:1
-returns : tie.Need-returns
-returns c = ?
 
 pub end-step-spec : {M : Type 1} → statement M
-end-step-spec = tie.close (tie.spec at-stage-requires returns)
+end-step-spec =
+    tie.close
+    (tie.spec
+    (λ c κs. search needs)
+    (λ c. record { said = said-none (omega arith); cursor = c .at-stage .ensures }))

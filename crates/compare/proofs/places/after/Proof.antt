@@ -1,20 +1,13 @@
-use borrow.Author.Needs.{needs}
+-- Assumes nothing.
+use native.Mathlib.Omega.{arith}
+use Rattle.compare.proofs.Walks.{passed-inside, passed-on, passed-valid}
 use Rattle.compare.proofs.places.after.Statement.{statement}
 use Rattle.compare.proofs.places.after.Tie as tie
-use Rattle.compare.proofs.places.after.Reads as reads
-use Rattle.compare.proofs.places.after.Lts as lts
-
--- src/places.rt:101:13
-add-t5 : tie.Need-add-t5
-add-t5 c = ?
-
--- src/places.rt:102:17
-add-t6 : tie.Need-add-t6
-add-t6 c = search needs
-
--- src/places.rt:94:1
-returns : tie.Need-returns
-returns c = ?
 
 pub after-spec : {M : Type 1} → statement M
-after-spec = tie.close (tie.spec add-t5 add-t6 returns)
+after-spec =
+    tie.close
+    (tie.spec
+    (λ c. omega (arith, passed-inside (c .before .before .before .args .book .now) (c .before .before .before .args .p) (c .before .before .before .pre .0) (c .before .before .before .args .t) (c .before .before .before .pre .1) (c .before .before .before .pre .2), c .before .before .before .good))
+    (λ c. omega (arith, passed-inside (c .before .before .before .before .args .book .now) (c .before .before .before .before .args .p) (c .before .before .before .before .pre .0) (c .before .before .before .before .args .t) (c .before .before .before .before .pre .1) (c .before .before .before .before .pre .2), c .before .before .before .before .pre .0 .few, c .before .before .before .before .pre .2, c .before .before .before .before .good))
+    (λ c. (passed-on (c .before .before .before .before .args .book .now) (c .before .before .before .before .args .p) (c .before .before .before .before .pre .0) (c .before .before .before .before .args .t) (c .before .before .before .before .pre .1) (c .before .before .before .before .pre .2), passed-valid (c .before .before .before .before .args .book .now) (c .before .before .before .before .args .p) (c .before .before .before .before .pre .0) (c .before .before .before .before .args .t) (c .before .before .before .before .pre .1) (c .before .before .before .before .pre .2))))

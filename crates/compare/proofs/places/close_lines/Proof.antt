@@ -1,64 +1,25 @@
+-- Assumes nothing.
+use mathlib.Core.Path.{sym, _∙_}
+use Prim.Native.Nat.{_<_}
+use native.Mathlib.Omega.{arith}
 use borrow.Author.Needs.{needs}
+use Rattle.compare.proofs.Walks.{long-enough, passed-left}
+use Rattle.compare.proofs.Sums.{close-none, close-other, close-is}
 use Rattle.compare.proofs.places.close_lines.Statement.{statement}
 use Rattle.compare.proofs.places.close_lines.Tie as tie
-use Rattle.compare.proofs.places.close_lines.Reads as reads
-use Rattle.compare.proofs.places.close_lines.Lts as lts
-use Rattle.base.proofs.first_of.Reads as first-of-reads
-use Rattle.base.proofs.rest_of.Reads as rest-of-reads
-use Rattle.compare.proofs.places.kind_of.Reads as kind-of-reads
-use Rattle.compare.proofs.places.turn.Reads as turn-reads
-
--- src/places.rt:220:9
-rest-of-requires : tie.Need-rest-of-requires
-rest-of-requires c κs = search needs
-
--- src/places.rt:221:9
-turn-requires : tie.Need-turn-requires
-turn-requires c κs = search needs
-
--- src/places.rt:223:9
-same-length : tie.Need-same-length
-same-length c = search needs
-
--- src/places.rt:223:9
-returns : tie.Need-returns
-returns c = ?
-
--- src/places.rt:225:16
-first-of-requires : tie.Need-first-of-requires
-first-of-requires c κs = search needs
-
--- src/places.rt:225:8
-kind-of-requires : tie.Need-kind-of-requires
-kind-of-requires c κs = ?
-
--- src/places.rt:226:9
-same-length-2 : tie.Need-same-length-2
-same-length-2 c = search needs
-
--- src/places.rt:226:9
-returns-2 : tie.Need-returns-2
-returns-2 c = ?
-
--- src/places.rt:214:1
-same-length-3 : tie.Need-same-length-3
-same-length-3 c = search needs
-
--- src/places.rt:214:1
-returns-3 : tie.Need-returns-3
-returns-3 c = ?
 
 pub close-lines-spec : {M : Type 1} → statement M
 close-lines-spec =
     tie.close
     (tie.spec
-    rest-of-requires
-    turn-requires
-    same-length
-    returns
-    first-of-requires
-    kind-of-requires
-    same-length-2
-    returns-2
-    same-length-3
-    returns-3)
+    (λ c κs. c .before .before .before .pre .0 .inside)
+    (λ c κs. (c .before .before .before .before .before .pre .0 .range, c .before .before .before .before .before .pre .1))
+    (λ c. search needs)
+    (λ c. (close-none _ ((rw (c .before .before .before .before .before .before .rest-of .ensures) at (c .before .before .before .before .turn .ensures .0)) .ended (c .if1 .taken)), omega arith))
+    (λ c κs. c .before .before .before .before .turn .ensures .0 .inside)
+    (λ c κs. long-enough _ _ _ (c .first-of .ensures) (c .before .before .before .before .before .turn .ensures .0 .inside) (c .before .before .before .before .before .turn .ensures .0 .some (omega (arith, c .before .if1 .left))))
+    (λ c. search needs)
+    (λ c. (close-other _ _ _ (passed-left _ _ (c .before .before .before .before .before .before .before .before .before .before .before .before .before .pre .0) _ (rw (c .before .before .before .before .before .before .before .before .before .rest-of .ensures) at (c .before .before .before .before .before .before .before .turn .ensures .0)) (omega (arith, c .before .before .before .if1 .left))) (λ z. c .if2 .taken ((rw (c .before .before .first-of .ensures, c .before .before .before .before .before .before .before .before .before .rest-of .ensures) at (c .before .kind-of .ensures)) ∙ z)), omega arith))
+    (λ c. search needs)
+    (λ c. let k : 0 < c .before .before .before .before .before .before .before .turn .result .n = omega (arith, c .before .before .before .if1 .left) in
+    (close-is _ _ _ _ (passed-left _ _ (c .before .before .before .before .before .before .before .before .before .before .before .before .before .pre .0) _ (rw (c .before .before .before .before .before .before .before .before .before .rest-of .ensures) at (c .before .before .before .before .before .before .before .turn .ensures .0)) k) (sym (rw (c .before .before .first-of .ensures, c .before .before .before .before .before .before .before .before .before .rest-of .ensures) at (c .before .kind-of .ensures)) ∙ c .if2 .left) ((rw (c .before .before .before .before .before .before .before .before .before .rest-of .ensures) at (c .before .before .before .before .before .before .before .turn .ensures .1)) .are k), c .before .before .before .before .before .before .before .turn .ensures .1 .inside)))

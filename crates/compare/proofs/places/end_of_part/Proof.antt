@@ -1,62 +1,16 @@
+-- Assumes nothing.
+use Prim.Native.Nat.{_-_, _<_}
+use native.Mathlib.Omega.{arith}
+use lib.ListN.{length}
+use Rattle.compare.proofs.Walks.{long-enough, passed-at, InPart, part-none, part-out, part-end, part-on, part-far}
 use Rattle.compare.proofs.places.end_of_part.Statement.{statement}
 use Rattle.compare.proofs.places.end_of_part.Tie as tie
-use Rattle.compare.proofs.places.end_of_part.Reads as reads
-use Rattle.compare.proofs.places.end_of_part.Lts as lts
-use Rattle.base.proofs.first_of.Reads as first-of-reads
-use Rattle.base.proofs.rest_of.Reads as rest-of-reads
-use Rattle.compare.proofs.places.after.Reads as after-reads
-use Rattle.compare.proofs.places.ends.Reads as ends-reads
-use Rattle.compare.proofs.places.step.Reads as step-reads
 
 abbrev Inv-loop : tie.InvT-loop
-Inv-loop book q₀ q = ?
+Inv-loop book q₀ q = InPart book q₀ q
 
 abbrev μ-loop : tie.MeasureT-loop
-μ-loop book q₀ q = ?
-
--- src/places.rt:148:5
-loop-holds : tie.Need-loop-holds Inv-loop μ-loop
-loop-holds c = ?
-
--- src/places.rt:150:13
-rest-of-requires : tie.Need-rest-of-requires Inv-loop μ-loop
-rest-of-requires c κs = ?
-
--- src/places.rt:151:13
-step-requires : tie.Need-step-requires Inv-loop μ-loop
-step-requires c κs = ?
-
--- src/places.rt:153:13
-returns : tie.Need-returns Inv-loop μ-loop
-returns c = ?
-
--- src/places.rt:155:17
-first-of-requires : tie.Need-first-of-requires Inv-loop μ-loop
-first-of-requires c κs = ?
-
--- src/places.rt:155:12
-ends-requires : tie.Need-ends-requires Inv-loop μ-loop
-ends-requires c κs = ?
-
--- src/places.rt:156:13
-returns-2 : tie.Need-returns-2 Inv-loop μ-loop
-returns-2 c = ?
-
--- src/places.rt:158:9
-after-requires : tie.Need-after-requires Inv-loop μ-loop
-after-requires c κs = ?
-
--- src/places.rt:148:5
-loop-less : tie.Need-loop-less Inv-loop μ-loop
-loop-less c = ?
-
--- src/places.rt:148:5
-loop-again : tie.Need-loop-again Inv-loop μ-loop
-loop-again c = ?
-
--- src/places.rt:142:1
-returns-3 : tie.Need-returns-3 Inv-loop μ-loop
-returns-3 c = ?
+μ-loop book q₀ q = length book - q .at
 
 pub end-of-part-spec : {M : Type 1} → statement M
 end-of-part-spec =
@@ -64,14 +18,17 @@ end-of-part-spec =
     (tie.spec
     Inv-loop
     μ-loop
-    loop-holds
-    rest-of-requires
-    step-requires
-    returns
-    first-of-requires
-    ends-requires
-    returns-2
-    after-requires
-    loop-less
-    loop-again
-    returns-3)
+    (λ c. part-none _ _ (c .before .pre))
+    (λ c κs. c .before .before .before .loop .inv .valid .inside)
+    (λ c κs. c .before .before .before .before .loop .inv .valid .range)
+    (λ c. let e = part-out _ _ _ (c .before .before .before .before .before .before .before .loop .inv) _ (rw (c .before .before .before .rest-of .ensures) at (c .before .before .step .ensures)) (c .if2 .taken) in ((e .is, e .valid), e .number))
+    (λ c κs. c .before .before .step .ensures .inside)
+    (λ c κs. long-enough _ _ _ (c .first-of .ensures) (c .before .before .before .step .ensures .inside) (c .before .before .before .step .ensures .some (omega (arith, c .before .if2 .left))))
+    (λ c. let e = part-end _ _ _ (c .before .before .before .before .before .before .before .before .before .before .loop .inv) _ (rw (c .before .before .before .before .before .before .rest-of .ensures) at (c .before .before .before .before .before .step .ensures)) (omega (arith, c .before .before .before .if2 .left)) _ (rw (c .before .before .first-of .ensures, c .before .before .before .before .before .before .rest-of .ensures) at (c .before .ends .ensures)) (c .if3 .taken) in ((e .is, e .valid), e .number))
+    (λ c κs. (c .before .before .before .before .before .before .before .before .before .before .loop .inv .valid, (rw (c .before .before .before .before .before .before .rest-of .ensures) at (c .before .before .before .before .before .step .ensures)), omega (arith, c .before .before .before .if2 .left)))
+    (λ c. let k : 0 < c .before .before .before .before .before .before .step .result .n = omega (arith, c .before .before .before .before .if2 .left) in
+    let m = passed-at _ _ (c .before .before .before .before .before .before .before .before .before .before .before .loop .inv .valid) _ (rw (c .before .before .before .before .before .before .before .rest-of .ensures) at (c .before .before .before .before .before .before .step .ensures)) k _ (c .after .ensures .0) in
+    omega (arith, m, k, c .before .before .before .before .before .before .before .before .before .if1 .taken))
+    (λ c. let a = c .after .ensures in
+    part-on _ _ _ (c .before .before .before .before .before .before .before .before .before .before .before .loop .inv) _ (rw (c .before .before .before .before .before .before .before .rest-of .ensures) at (c .before .before .before .before .before .before .step .ensures)) (omega (arith, c .before .before .before .before .if2 .left)) _ (rw (c .before .before .before .first-of .ensures, c .before .before .before .before .before .before .before .rest-of .ensures) at (c .before .before .ends .ensures)) _ (c .before .if3 .left) (a .0) (a .1))
+    (λ c. let e = part-far _ _ _ (c .before .before .loop .inv) (c .if1 .left) in ((e .is, e .valid), e .number)))

@@ -1,60 +1,23 @@
+-- Assumes nothing.
+use mathlib.Core.Path.{sym, _∙_}
+use native.Mathlib.Omega.{arith}
 use borrow.Author.Needs.{needs}
+use Rattle.compare.proofs.Walks.{long-enough, passed-left}
+use Rattle.compare.proofs.Sums.{group-none, group-other, group-some}
 use Rattle.compare.proofs.places.group_at.Statement.{statement}
 use Rattle.compare.proofs.places.group_at.Tie as tie
-use Rattle.compare.proofs.places.group_at.Reads as reads
-use Rattle.compare.proofs.places.group_at.Lts as lts
-use Rattle.base.proofs.first_of.Reads as first-of-reads
-use Rattle.base.proofs.rest_of.Reads as rest-of-reads
-use Rattle.compare.proofs.places.kind_of.Reads as kind-of-reads
-use Rattle.compare.proofs.places.step.Reads as step-reads
-use Rattle.compare.proofs.places.values.Reads as values-reads
-
--- src/places.rt:186:9
-rest-of-requires : tie.Need-rest-of-requires
-rest-of-requires c κs = search needs
-
--- src/places.rt:187:9
-step-requires : tie.Need-step-requires
-step-requires c κs = search needs
-
--- src/places.rt:189:9
-returns : tie.Need-returns
-returns c = ?
-
--- src/places.rt:191:9
-first-of-requires : tie.Need-first-of-requires
-first-of-requires c κs = search needs
-
--- src/places.rt:192:8
-kind-of-requires : tie.Need-kind-of-requires
-kind-of-requires c κs = ?
-
--- src/places.rt:193:9
-returns-2 : tie.Need-returns-2
-returns-2 c = ?
-
--- src/places.rt:195:13
-values-requires : tie.Need-values-requires
-values-requires c κs = ?
-
--- src/places.rt:196:5
-array-read-result : tie.Need-array-read-result
-array-read-result c = search needs
-
--- src/places.rt:181:1
-returns-3 : tie.Need-returns-3
-returns-3 c = ?
 
 pub group-at-spec : {M : Type 1} → statement M
 group-at-spec =
     tie.close
     (tie.spec
-    rest-of-requires
-    step-requires
-    returns
-    first-of-requires
-    kind-of-requires
-    returns-2
-    values-requires
-    array-read-result
-    returns-3)
+    (λ c κs. c .before .before .pre .inside)
+    (λ c κs. c .before .before .before .pre .range)
+    (λ c. group-none _ ((rw (c .before .before .before .rest-of .ensures) at (c .before .before .step .ensures)) .ended (c .if1 .taken)))
+    (λ c κs. c .before .before .step .ensures .inside)
+    (λ c κs. long-enough _ _ _ (c .first-of .ensures) (c .before .before .before .step .ensures .inside) (c .before .before .before .step .ensures .some (omega (arith, c .before .if1 .left))))
+    (λ c. group-other _ _ _ (passed-left _ _ (c .before .before .before .before .before .before .before .before .before .pre) _ (rw (c .before .before .before .before .before .before .rest-of .ensures) at (c .before .before .before .before .before .step .ensures)) (omega (arith, c .before .before .before .if1 .left))) (λ z. c .if2 .taken ((rw (c .before .before .first-of .ensures, c .before .before .before .before .before .before .rest-of .ensures) at (c .before .kind-of .ensures)) ∙ z)))
+    (λ c κs. rw (c .before .before .first-of .ensures) (c .before .before .before .before .before .step .ensures .readable (omega (arith, c .before .before .before .if1 .left))))
+    (λ c. search needs)
+    (λ c. group-some _ _ _ _ (passed-left _ _ (c .before .before .before .before .before .before .before .before .before .before .pre) _ (rw (c .before .before .before .before .before .before .before .rest-of .ensures) at (c .before .before .before .before .before .before .step .ensures)) (omega (arith, c .before .before .before .before .if1 .left))) (sym (rw (c .before .before .before .first-of .ensures, c .before .before .before .before .before .before .before .rest-of .ensures) at (c .before .before .kind-of .ensures)) ∙ c .before .if2 .left)
+    (rw (c .before .before .before .first-of .ensures, c .before .before .before .before .before .before .before .rest-of .ensures) at (c .values .ensures))))

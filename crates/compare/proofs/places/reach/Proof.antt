@@ -1,52 +1,15 @@
+-- Assumes nothing.
+use Prim.Native.Nat.{_-_}
+use native.Mathlib.Omega.{arith}
+use Rattle.compare.proofs.Walks.{Reaching, reaching-none, reaching-out, reaching-on, reaching-far}
 use Rattle.compare.proofs.places.reach.Statement.{statement}
 use Rattle.compare.proofs.places.reach.Tie as tie
-use Rattle.compare.proofs.places.reach.Reads as reads
-use Rattle.compare.proofs.places.reach.Lts as lts
-use Rattle.base.proofs.rest_of.Reads as rest-of-reads
-use Rattle.compare.proofs.places.after.Reads as after-reads
-use Rattle.compare.proofs.places.step.Reads as step-reads
 
 abbrev Inv-loop : tie.InvT-loop
-Inv-loop book k q₀ i₀ q i = ?
+Inv-loop book k q₀ i₀ q i = Reaching book q₀ k q i
 
 abbrev μ-loop : tie.MeasureT-loop
-μ-loop book k q₀ i₀ q i = ?
-
--- src/places.rt:113:5
-loop-holds : tie.Need-loop-holds Inv-loop μ-loop
-loop-holds c = ?
-
--- src/places.rt:115:25
-rest-of-requires : tie.Need-rest-of-requires Inv-loop μ-loop
-rest-of-requires c κs = ?
-
--- src/places.rt:115:13
-step-requires : tie.Need-step-requires Inv-loop μ-loop
-step-requires c κs = ?
-
--- src/places.rt:117:13
-returns : tie.Need-returns Inv-loop μ-loop
-returns c = ?
-
--- src/places.rt:119:9
-after-requires : tie.Need-after-requires Inv-loop μ-loop
-after-requires c κs = ?
-
--- src/places.rt:120:9
-add-i : tie.Need-add-i Inv-loop μ-loop
-add-i c = ?
-
--- src/places.rt:113:5
-loop-less : tie.Need-loop-less Inv-loop μ-loop
-loop-less c = ?
-
--- src/places.rt:113:5
-loop-again : tie.Need-loop-again Inv-loop μ-loop
-loop-again c = ?
-
--- src/places.rt:107:1
-returns-2 : tie.Need-returns-2 Inv-loop μ-loop
-returns-2 c = ?
+μ-loop book k q₀ i₀ q i = k - i
 
 pub reach-spec : {M : Type 1} → statement M
 reach-spec =
@@ -54,12 +17,12 @@ reach-spec =
     (tie.spec
     Inv-loop
     μ-loop
-    loop-holds
-    rest-of-requires
-    step-requires
-    returns
-    after-requires
-    add-i
-    loop-less
-    loop-again
-    returns-2)
+    (λ c. reaching-none _ _ _ (c .before .pre))
+    (λ c κs. c .before .before .loop .inv .valid .inside)
+    (λ c κs. c .before .before .before .loop .inv .valid .range)
+    (λ c. reaching-out _ _ _ _ _ (c .before .before .before .before .before .before .loop .inv) _ (rw (c .before .before .before .rest-of .ensures) at (c .before .before .step .ensures)) (c .if1 .taken))
+    (λ c κs. (c .before .before .before .before .before .before .loop .inv .valid, (rw (c .before .before .before .rest-of .ensures) at (c .before .before .step .ensures)), omega (arith, c .if1 .left)))
+    (λ c. omega (arith, c .before .before .before .before .before .before .loop-test .taken, c .before .before .before .before .before .before .before .before .before .fits))
+    (λ c. omega (arith, c .before .before .before .before .before .before .loop-test .taken))
+    (λ c. let a = c .after .ensures in reaching-on _ _ _ _ _ (c .before .before .before .before .before .before .before .loop .inv) _ (rw (c .before .before .before .before .rest-of .ensures) at (c .before .before .before .step .ensures)) _ (c .before .before .before .before .before .before .loop-test .taken) (a .0) (a .1))
+    (λ c. reaching-far _ _ _ _ _ (c .before .loop .inv) (c .loop-test .left)))

@@ -1,58 +1,29 @@
+-- Assumes nothing.
+use mathlib.Core.Path.{_≡_, refl, _∙_}
+use mathlib.Core.List.{List}
+use mathlib.Core.Bool.{Bool, false}
+use Prim.Native.Nat.{ℕ, _-_, _≤_}
+use native.Mathlib.Omega.{arith}
+use borrow.Author.Needs.{needs}
+use lib.ListN.{length}
+use Rattle.printing.specs.Said.{Said}
+use Rattle.printing.proofs.Sayings.{_⟫_, said-none}
+use Rattle.compare.proofs.Wordings.{one-value, no-value}
+use Rattle.compare.specs.Values.{fieldsFrom}
+use native.Mathlib.Nat.{sub-zero}
 use Rattle.compare.proofs.values.say_fields.Statement.{statement}
 use Rattle.compare.proofs.values.say_fields.Tie as tie
-use Rattle.compare.proofs.values.say_fields.Reads as reads
-use Rattle.compare.proofs.values.say_fields.Lts as lts
-use Rattle.compare.proofs.values.say_next.Reads as say-next-reads
+
+record SoFar (out₀ : List ℕ) (at n : ℕ) (alone : Bool) (row : ℕ) (vs ws out : List ℕ) (end : ℕ) (any : Bool) (i : ℕ) : Type 0 where
+  same : length out ≡ length out₀
+  inside : end ≤ length out
+  rest : (zs : List ℕ) (q : ℕ) → Said out zs end (fieldsFrom (n - i) any alone row i vs ws) q → Said out₀ zs at (fieldsFrom n false alone row 0 vs ws) q
 
 abbrev Inv-loop : tie.InvT-loop
-Inv-loop out₀ at n alone row vs ws end₀ any₀ i₀ out end any i = ?
+Inv-loop out₀ at n alone row vs ws end₀ any₀ i₀ out end any i = SoFar out₀ at n alone row vs ws out end any i
 
 abbrev μ-loop : tie.MeasureT-loop
-μ-loop out₀ at n alone row vs ws end₀ any₀ i₀ out end any i = ?
-
--- src/values.rt:90:5
-loop-holds : tie.Need-loop-holds Inv-loop μ-loop
-loop-holds c = ?
-
--- src/values.rt:91:17
-mul-v : tie.Need-mul-v Inv-loop μ-loop
-mul-v c = ?
-
--- src/values.rt:91:17
-array-read-v : tie.Need-array-read-v Inv-loop μ-loop
-array-read-v c = ?
-
--- src/values.rt:92:17
-mul-w : tie.Need-mul-w Inv-loop μ-loop
-mul-w c = ?
-
--- src/values.rt:92:17
-array-read-w : tie.Need-array-read-w Inv-loop μ-loop
-array-read-w c = ?
-
--- src/values.rt:93:9
-say-next-requires : tie.Need-say-next-requires Inv-loop μ-loop
-say-next-requires c κs = ?
-
--- src/values.rt:95:9
-add-i : tie.Need-add-i Inv-loop μ-loop
-add-i c = ?
-
--- src/values.rt:90:5
-loop-less : tie.Need-loop-less Inv-loop μ-loop
-loop-less c = ?
-
--- src/values.rt:90:5
-loop-again : tie.Need-loop-again Inv-loop μ-loop
-loop-again c = ?
-
--- src/values.rt:83:1
-same-length : tie.Need-same-length Inv-loop μ-loop
-same-length c = ?
-
--- src/values.rt:83:1
-returns : tie.Need-returns Inv-loop μ-loop
-returns c = ?
+μ-loop out₀ at n alone row vs ws end₀ any₀ i₀ out end any i = n - i
 
 pub say-fields-spec : {M : Type 1} → statement M
 say-fields-spec =
@@ -60,14 +31,23 @@ say-fields-spec =
     (tie.spec
     Inv-loop
     μ-loop
-    loop-holds
-    mul-v
-    array-read-v
-    mul-w
-    array-read-w
-    say-next-requires
-    add-i
-    loop-less
-    loop-again
-    same-length
-    returns)
+    (λ c. record { same = refl; inside = c .before .pre .0; rest = λ zs q p. rw sub-zero at p })
+    (λ c. search needs)
+    (λ c. search needs)
+    (λ c. search needs)
+    (λ c. search needs)
+    (λ c κs. c .before .before .loop .inv .inside)
+    (λ c. search needs)
+    (λ c. omega (arith, c .before .before .before .before .loop-test .taken))
+    (λ c. let s = c .before .before .say-next .ensures in
+    let l = c .before .before .before .before .before .loop in
+    let a = c .before .before .before .before .before .before .before .args in
+    record {
+      same = s .long ∙ l .inv .same;
+      inside = omega (arith, s .put .room, s .long);
+      rest = λ zs q p. l .inv .rest zs q (rw (one-value (a .n) (l .i) (l .any) (a .alone) (a .row) (a .t6) (a .t7) (c .before .before .before .before .loop-test .taken)) (s ⟫ p));
+    })
+    (λ c. c .before .loop .inv .same)
+    (λ c. let l = c .before .loop in
+    let a = c .before .before .before .args in
+    l .inv .rest (l .out) (l .end) (rw (no-value (a .n) (l .i) (l .any) (a .alone) (a .row) (a .t6) (a .t7) (c .loop-test .left)) (said-none (l .inv .inside)))))

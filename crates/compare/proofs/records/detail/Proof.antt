@@ -1,8 +1,8 @@
 use borrow.Author.Needs.{needs}
 use Rattle.account.specs.declared.sort.Sort.the-variants.{Opens, Heads, OfGroup, OfFarm, Closes}
-use Rattle.compare.proofs.MovedRecords.{detail-by}
-use Rattle.compare.proofs.moved.detail.Statement.{statement}
-use Rattle.compare.proofs.moved.detail.Tie as tie
+use Rattle.compare.proofs.SameBytes.{detail-by}
+use Rattle.compare.proofs.records.detail.Statement.{statement}
+use Rattle.compare.proofs.records.detail.Tie as tie
 
 pub detail-spec : {M : Type 1} → statement M
 detail-spec =

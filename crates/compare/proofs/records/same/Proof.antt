@@ -3,10 +3,10 @@ use mathlib.Core.Path.{_≡_, refl}
 use native.Mathlib.Omega.{arith}
 use borrow.Author.Needs.{needs}
 use lib.ListN.{length, drop}
-use Rattle.compare.specs.Same.{same}
+use Rattle.compare.specs.Records.{same}
 use Rattle.compare.proofs.SameBytes.{same-lengths, same-on, same-stops, same-end}
-use Rattle.compare.proofs.runs.same.Statement.{statement}
-use Rattle.compare.proofs.runs.same.Tie as tie
+use Rattle.compare.proofs.records.same.Statement.{statement}
+use Rattle.compare.proofs.records.same.Tie as tie
 
 abbrev Inv-loop : tie.InvT-loop
 Inv-loop xs ys i₀ i = (i ≤ length xs) × ((length xs ≡ length ys) × (same (drop i xs) (drop i ys) ≡ same xs ys))

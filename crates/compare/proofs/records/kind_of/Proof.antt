@@ -1,7 +1,7 @@
 use borrow.Author.Needs.{needs}
-use Rattle.compare.proofs.Entries.{kind-byte}
-use Rattle.compare.proofs.places.kind_of.Statement.{statement}
-use Rattle.compare.proofs.places.kind_of.Tie as tie
+use Rattle.compare.proofs.SameBytes.{kind-byte}
+use Rattle.compare.proofs.records.kind_of.Statement.{statement}
+use Rattle.compare.proofs.records.kind_of.Tie as tie
 
 pub kind-of-spec : {M : Type 1} → statement M
 kind-of-spec =
