@@ -9,3 +9,4 @@ pub mod MovedRecords
 pub mod Sides
 pub mod Pieces
 pub mod NextGroups
+pub mod OneAnswer

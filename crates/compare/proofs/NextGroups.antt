@@ -106,8 +106,11 @@ module _ (xs ys : List ℕ) (p q : Place) (out : List ℕ) (d : Cursor) (u b : B
   pub both-silent : b ≡ true → Steps (bothStep xs ys p q) out out (record { cursor = d; written = 0 })
   both-silent h =
       made out 0
-      (record { said = rw (open-silent u (groupTitle (groupAt (leftOf xs p)) (ascii ":\n")) (firstPair (p .number) (leftOf xs p) (q .number) (leftOf ys q)) xs ys d b i h)
-          (said-none (omega arith)); cursor = refl })
+      (record {
+        said = rw (open-silent u (groupTitle (groupAt (leftOf xs p)) (ascii ":\n")) (firstPair (p .number) (leftOf xs p) (q .number) (leftOf ys q)) xs ys d b i h)
+            (said-none (omega arith));
+        cursor = refl;
+      })
 
   pub both-told : (out′ : List ℕ) (n g : ℕ) → b ≡ false → g ≡ groupAt (leftOf xs p)
       → Said out out′ 0 (groupTitle g (ascii ":\n") ++ (firstPair (p .number) (leftOf xs p) (q .number) (leftOf ys q)
@@ -115,9 +118,12 @@ module _ (xs ys : List ℕ) (p q : Place) (out : List ℕ) (d : Cursor) (u b : B
       → Steps (bothStep xs ys p q) out out′ (record { cursor = d; written = n })
   both-told out′ n g h k t =
       made out′ n
-      (record { said = rw (open-told u (groupTitle (groupAt (leftOf xs p)) (ascii ":\n")) (firstPair (p .number) (leftOf xs p) (q .number) (leftOf ys q)) xs ys d b i h)
-          (subst (λ (m : ℕ). Said out out′ 0 (groupTitle m (ascii ":\n") ++ (firstPair (p .number) (leftOf xs p) (q .number) (leftOf ys q)
-          ++ movedText u (d .old .place .number) (d .new .place .number) (d .moved))) n) k t); cursor = refl })
+      (record {
+        said = rw (open-told u (groupTitle (groupAt (leftOf xs p)) (ascii ":\n")) (firstPair (p .number) (leftOf xs p) (q .number) (leftOf ys q)) xs ys d b i h)
+            (subst (λ (m : ℕ). Said out out′ 0 (groupTitle m (ascii ":\n") ++ (firstPair (p .number) (leftOf xs p) (q .number) (leftOf ys q)
+            ++ movedText u (d .old .place .number) (d .new .place .number) (d .moved))) n) k t);
+        cursor = refl;
+      })
 
 -- ---- which group comes next
 

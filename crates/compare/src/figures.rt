@@ -136,7 +136,14 @@ fn say_figure(out: &mut [u8], at: usize, alone: bool, f: usize, x: u64, y: u64) 
 }
 
 // The first n figures of the line s, alone or with those of the line t.
-pub(crate) fn say_figures(out: &mut [u8], at: usize, n: usize, alone: bool, s: &[u8], t: &[u8]) -> usize
+pub(crate) fn say_figures(
+    out: &mut [u8],
+    at: usize,
+    n: usize,
+    alone: bool,
+    s: &[u8],
+    t: &[u8],
+) -> usize
     requires { ⌜ (at ≤ length (now out)) × (n ≤ 7) ⌝ }
     ensures { λ r. ⌜ Said (now (out .entry)) (now (out .exit)) at (figuresText n alone (now (s .entry)) (now (t .entry))) r ⌝ }
 {

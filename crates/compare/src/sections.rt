@@ -107,7 +107,14 @@ fn say_moved_under(out: &mut [u8], at: usize, under: bool) -> usize
 }
 
 // Records that are only in another order.
-pub(crate) fn say_moved(out: &mut [u8], at: usize, under: bool, i: usize, j: usize, many: usize) -> usize
+pub(crate) fn say_moved(
+    out: &mut [u8],
+    at: usize,
+    under: bool,
+    i: usize,
+    j: usize,
+    many: usize,
+) -> usize
     requires { ⌜ (at ≤ length (now out)) × (i + many ≤ 18446744073709551615) × (j + many ≤ 18446744073709551615) ⌝ }
     ensures { λ r. ⌜ Said (now (out .entry)) (now (out .exit)) at (movedText under i j many) r ⌝ }
 {
@@ -121,7 +128,14 @@ pub(crate) fn say_moved(out: &mut [u8], at: usize, under: bool, i: usize, j: usi
 }
 
 // The same of a section that is just opened.
-pub(crate) fn say_moved_in(out: &mut [u8], at: usize, under: bool, old: &[u8], new: &[u8], c: Cursor) -> usize
+pub(crate) fn say_moved_in(
+    out: &mut [u8],
+    at: usize,
+    under: bool,
+    old: &[u8],
+    new: &[u8],
+    c: Cursor,
+) -> usize
     requires { ⌜ (at ≤ length (now out)) × Opens (now old) (now new) c ⌝ }
     ensures { λ r. ⌜ Said (now (out .entry)) (now (out .exit)) at (movedText under (c .old .place .number) (c .new .place .number) (c .moved)) r ⌝ }
 {
@@ -182,11 +196,25 @@ fn say_next_alone(out: &mut [u8], new: bool, book: &[u8], p: Place) -> usize
     if t.n == 0 {
         return 0;
     }
-    say_alone(out, 0, new, p.number, first_of(rest, t.n), first_of(&lines, t.written))
+    say_alone(
+        out,
+        0,
+        new,
+        p.number,
+        first_of(rest, t.n),
+        first_of(&lines, t.written),
+    )
 }
 
 // The next pair of records.
-pub(crate) fn say_next_pair(out: &mut [u8], at: usize, old: &[u8], p: Place, new: &[u8], q: Place) -> usize
+pub(crate) fn say_next_pair(
+    out: &mut [u8],
+    at: usize,
+    old: &[u8],
+    p: Place,
+    new: &[u8],
+    q: Place,
+) -> usize
     requires { ⌜ (at ≤ length (now out)) × Valid (now old) p × Valid (now new) q ⌝ }
     ensures { λ r. ⌜ Said (now (out .entry)) (now (out .exit)) at
         (firstPair (p .number) (leftOf (now (old .entry)) p) (q .number) (leftOf (now (new .entry)) q)) r ⌝ }

@@ -80,7 +80,15 @@ fn say_next(
 }
 
 // The first n values of a row, alone or those that changed.
-fn say_fields(out: &mut [u8], at: usize, n: usize, alone: bool, row: u64, vs: [u64; 12], ws: [u64; 12]) -> usize
+fn say_fields(
+    out: &mut [u8],
+    at: usize,
+    n: usize,
+    alone: bool,
+    row: u64,
+    vs: [u64; 12],
+    ws: [u64; 12],
+) -> usize
     requires { ⌜ (at ≤ length (now out)) × (n ≤ 12) ⌝ }
     ensures { λ r. ⌜ Said (now (out .entry)) (now (out .exit)) at (fieldsFrom n false alone row 0 vs ws) r ⌝ }
 {
@@ -153,7 +161,14 @@ fn own_line(own: bool, lines: &[u8]) -> &[u8]
 }
 
 // A record alone.
-pub(crate) fn say_alone(out: &mut [u8], at: usize, new: bool, i: usize, r: &[u8], lines: &[u8]) -> usize
+pub(crate) fn say_alone(
+    out: &mut [u8],
+    at: usize,
+    new: bool,
+    i: usize,
+    r: &[u8],
+    lines: &[u8],
+) -> usize
     requires { ⌜ (at ≤ length (now out)) × Readable (now r) ⌝ }
     ensures { λ w. ⌜ Said (now (out .entry)) (now (out .exit)) at (aloneText new i (now (r .entry)) (now (lines .entry))) w ⌝ }
 {

@@ -22,8 +22,9 @@ open-spec =
     (λ c κs. search needs)
     (λ c κs. (c .before .before .before .before .before .before .before .before .before .before .before .before .pre .1, c .before .before .before .before .before .before .before .before .end-of-part2 .ensures .0 .1))
     (λ c κs. search needs)
-    (λ c. let g = c .before .before .before .before .before .before .before .before .before .before .before .before .before .before .args .grouped in
-    (opened-is g (c .before .before .before .before .before .before .before .before .before .before .before .before .before .before .args .old .now) (c .before .before .before .before .before .before .before .before .before .before .before .before .before .before .args .new .now) (c .before .before .before .before .before .before .before .before .before .before .before .before .before .before .args .p) (c .before .before .before .before .before .before .before .before .before .before .before .before .before .before .args .q) _ _ (c .before .before .before .before .before .before .before .before .before .before .before .before .before .before .pre .0) (c .before .before .before .before .before .before .before .before .before .before .before .before .before .before .pre .1) (c .before .before .before .before .before .before .before .before .before .before .before .end-of-part .ensures .0 .0) (c .before .before .before .before .before .before .before .before .before .before .before .end-of-part .ensures .0 .1) (c .before .before .before .before .before .before .before .before .before .before .before .end-of-part .ensures .1) (c .before .before .before .before .before .before .before .before .before .before .end-of-part2 .ensures .0 .0) (c .before .before .before .before .before .before .before .before .before .before .end-of-part2 .ensures .0 .1) (c .before .before .before .before .before .before .before .before .before .before .end-of-part2 .ensures .1) _ (c .before .before .before .before .before .planned .ensures) _ (c .moved-many .ensures) _ _ _ _ (c .before .before .before .before .old-told .ensures) (c .before .before .new-told .ensures)
-    (c .before .before .before .side .ensures .0) (c .before .before .before .side .ensures .1) (c .before .side2 .ensures .0) (c .before .side2 .ensures .1),
-    opens g (c .before .before .before .before .before .before .before .before .before .before .before .before .before .before .args .old .now) (c .before .before .before .before .before .before .before .before .before .before .before .before .before .before .args .new .now) (c .before .before .before .before .before .before .before .before .before .before .before .before .before .before .args .p) (c .before .before .before .before .before .before .before .before .before .before .before .before .before .before .args .q) _ _ (c .before .before .before .before .before .before .before .before .before .before .before .before .before .before .pre .0) (c .before .before .before .before .before .before .before .before .before .before .before .before .before .before .pre .1) (c .before .before .before .before .before .before .before .before .before .before .before .end-of-part .ensures .0 .0) (c .before .before .before .before .before .before .before .before .before .before .before .end-of-part .ensures .0 .1) (c .before .before .before .before .before .before .before .before .before .before .before .end-of-part .ensures .1) (c .before .before .before .before .before .before .before .before .before .before .end-of-part2 .ensures .0 .0) (c .before .before .before .before .before .before .before .before .before .before .end-of-part2 .ensures .0 .1) (c .before .before .before .before .before .before .before .before .before .before .end-of-part2 .ensures .1) _ (c .before .before .before .before .before .planned .ensures) _ (c .moved-many .ensures) _ _ _ _ (c .before .before .before .before .old-told .ensures) (c .before .before .new-told .ensures)
-    (c .before .before .before .side .ensures .0) (c .before .before .before .side .ensures .1) (c .before .side2 .ensures .0) (c .before .side2 .ensures .1))))
+    (λ c. let g = c .before .before .before .before .before .before .before .before .before .before .before .before .before .before .args .grouped in (
+      opened-is g (c .before .before .before .before .before .before .before .before .before .before .before .before .before .before .args .old .now) (c .before .before .before .before .before .before .before .before .before .before .before .before .before .before .args .new .now) (c .before .before .before .before .before .before .before .before .before .before .before .before .before .before .args .p) (c .before .before .before .before .before .before .before .before .before .before .before .before .before .before .args .q) _ _ (c .before .before .before .before .before .before .before .before .before .before .before .before .before .before .pre .0) (c .before .before .before .before .before .before .before .before .before .before .before .before .before .before .pre .1) (c .before .before .before .before .before .before .before .before .before .before .before .end-of-part .ensures .0 .0) (c .before .before .before .before .before .before .before .before .before .before .before .end-of-part .ensures .0 .1) (c .before .before .before .before .before .before .before .before .before .before .before .end-of-part .ensures .1) (c .before .before .before .before .before .before .before .before .before .before .end-of-part2 .ensures .0 .0) (c .before .before .before .before .before .before .before .before .before .before .end-of-part2 .ensures .0 .1) (c .before .before .before .before .before .before .before .before .before .before .end-of-part2 .ensures .1) _ (c .before .before .before .before .before .planned .ensures) _ (c .moved-many .ensures) _ _ _ _ (c .before .before .before .before .old-told .ensures) (c .before .before .new-told .ensures)
+          (c .before .before .before .side .ensures .0) (c .before .before .before .side .ensures .1) (c .before .side2 .ensures .0) (c .before .side2 .ensures .1),
+      opens g (c .before .before .before .before .before .before .before .before .before .before .before .before .before .before .args .old .now) (c .before .before .before .before .before .before .before .before .before .before .before .before .before .before .args .new .now) (c .before .before .before .before .before .before .before .before .before .before .before .before .before .before .args .p) (c .before .before .before .before .before .before .before .before .before .before .before .before .before .before .args .q) _ _ (c .before .before .before .before .before .before .before .before .before .before .before .before .before .before .pre .0) (c .before .before .before .before .before .before .before .before .before .before .before .before .before .before .pre .1) (c .before .before .before .before .before .before .before .before .before .before .before .end-of-part .ensures .0 .0) (c .before .before .before .before .before .before .before .before .before .before .before .end-of-part .ensures .0 .1) (c .before .before .before .before .before .before .before .before .before .before .before .end-of-part .ensures .1) (c .before .before .before .before .before .before .before .before .before .before .end-of-part2 .ensures .0 .0) (c .before .before .before .before .before .before .before .before .before .before .end-of-part2 .ensures .0 .1) (c .before .before .before .before .before .before .before .before .before .before .end-of-part2 .ensures .1) _ (c .before .before .before .before .before .planned .ensures) _ (c .moved-many .ensures) _ _ _ _ (c .before .before .before .before .old-told .ensures) (c .before .before .new-told .ensures)
+          (c .before .before .before .side .ensures .0) (c .before .before .before .side .ensures .1) (c .before .side2 .ensures .0) (c .before .side2 .ensures .1),
+    )))

@@ -35,5 +35,13 @@ say-next-pair-spec =
     let k = left-some _ _ _ _ _ _ p q i in
     let l = right-some _ _ _ _ _ _ p q i in
     rw (pair-some (c .before .before .before .before .before .before .before .before .before .before .before .before .before .before .before .before .before .before .before .before .before .before .before .before .before .before .args .p .number) (c .before .before .before .before .before .before .before .before .before .before .before .before .before .before .before .before .before .before .before .before .before .before .before .before .before .before .args .q .number) _ _ _ _ _ _ (passed-left _ _ (c .before .before .before .before .before .before .before .before .before .before .before .before .before .before .before .before .before .before .before .before .before .before .before .before .before .before .pre .1) _ (rw (c .before .before .before .before .before .before .before .before .before .before .before .before .before .before .before .before .before .before .before .before .rest-of .ensures) at (c .before .before .before .before .before .before .before .before .before .before .before .before .before .before .before .before .before .turn .ensures .0)) k) (passed-left _ _ (c .before .before .before .before .before .before .before .before .before .before .before .before .before .before .before .before .before .before .before .before .before .before .before .before .before .before .pre .2) _ (rw (c .before .before .before .before .before .before .before .before .before .before .before .before .before .before .before .before .before .before .before .rest-of2 .ensures) at (c .before .before .before .before .before .before .before .before .before .before .before .before .before .before .turn2 .ensures .0)) l))
-    (rw (c .before .before .before .before .before .before .before .before .first-of .ensures, c .before .before .before .before .before .before .first-of2 .ensures, c .before .before .before .before .before .first-of3 .ensures, c .before .before .before .first-of4 .ensures, c .before .before .before .before .before .before .before .before .before .before .before .before .before .before .before .before .before .turn .ensures .1 .are k, c .before .before .before .before .before .before .before .before .before .before .before .before .before .before .turn2 .ensures .1 .are l,
-    c .before .before .before .before .before .before .before .before .before .before .before .before .before .before .before .before .before .before .before .before .rest-of .ensures, c .before .before .before .before .before .before .before .before .before .before .before .before .before .before .before .before .before .before .before .rest-of2 .ensures) at (c .before .before .say-pair .ensures))))
+    (rw (
+      c .before .before .before .before .before .before .before .before .first-of .ensures,
+      c .before .before .before .before .before .before .first-of2 .ensures,
+      c .before .before .before .before .before .first-of3 .ensures,
+      c .before .before .before .first-of4 .ensures,
+      c .before .before .before .before .before .before .before .before .before .before .before .before .before .before .before .before .before .turn .ensures .1 .are k,
+      c .before .before .before .before .before .before .before .before .before .before .before .before .before .before .turn2 .ensures .1 .are l,
+      c .before .before .before .before .before .before .before .before .before .before .before .before .before .before .before .before .before .before .before .before .rest-of .ensures,
+      c .before .before .before .before .before .before .before .before .before .before .before .before .before .before .before .before .before .before .before .rest-of2 .ensures,
+    ) at (c .before .before .say-pair .ensures))))
