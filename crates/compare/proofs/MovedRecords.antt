@@ -6,30 +6,32 @@ use mathlib.Core.Path.{_≡_, refl, sym, ap, _∙_}
 use mathlib.Core.List.{List, [], _∷_}
 use mathlib.Core.Bool.{Bool, true, false, _&&_, not}
 use native.Mathlib.Omega.{arith}
-use borrow.Author.Tests.{ne-eqb}
+use borrow.Author.Tests.{eq-eqb, ne-eqb}
 use lib.ListN.{length, take, drop, length-drop}
-use lib.Seq.{drop-drop}
+use lib.Seq.{drop-drop, length-take-le}
 use lib.Dec.{eqb}
 use Rattle.base.specs.Choice.{pick}
 use Rattle.base.proofs.Tests.{of-choice, not-true, not-false}
 use Rattle.account.specs.declared.Account.{Account}
-use Rattle.account.specs.declared.sort.Sort.{Sort}
-use Rattle.account.specs.Sorts.{sortOf, bySort}
 use Rattle.book.specs.Front.{whole, need, front}
 use Rattle.book.specs.WholeRecords.{Ready, recordsOf}
 use Rattle.book.proofs.WholeRecords.{records-whole}
 use Rattle.book.proofs.RecordRuns.{record-in}
 use Rattle.book.proofs.Fronts.{meaning}
-use Rattle.compare.specs.declared.cursor.Cursor.{Cursor}
-use Rattle.account.specs.Judge.{recordRow, judge}
-use Rattle.promises.specs.WholeLines.{isDetail}
-use Rattle.walk.specs.Walk.{accepts, Entry, entryOf, recordsIn, entriesFrom, entriesAfter, entriesOf}
-use Rattle.compare.specs.Same.{same}
+use Rattle.compare.specs.declared.places.Place.{Place}
+use Rattle.account.specs.Judge.{judge}
+use Rattle.walk.specs.Walk.{accepts, Entry, entryOf, recordsIn, entriesFrom, entriesAfter}
+use Rattle.compare.specs.Records.{same}
 use Rattle.compare.specs.Moved.{timesIn, asOften, allAsOften, sameDetails}
-use Rattle.compare.specs.Compare.{movedOf}
-use Rattle.compare.specs.Inner.{Reached}
+use Rattle.compare.specs.Places.{leftOf, onward}
+use Rattle.compare.specs.Plans.{movedOf}
+use Rattle.compare.specs.Inner.{Valid}
 use Rattle.walk.proofs.Walks.{records-none}
-use Rattle.compare.proofs.Tellings.{long-enough}
+use Rattle.compare.proofs.Onward.{left-onward, take-of-take}
+
+-- a record has a kind
+long-enough : (n : ℕ) (r rest : List ℕ) → r ≡ take n rest → n ≤ length rest → 6 ≤ n → 4 ≤ length r
+long-enough n r rest e h k = omega (arith, ap length e, length-take-le n rest h)
 
 take-none : (n : ℕ) → take {A = List ℕ} n [] ≡ []
 take-none zero = refl
@@ -114,12 +116,6 @@ module _ (r xs : List ℕ) (many at i n : ℕ) (c : Counting r xs many at i n) w
           rest = rw k (o ∙ ap (λ (l : ℕ). n + l) (sym s) ∙ c .rest);
         }
 
--- ---- a detail, as the code finds it
-
--- t is the sort of the row of r
-pub detail-by : (s t : Sort) (row : ℕ) (r : List ℕ) → s ≡ sortOf row → row ≡ recordRow r → s ≡ t → bySort t false false true true false ≡ isDetail r
-detail-by s t row r e k q = rw (← q, e, k) refl
-
 -- ---- each of them
 
 -- those of the first i records of xs are as they should be; asking those ahead makes the whole
@@ -172,17 +168,16 @@ first-records a (r ∷ rs) (suc m) h = go (λ k. first-records (judge a r .accou
     go ih true h = ap (λ (l : List (List ℕ)). r ∷ l) (ih (omega (arith, h)))
     go ih false h = absurd (omega (arith, h))
 
--- the first m records behind the first k entries
-pub records-behind : (xs : List ℕ) (k m : ℕ) (c : Cursor) → Reached xs k c → m ≤ length (entriesOf xs) - k
-    → take m (recordsOf (drop (c .at) xs)) ≡ recordsIn (take m (drop k (entriesOf xs)))
-records-behind xs k m c r h =
-    let l : m ≤ length (entriesAfter (c .account) (drop (c .at) xs)) = rw (r .rest) (omega (arith, h, length-drop k (entriesOf xs))) in
-    first-records (c .account) (recordsOf (drop (c .at) xs)) m l ∙ ap (λ (es : List Entry). recordsIn (take m es)) (r .rest)
-
-pub records-at : (xs rest : List ℕ) (k n o back : ℕ) (c : Cursor) → Reached xs k c → rest ≡ drop (c .at) xs
-    → n ≡ length (entriesOf xs) → o ≡ n - k - back
-    → take o (recordsOf rest) ≡ recordsIn (take o (drop k (entriesOf xs)))
-records-at xs rest k n o back c r e f g = rw e (records-behind xs k o c r (omega (arith, f, g)))
+-- of the n records after a place those after the first ones, as the code finds them
+pub records-at : (xs rest : List ℕ) (p : Place) (k n o back : ℕ) (c : Place) → Valid xs p → n ≤ length (leftOf xs p)
+    → c ≡ onward k xs p → rest ≡ drop (c .at) xs → o ≡ n - k - back
+    → take o (recordsOf rest) ≡ recordsIn (take o (drop k (take n (leftOf xs p))))
+records-at xs rest p k n o back c v h e f g =
+    let left : leftOf xs c ≡ drop k (leftOf xs p) = ap (leftOf xs) e ∙ left-onward k xs p v in
+    let l : o ≤ length (leftOf xs c) = rw left (omega (arith, g, h, length-drop k (leftOf xs p))) in
+    rw f (first-records (c .account) (recordsOf (drop (c .at) xs)) o l)
+    ∙ ap (λ (es : List Entry). recordsIn (take o es)) left
+    ∙ ap recordsIn (sym (take-of-take o k n (leftOf xs p) (omega (arith, g))))
 
 -- ---- by their tests
 
@@ -202,11 +197,17 @@ module _ (rs ss : List (List ℕ)) (b : Bool) (e : b ≡ allAsOften rs ss rs) wh
 pub moved-none : (n k front back o : ℕ) (t : Bool) → n ≡ k → o ≡ n - front - back → o ≡ 0 → false ≡ not (eqb (k - front - back) 0) && t
 moved-none n k front back o t e f z = let q : k - front - back ≡ 0 = ap (λ (l : ℕ). l - front - back) (sym e) ∙ sym f ∙ z in rw q refl
 
-pub moved-some : (es ns : List Entry) (front back n o m p : ℕ) (rs ss : List (List ℕ)) (b : Bool) → n ≡ length es → o ≡ n - front - back
-    → (o ≡ 0 → ⊥) → m ≡ length ns → p ≡ m - front - back
-    → rs ≡ recordsIn (take o (drop front es)) → ss ≡ recordsIn (take p (drop front ns)) → b ≡ sameDetails rs ss → b ≡ movedOf front back es ns
-moved-some es ns front back n o m p rs ss b e f z g h k l q =
-    let x : o ≡ length es - front - back = f ∙ ap (λ (l : ℕ). l - front - back) e in
-    let y : p ≡ length ns - front - back = h ∙ ap (λ (l : ℕ). l - front - back) g in
-    let t : eqb (length es - front - back) 0 ≡ false = ne-eqb _ _ (λ w. z (x ∙ w)) in
-    rw (t, ← x, ← y, ← k, ← l) q
+module _ (es ns : List Entry) (front back n o m p : ℕ) (e : n ≡ length es) (f : o ≡ n - front - back) (z : o ≡ 0 → ⊥) (g : m ≡ length ns) where
+  some-between : eqb (length es - front - back) 0 ≡ false
+  some-between = ne-eqb _ _ (λ w. z (f ∙ ap (λ (l : ℕ). l - front - back) e ∙ w))
+
+  pub moved-uneven : (n ≡ m → ⊥) → false ≡ movedOf front back es ns
+  moved-uneven h = let u : eqb (length es) (length ns) ≡ false = ne-eqb _ _ (λ w. h (e ∙ w ∙ sym g)) in rw (some-between, u) refl
+
+  pub moved-some : (rs ss : List (List ℕ)) (b : Bool) → n ≡ m → p ≡ m - front - back
+      → rs ≡ recordsIn (take o (drop front es)) → ss ≡ recordsIn (take p (drop front ns)) → b ≡ sameDetails rs ss → b ≡ movedOf front back es ns
+  moved-some rs ss b d h k l q =
+      let x : o ≡ length es - front - back = f ∙ ap (λ (l : ℕ). l - front - back) e in
+      let y : p ≡ length ns - front - back = h ∙ ap (λ (l : ℕ). l - front - back) g in
+      let u : eqb (length es) (length ns) ≡ true = eq-eqb _ _ (sym e ∙ d ∙ g) in
+      rw (some-between, u, ← x, ← y, ← k, ← l) q

@@ -1,29 +1,32 @@
 -- Pairs of entries, one of either book.
 -- Assumes nothing.
-use Prim.Native.Nat.{ℕ, suc, _+_, _-_, _≤_, _<_, min}
+use Prim.Native.Nat.{ℕ, zero, suc, _+_, _-_, _≤_, _<_, min}
 use mathlib.Core.Path.{_≡_, refl, sym, ap, _∙_}
 use mathlib.Core.List.{List, [], _∷_}
 use mathlib.Core.Bool.{Bool, true, false, _||_, _&&_, not}
 use mathlib.Core.Logic.{_⊎_, inl, inr, ⊎-elim}
 use native.Mathlib.Omega.{arith}
-use borrow.Author.Tests.{eqb-true, eqb-false, eq-eqb, ne-eqb}
-use lib.ListN.{length, getD, take, drop, length-drop}
-use lib.Seq.{drop-drop, getD-take, take-take}
+use native.Mathlib.Nat.{sub-zero}
+use borrow.Author.Tests.{eqb-true, eqb-false}
+use lib.ListN.{length, take, drop, length-drop}
+use lib.Seq.{drop-drop, take-nil, length-take-le}
 use lib.Dec.{eqb}
 use Rattle.base.specs.Choice.{pick}
 use Rattle.base.proofs.Tests.{neither, or-cases}
 use Rattle.account.specs.declared.Account.{Account}
-use Rattle.account.specs.Judge.{kindByte}
 use Rattle.account.specs.Range.{AccountInRange}
-use Rattle.compare.specs.declared.cursor.Cursor.{Cursor}
-use Rattle.compare.specs.declared.cursor.Taken.{Taken}
+use Rattle.compare.specs.declared.places.Place.{Place}
+use Rattle.compare.specs.declared.places.Taken.{Taken}
 use Rattle.compare.specs.declared.runs.Counts.{Counts}
 use Rattle.compare.specs.declared.runs.Pair.{Pair}
-use Rattle.walk.specs.Walk.{Entry, linesOf, entriesAfter, entriesOf}
-use Rattle.compare.specs.Same.{same}
-use Rattle.compare.specs.Compare.{shapeOf, noRuns, oneMore, runsFrom, runsOf, movedOf, planOf}
-use Rattle.compare.specs.Inner.{Turned, Written, Reached, Looked, CountsIn}
-use Rattle.compare.proofs.Walks.{entries-behind}
+use Rattle.compare.specs.declared.plans.Plan.{Plan}
+use Rattle.walk.specs.Walk.{Entry, linesOf, entriesAfter}
+use Rattle.compare.specs.Records.{same}
+use Rattle.compare.specs.Places.{leftOf, onward}
+use Rattle.compare.specs.Plans.{noRuns, oneMore, runsFrom, runsOf, movedOf, planOf}
+use Rattle.compare.specs.Inner.{Valid, Turned, Written}
+use Rattle.compare.specs.InnerPairs.{Looked, CountsIn}
+use Rattle.compare.proofs.Onward.{drop-of-take, left-onward}
 
 -- ---- the next pair
 
@@ -40,8 +43,6 @@ module _ (a b : Account) (xs ys : List ℕ) (t u : Taken) (p : Turned a xs t) (q
             (or-cases (eqb (t .n) 0) (eqb (u .n) 0) h);
         goes = λ k. absurd (omega arith);
         goes′ = λ k. absurd (omega arith);
-        readable = λ k. absurd (omega arith);
-        readable′ = λ k. absurd (omega arith);
         range = v;
         range′ = w;
         records = λ k. absurd (omega arith);
@@ -55,7 +56,7 @@ module _ (a b : Account) (xs ys : List ℕ) (t u : Taken) (p : Turned a xs t) (q
     pub right-some : 0 < u .n
     right-some = let z : u .n ≡ 0 → ⊥ = eqb-false (u .n) 0 (neither (eqb (t .n) 0) (eqb (u .n) 0) h .1) in omega (arith, z)
 
-    pub looked-on : (records lines : Bool) → records ≡ same (shapeOf (take (t .n) xs)) (shapeOf (take (u .n) ys))
+    pub looked-on : (records lines : Bool) → records ≡ same (take (t .n) xs) (take (u .n) ys)
         → lines ≡ same (linesOf a (take (t .n) xs)) (linesOf b (take (u .n) ys))
         → Looked a b xs ys (record { old = t .n; new = u .n; a = t .next; b = u .next; records = records; lines = lines })
     looked-on records lines e f =
@@ -66,8 +67,6 @@ module _ (a b : Account) (xs ys : List ℕ) (t u : Taken) (p : Turned a xs t) (q
           ended = λ z. absurd (omega (arith, left-some));
           goes = λ k. p .goes left-some;
           goes′ = λ k. q .goes right-some;
-          readable = λ k. p .readable left-some;
-          readable′ = λ k. q .readable right-some;
           range = p .range;
           range′ = q .range;
           records = λ k. e;
@@ -79,110 +78,121 @@ pub lines-same : (a b : Account) (xs ys left right : List ℕ) (t u : Taken) →
     → same (take (t .written) left) (take (u .written) right) ≡ same (linesOf a (take (t .n) xs)) (linesOf b (take (u .n) ys))
 lines-same a b xs ys left right t u p q h k = rw (p .are h, q .are k) refl
 
--- ---- all pairs
+-- ---- many pairs
 
--- the pairs up to the bytes at and to are counted; counting those left makes the whole
-pub record Pairing (xs ys : List ℕ) (i j : ℕ) (a b : Account) (at to : ℕ) (u : Counts) : Type 0 where
+-- k of the pairs are counted, up to the bytes at and to; counting those left makes the whole
+pub record Pairing (xs ys : List ℕ) (es ns : List Entry) (many : ℕ) (a b : Account) (at to : ℕ) (u : Counts) (k : ℕ) : Type 0 where
   pub inside : at ≤ length xs
   pub inside′ : to ≤ length ys
-  pub counts : CountsIn u at
+  pub few : k ≤ many
+  pub counts : CountsIn u k
   pub range : AccountInRange a
   pub range′ : AccountInRange b
-  pub rest : runsFrom u (entriesAfter a (drop at xs)) (entriesAfter b (drop to ys)) ≡ runsOf (drop i (entriesOf xs)) (drop j (entriesOf ys))
+  pub rest : runsFrom u (take (many - k) (entriesAfter a (drop at xs))) (take (many - k) (entriesAfter b (drop to ys)))
+      ≡ runsOf (take many es) (take many ns)
 
-pub pairing-none : (xs ys : List ℕ) (i j : ℕ) (c d : Cursor) → Reached xs i c → Reached ys j d
-    → Pairing xs ys i j (c .account) (d .account) (c .at) (d .at) noRuns
-pairing-none xs ys i j c d r s =
+pub pairing-none : (xs ys : List ℕ) (many : ℕ) (p q : Place) → Valid xs p → Valid ys q
+    → Pairing xs ys (leftOf xs p) (leftOf ys q) many (p .account) (q .account) (p .at) (q .at) noRuns 0
+pairing-none xs ys many p q v w =
     record {
-      inside = r .inside;
-      inside′ = s .inside;
-      counts = record { pairs = omega arith; leading = omega arith; trailing = omega arith; others = omega arith };
-      range = r .range;
-      range′ = s .range;
-      rest = rw (r .rest, s .rest) refl;
+      inside = v .inside;
+      inside′ = w .inside;
+      few = omega arith;
+      counts =
+          record { pairs = omega arith; leading = omega arith; trailing = omega arith; first = omega arith; last = omega arith; others = omega arith };
+      range = v .range;
+      range′ = w .range;
+      rest = rw sub-zero refl;
     }
 
 -- one pair more adds at most one to each count
-one-at-most : (u : Counts) (records lines : Bool) (at n : ℕ) → CountsIn u at → 0 < n → CountsIn (oneMore u records lines) (at + n)
-one-at-most u records lines at n c h =
+up : (b : Bool) (n k : ℕ) → n ≤ k → pick b (n + 1) n ≤ k + 1
+up true n k l = omega arith
+up false n k l = omega arith
+
+anew : (b : Bool) (n k : ℕ) → n ≤ k → pick b (n + 1) 0 ≤ k + 1
+anew true n k l = omega arith
+anew false n k l = omega arith
+
+lasting : (b c : Bool) (n k : ℕ) → n ≤ k → pick b (pick c n (n + 1)) 0 ≤ k + 1
+lasting true true n k l = omega arith
+lasting true false n k l = omega arith
+lasting false c n k l = omega arith
+
+one-at-most : (u : Counts) (records lines : Bool) (k : ℕ) → CountsIn u k → CountsIn (oneMore u records lines) (k + 1)
+one-at-most u records lines k c =
     record {
       pairs = omega (arith, c .pairs);
-      leading = up (records && eqb (u .leading) (u .pairs)) (u .leading) (c .leading);
-      trailing = down records;
-      others = up (not lines) (u .others) (c .others);
+      leading = up (records && eqb (u .leading) (u .pairs)) (u .leading) k (c .leading);
+      trailing = anew records (u .trailing) k (c .trailing);
+      first = up ((records && eqb (u .leading) (u .pairs)) && not lines) (u .first) k (c .first);
+      last = lasting records lines (u .last) k (c .last);
+      others = up (records && not lines) (u .others) k (c .others);
     }
-  where
-    up : (b : Bool) (k : ℕ) → k ≤ at → pick b (k + 1) k ≤ at + n
-    up true k l = omega arith
-    up false k l = omega arith
 
-    down : (b : Bool) → pick b (u .trailing + 1) 0 ≤ at + n
-    down true = omega (arith, c .trailing)
-    down false = omega arith
-
-stops-left : (u : Counts) (es ns : List Entry) → es ≡ [] → u ≡ runsFrom u es ns
+stops-left : (u : Counts) (n : ℕ) (es ns : List Entry) → es ≡ [] → u ≡ runsFrom u (take n es) ns
 unfolding runsFrom
-stops-left u es ns e = rw e refl
+stops-left u n es ns e = rw (e, take-nil n) refl
 
-stops-right : (u : Counts) (es ns : List Entry) → ns ≡ [] → u ≡ runsFrom u es ns
+stops-right : (u : Counts) (n : ℕ) (es ns : List Entry) → ns ≡ [] → u ≡ runsFrom u es (take n ns)
 unfolding runsFrom
-stops-right u [] ns e = refl
-stops-right u (x ∷ es) ns e = rw e refl
+stops-right u n [] ns e = refl
+stops-right u n (x ∷ es) ns e = rw (e, take-nil n) refl
 
-goes-on : (u : Counts) (es ns es′ ns′ : List Entry) (e n : Entry) → es ≡ e ∷ es′ → ns ≡ n ∷ ns′
-    → runsFrom u es ns ≡ runsFrom (oneMore u (same (shapeOf (e .bytes)) (shapeOf (n .bytes))) (same (e .lines) (n .lines))) es′ ns′
+none-left : (u : Counts) (n : ℕ) (es ns : List Entry) → n ≡ 0 → u ≡ runsFrom u (take n es) ns
 unfolding runsFrom
-goes-on u es ns es′ ns′ e n p q = rw (p, q) refl
+none-left u n es ns e = rw e refl
 
-module _ (xs ys : List ℕ) (i j : ℕ) (a b : Account) (at to : ℕ) (u : Counts) (w : Pairing xs ys i j a b at to u) (rest rest′ : List ℕ)
-    (e : rest ≡ drop at xs)
-    (f : rest′ ≡ drop to ys) (l : Pair) (k : Looked a b rest rest′ l) where
-  pub pair-inside : at + l .old ≤ length xs
-  pair-inside = omega (arith, k .inside, ap length e, length-drop at xs, w .inside)
+goes-on : (u : Counts) (m n : ℕ) (es ns es′ ns′ : List Entry) (e n′ : Entry) → n ≡ suc m → es ≡ e ∷ es′ → ns ≡ n′ ∷ ns′
+    → runsFrom u (take n es) (take n ns)
+    ≡ runsFrom (oneMore u (same (e .bytes) (n′ .bytes)) (same (e .lines) (n′ .lines))) (take m es′) (take m ns′)
+unfolding runsFrom
+goes-on u m n es ns es′ ns′ e n′ z p q = rw (z, p, q) refl
 
-  pub pair-inside′ : to + l .new ≤ length ys
-  pair-inside′ = omega (arith, k .inside′, ap length f, length-drop to ys, w .inside′)
+module _ (xs ys : List ℕ) (es ns : List Entry) (many : ℕ) (a b : Account) (at to : ℕ) (u : Counts) (k : ℕ)
+    (w : Pairing xs ys es ns many a b at to u k) where
+  pub pairing-far : many ≤ k → u ≡ runsOf (take many es) (take many ns)
+  pairing-far h = none-left u (many - k) (entriesAfter a (drop at xs)) _ (omega (arith, h)) ∙ w .rest
 
-  pub pairing-ends : l .old ≡ 0 → u ≡ runsOf (drop i (entriesOf xs)) (drop j (entriesOf ys))
-  pairing-ends z =
-      ⊎-elim
-      (λ (n : entriesAfter a rest ≡ []). stops-left u (entriesAfter a (drop at xs)) (entriesAfter b (drop to ys)) (ap (entriesAfter a) (sym e) ∙ n)
-      ∙ w .rest)
-      (λ (n : entriesAfter b rest′ ≡ []). stops-right u (entriesAfter a (drop at xs)) (entriesAfter b (drop to ys)) (ap (entriesAfter b) (sym f) ∙ n)
-      ∙ w .rest)
-      (k .ended z)
+  module _ (rest rest′ : List ℕ) (e : rest ≡ drop at xs) (f : rest′ ≡ drop to ys) (l : Pair) (o : Looked a b rest rest′ l) where
+    pub pair-inside : at + l .old ≤ length xs
+    pair-inside = omega (arith, o .inside, ap length e, length-drop at xs, w .inside)
 
-  pub pairing-on : (v : Counts) → v ≡ oneMore u (l .records) (l .lines) → (l .old ≡ 0 → ⊥)
-      → Pairing xs ys i j (l .a) (l .b) (at + l .old) (to + l .new) v
-  pairing-on v g n =
-      let h : 0 < l .old = omega (arith, n) in
-      let d : drop (l .old) rest ≡ drop (at + l .old) xs = rw (e, drop-drop) refl in
-      let d′ : drop (l .new) rest′ ≡ drop (to + l .new) ys = rw (f, drop-drop) refl in
-      let p = ap (entriesAfter a) (sym e) ∙ (rw d at (k .goes h)) in
-      let q = ap (entriesAfter b) (sym f) ∙ (rw d′ at (k .goes′ h)) in
-      let o = goes-on u _ _ _ _ _ _ p q in
-      record {
-        inside = pair-inside;
-        inside′ = pair-inside′;
-        counts = rw g (one-at-most u (l .records) (l .lines) at (l .old) (w .counts) h);
-        range = k .range;
-        range′ = k .range′;
-        rest = rw (g, k .records h, k .lines h) (sym o ∙ w .rest);
-      }
+    pub pair-inside′ : to + l .new ≤ length ys
+    pair-inside′ = omega (arith, o .inside′, ap length f, length-drop to ys, w .inside′)
 
-pub pairing-far : (xs ys : List ℕ) (i j : ℕ) (a b : Account) (at to : ℕ) (u : Counts) → Pairing xs ys i j a b at to u → length xs ≤ at
-    → u ≡ runsOf (drop i (entriesOf xs)) (drop j (entriesOf ys))
-pairing-far xs ys i j a b at to u w h = stops-left u (entriesAfter a (drop at xs)) (entriesAfter b (drop to ys)) (entries-behind a xs at h) ∙ w .rest
+    pub pairing-ends : l .old ≡ 0 → u ≡ runsOf (take many es) (take many ns)
+    pairing-ends z =
+        ⊎-elim
+        (λ (n : entriesAfter a rest ≡ []).
+        stops-left u (many - k) (entriesAfter a (drop at xs)) (take (many - k) (entriesAfter b (drop to ys))) (ap (entriesAfter a) (sym e) ∙ n)
+        ∙ w .rest)
+        (λ (n : entriesAfter b rest′ ≡ []).
+        stops-right u (many - k) (take (many - k) (entriesAfter a (drop at xs))) (entriesAfter b (drop to ys)) (ap (entriesAfter b) (sym f) ∙ n)
+        ∙ w .rest)
+        (o .ended z)
+
+    pub pairing-on : (v : Counts) → k < many → v ≡ oneMore u (l .records) (l .lines) → (l .old ≡ 0 → ⊥)
+        → Pairing xs ys es ns many (l .a) (l .b) (at + l .old) (to + l .new) v (k + 1)
+    pairing-on v m g n =
+        let h : 0 < l .old = omega (arith, n) in
+        let d : drop (l .old) rest ≡ drop (at + l .old) xs = rw (e, drop-drop) refl in
+        let d′ : drop (l .new) rest′ ≡ drop (to + l .new) ys = rw (f, drop-drop) refl in
+        let p = ap (entriesAfter a) (sym e) ∙ (rw d at (o .goes h)) in
+        let q = ap (entriesAfter b) (sym f) ∙ (rw d′ at (o .goes′ h)) in
+        let c : many - k ≡ suc (many - (k + 1)) = omega (arith, m) in
+        let s = goes-on u (many - (k + 1)) (many - k) _ _ _ _ _ _ c p q in
+        record {
+          inside = pair-inside;
+          inside′ = pair-inside′;
+          few = omega (arith, m);
+          counts = rw g (one-at-most u (l .records) (l .lines) k (w .counts));
+          range = o .range;
+          range′ = o .range′;
+          rest = rw (g, o .records h, o .lines h) (sym s ∙ w .rest);
+        }
 
 -- ---- no more pairs than records
-
-up-most : (b : Bool) (k n : ℕ) → k ≤ n → pick b (k + 1) k ≤ n + 1
-up-most true k n l = omega arith
-up-most false k n l = omega arith
-
-anew-most : (b : Bool) (k n : ℕ) → k ≤ n → pick b (k + 1) 0 ≤ n + 1
-anew-most true k n l = omega arith
-anew-most false k n l = omega arith
 
 -- at most m more than in u, of the same at the beginning and at the end
 pub record Most (u v : Counts) (m : ℕ) : Type 0 where
@@ -194,12 +204,12 @@ unfolding runsFrom
 runs-most u [] ns m h = record { leading = omega arith; trailing = omega arith }
 runs-most u (e ∷ es) [] m h = record { leading = omega arith; trailing = omega arith }
 runs-most u (e ∷ es) (n ∷ ns) m h =
-    let b = same (shapeOf (e .bytes)) (shapeOf (n .bytes)) in
+    let b = same (e .bytes) (n .bytes) in
     let v = oneMore u b (same (e .lines) (n .lines)) in
     let i = runs-most v es ns (m - 1) (⊎-elim (λ (k : suc (length es) ≤ m). inl (omega arith)) (λ (k : suc (length ns) ≤ m). inr (omega arith)) h) in
     let p : 0 < m = ⊎-elim (λ (k : suc (length es) ≤ m). omega arith) (λ (k : suc (length ns) ≤ m). omega arith) h in
-    let x = up-most (b && eqb (u .leading) (u .pairs)) (u .leading) (u .leading) (omega arith) in
-    let y = anew-most b (u .trailing) (u .trailing) (omega arith) in
+    let x = up (b && eqb (u .leading) (u .pairs)) (u .leading) (u .leading) (omega arith) in
+    let y = anew b (u .trailing) (u .trailing) (omega arith) in
     record { leading = omega (arith, i .leading, x, p); trailing = omega (arith, i .trailing, y, p) }
 
 module _ (es ns : List Entry) where
@@ -212,54 +222,83 @@ module _ (es ns : List Entry) where
   pub trailing-left : runsOf es ns .trailing ≤ length es
   trailing-left = omega (arith, runs-most noRuns es ns (length es) (inl (omega arith)) .trailing)
 
-  pub trailing-right : runsOf es ns .trailing ≤ length ns
-  trailing-right = omega (arith, runs-most noRuns es ns (length ns) (inr (omega arith)) .trailing)
+-- of those at the beginning and at the end no more give other lines than there are
+pub record Within (u : Counts) : Type 0 where
+  pub first : u .first ≤ u .leading
+  pub last : u .last ≤ u .trailing
+
+first-within : (b c : Bool) (n m : ℕ) → n ≤ m → pick (b && c) (n + 1) n ≤ pick b (m + 1) m
+first-within true true n m h = omega arith
+first-within true false n m h = omega arith
+first-within false c n m h = h
+
+last-within : (b c : Bool) (n m : ℕ) → n ≤ m → pick b (pick c n (n + 1)) 0 ≤ pick b (m + 1) 0
+last-within true true n m h = omega arith
+last-within true false n m h = omega arith
+last-within false c n m h = omega arith
+
+pub runs-within : (u : Counts) (es ns : List Entry) → Within u → Within (runsFrom u es ns)
+unfolding runsFrom
+runs-within u [] ns w = w
+runs-within u (e ∷ es) [] w = w
+runs-within u (e ∷ es) (n ∷ ns) w =
+    let b = same (e .bytes) (n .bytes) in
+    let c = same (e .lines) (n .lines) in
+    runs-within (oneMore u b c) es ns
+    (record {
+      first = first-within (b && eqb (u .leading) (u .pairs)) (not c) (u .first) (u .leading) (w .first);
+      last = last-within b c (u .last) (u .trailing) (w .last);
+    })
+
+-- ---- the pairs end with the shorter run
+
+pub runs-least : (n m : ℕ) (u : Counts) (es ns : List Entry)
+    → runsFrom u (take (min n m) es) (take (min n m) ns) ≡ runsFrom u (take n es) (take m ns)
+unfolding runsFrom
+runs-least zero m u es ns = let z : min zero m ≡ 0 = omega arith in rw z refl
+runs-least (suc n) zero u [] ns = let z : min (suc n) zero ≡ 0 = omega arith in rw z refl
+runs-least (suc n) zero u (e ∷ es) ns = let z : min (suc n) zero ≡ 0 = omega arith in rw z refl
+runs-least (suc n) (suc m) u [] ns = let z : min (suc n) (suc m) ≡ suc (min n m) = omega arith in rw z refl
+runs-least (suc n) (suc m) u (e ∷ es) [] = let z : min (suc n) (suc m) ≡ suc (min n m) = omega arith in rw z refl
+runs-least (suc n) (suc m) u (e ∷ es) (x ∷ ns) =
+    let z : min (suc n) (suc m) ≡ suc (min n m) = omega arith in
+    rw z (runs-least n m (oneMore u (same (e .bytes) (x .bytes)) (same (e .lines) (x .lines))) es ns)
 
 -- ---- the plan, as the code finds it
+
+-- the last most of the n records after a place
+pub last-of : (xs : List ℕ) (p s : Place) (n most : ℕ) → Valid xs p → s ≡ onward (n - most) xs p → most ≤ n
+    → take most (leftOf xs s) ≡ drop (n - most) (take n (leftOf xs p))
+last-of xs p s n most v e h =
+    let z : n - (n - most) ≡ most = omega arith in
+    ap (λ (q : Place). take most (leftOf xs q)) e
+    ∙ ap (λ (es : List Entry). take most es) (left-onward (n - most) xs p v)
+    ∙ sym (drop-of-take (n - most) n (leftOf xs p) ∙ ap (λ (k : ℕ). take k (drop (n - most) (leftOf xs p))) z)
 
 module _ (es ns : List Entry) (n m l : ℕ) (r : Counts) (p : n ≡ length es) (q : m ≡ length ns) (f : r ≡ runsOf es ns) (k : l ≡ min n m) where
   pub front-least : r .leading ≤ l
   front-least = rw f (omega (arith, leading-left es ns, leading-right es ns, p, q, k))
 
-  pub most-old : l - r .leading ≤ n
-  most-old = omega (arith, k)
-
-  pub most-new : l - r .leading ≤ m
-  most-new = omega (arith, k)
-
   module _ (s : Counts) (g : s ≡ runsOf (drop (n - (l - r .leading)) es) (drop (m - (l - r .leading)) ns)) where
-    pub back-old : s .trailing ≤ n
-    back-old =
+    back-most : s .trailing ≤ l - r .leading
+    back-most =
         rw g (omega (
           arith,
           trailing-left (drop (n - (l - r .leading)) es) (drop (m - (l - r .leading)) ns),
           length-drop (n - (l - r .leading)) es,
           p,
+          k,
         ))
 
-    pub back-new : s .trailing ≤ m
-    back-new =
-        rw g (omega (
-          arith,
-          trailing-right (drop (n - (l - r .leading)) es) (drop (m - (l - r .leading)) ns),
-          length-drop (m - (l - r .leading)) ns,
-          q,
-        ))
+    pub others-fit : r .first + s .last ≤ l
+    others-fit =
+        let a : Within r = rw f (runs-within noRuns es ns (record { first = omega arith; last = omega arith })) in
+        let b : Within s =
+        rw g (runs-within noRuns (drop (n - (l - r .leading)) es) (drop (m - (l - r .leading)) ns) (record { first = omega arith; last = omega arith })) in
+        omega (arith, a .first, b .last, front-least, back-most)
 
-    pub plan-is : (t : Counts) (b : Bool) → t ≡ runsOf (drop (n - s .trailing) es) (drop (m - s .trailing) ns)
-        → b ≡ movedOf (r .leading) (s .trailing) es ns
-        → record { old = n; new = m; front = r .leading; back = s .trailing; others = t .others; moved = b } ≡ planOf es ns
+    pub plan-is : (b : Bool) (o : ℕ) → b ≡ movedOf (r .leading) (s .trailing) es ns
+        → o ≡ pick (not b && eqb n m) (r .others) (r .first + s .last)
+        → record { old = n; new = m; front = r .leading; back = s .trailing; moved = b; paired = not b && eqb n m; others = o } ≡ planOf es ns
     unfolding planOf
-    plan-is t b h d = rw (d, h, g, f, k, p, q) refl
-
--- ---- a record without the count of a close, as the code finds it
-
-module _ (r : List ℕ) (n : ℕ) (h : 4 ≤ n) where
-  kind-in : kindByte (take n r) ≡ getD r 3 0
-  kind-in = getD-take n r 3 0 (omega arith)
-
-  pub shape-close : getD r 3 0 ≡ 8 → take 4 r ≡ shapeOf (take n r)
-  shape-close e = rw (kind-in, eq-eqb _ _ e, take-take 4 n r h) refl
-
-  pub shape-other : (getD r 3 0 ≡ 8 → ⊥) → take n r ≡ shapeOf (take n r)
-  shape-other e = rw (kind-in, ne-eqb _ _ e) refl
+    plan-is b o d h = rw (h, d, g, f, k, p, q) refl

@@ -1,4 +1,4 @@
--- Laws of the test for the same bytes.
+-- Laws of the test for the same bytes, and a record's kind.
 -- Assumes nothing.
 use Prim.Native.Nat.{ℕ, suc, _+_, _<_, _≤_}
 use mathlib.Core.Path.{_≡_, refl, sym, ap, _∙_}
@@ -11,7 +11,12 @@ use lib.ListN.{length, getD, drop, drop-of-length-le}
 use lib.Seq.{drop-cons}
 use lib.Dec.{eqb}
 use Rattle.base.proofs.Tests.{and-l, and-r, no-bool}
-use Rattle.compare.specs.Same.{same}
+use Rattle.codec.specs.Codec.{valAt}
+use Rattle.account.specs.declared.sort.Sort.{Sort}
+use Rattle.account.specs.Sorts.{sortOf, bySort}
+use Rattle.account.specs.Judge.{kindByte, recordRow}
+use Rattle.promises.specs.WholeLines.{isDetail}
+use Rattle.compare.specs.Records.{same}
 
 -- bytes are the same as themselves,
 pub same-self : (xs : List ℕ) → same xs xs ≡ true
@@ -59,3 +64,14 @@ module _ (xs ys : List ℕ) (i : ℕ) (s : same (drop i xs) (drop i ys) ≡ same
 pub same-end : (xs ys : List ℕ) (i : ℕ) → same (drop i xs) (drop i ys) ≡ same xs ys → length xs ≤ i → length xs ≡ length ys → true ≡ same xs ys
 unfolding same
 same-end xs ys i s p l = rw (drop-of-length-le xs {i = i} p, drop-of-length-le ys {i = i} (omega arith)) at s
+
+-- the code reads it
+pub kind-byte : (k : ℕ) (r : List ℕ) → k ≡ valAt r 3 1 → k ≡ kindByte r
+unfolding valAt
+kind-byte k r e = omega (arith, e)
+
+-- ---- a detail, as the code finds it
+
+-- t is the sort of the row of r
+pub detail-by : (s t : Sort) (row : ℕ) (r : List ℕ) → s ≡ sortOf row → row ≡ recordRow r → s ≡ t → bySort t false false true true false ≡ isDetail r
+detail-by s t row r e k q = rw (← q, e, k) refl

@@ -1,5 +1,12 @@
-pub mod Same
+pub mod Records
+pub mod Figures
+pub mod Values
+pub mod Places
 pub mod Moved
-pub mod Compare
+pub mod Plans
+pub mod Sections
+pub mod Steps
 pub mod Remarks
 pub mod Inner
+pub mod InnerPairs
+pub mod InnerSides

@@ -1,55 +1,144 @@
-// Two books compared, so that an adviser who has corrected one record can say what it touched: which records are the same, and which lines.
-pub mod remarks; // remarks.rt: what is told
-mod cursor; // cursor.rt: a book record by record
+// Two books compared, so that an adviser who has corrected one record can say what it touched: what differs, group by group.
+pub mod places; // places.rt: a book record by record, and its parts
+pub mod remarks; // remarks.rt: hints, and the status
+mod figures; // figures.rt: figures in kilograms
+mod groups; // groups.rt: the steps from section to section
 mod moved; // moved.rt: the same records in another order
+mod plans; // plans.rt: two runs of records compared
+mod records; // records.rt: a record's bytes
 mod runs; // runs.rt: pairs of records
+mod sections; // sections.rt: the steps of a section
+mod values; // values.rt: a record in words
 
-use crate::cursor::reach;
-use crate::moved::moved;
-use crate::runs::runs;
-use base::least;
+use crate::groups::group_step;
+use crate::groups::verdict_step;
+use crate::places::Place;
+use crate::places::stands;
+use crate::places::start;
+use crate::sections::before_step;
+use crate::sections::section_step;
 ghost use mathlib.Core.Path.{_≡_};
-ghost use lib.ListN.{length};
-ghost use Rattle.walk.specs.Walk.{entriesOf};
-ghost use Rattle.compare.specs.Compare.{planOf};
+ghost use Rattle.compare.specs.InnerSides.{ValidSide};
+ghost use Rattle.compare.specs.Places.{start as startPlace};
+ghost use Rattle.compare.specs.Steps.{Steps, idle as idleSide, atPlaces, beginning, noStep, stageStep, sideIn, stepOf};
 
-// The accepted records of either book; how many of them are the same at the beginning and at the end; how many of those at the end give other lines;
-// and whether those between are the same details in another order.
-pub struct Plan {
-    pub old: usize,
-    pub new: usize,
-    pub front: usize,
-    pub back: usize,
+// Of one book in a section: where the telling stands, how many records are left to tell, where the section ends, and whether it is a group's.
+pub struct Side {
+    pub place: Place,
+    pub left: usize,
+    pub end: Place,
+    pub grouped: bool,
+}
+
+// Where a comparison has come to: 0 to 3 are the verdicts, 4 what stands before the groups, 5 a section, 6 the next one, 7 the end. In a section
+// whether records go one by one, how many are only in another order, and how many are the same and give other lines.
+pub struct Cursor {
+    pub stage: usize,
+    pub old: Side,
+    pub new: Side,
+    pub paired: bool,
+    pub moved: usize,
     pub others: usize,
-    pub moved: bool,
 }
 
-// How many records of a book are accepted.
-fn count(book: &[u8]) -> usize
-    ensures { λ r. ⌜ r ≡ length (entriesOf (now (book .entry))) ⌝ }
-{
-    let c = reach(book, book.len());
-    c.number
+// The end of a piece in a buffer, and the cursor after it.
+pub struct Step {
+    pub cursor: Cursor,
+    pub written: usize,
 }
 
-// How two books stand to each other.
-pub fn compare(old: &[u8], new: &[u8]) -> Plan
-    ensures { λ r. ⌜ r ≡ planOf (entriesOf (now (old .entry))) (entriesOf (now (new .entry))) ⌝ }
+// A book of which nothing is told at a place.
+pub(crate) fn idle(p: Place) -> Side
+    ensures { λ r. ⌜ r ≡ idleSide p ⌝ }
 {
-    let n = count(old);
-    let m = count(new);
-    let first = runs(old, 0, new, 0);
-    let most = least(n, m) - first.leading;
-    let last = runs(old, n - most, new, m - most);
-    let back = last.trailing;
-    let rest = runs(old, n - back, new, m - back);
-    let same = moved(old, n, new, m, first.leading, back);
-    Plan {
-        old: n,
-        new: m,
-        front: first.leading,
-        back: back,
-        others: rest.others,
-        moved: same,
+    Side {
+        place: p,
+        left: 0,
+        end: p,
+        grouped: false,
     }
+}
+
+// At two places, in a stage.
+pub(crate) fn at_places(stage: usize, p: Place, q: Place) -> Cursor
+    ensures { λ r. ⌜ r ≡ atPlaces stage p q ⌝ }
+{
+    let old = idle(p);
+    let new = idle(q);
+    Cursor {
+        stage: stage,
+        old: old,
+        new: new,
+        paired: false,
+        moved: 0,
+        others: 0,
+    }
+}
+
+// In a stage, where no place matters.
+pub(crate) fn at_stage(stage: usize) -> Cursor
+    ensures { λ r. ⌜ r ≡ atPlaces stage startPlace startPlace ⌝ }
+{
+    at_places(stage, start(), start())
+}
+
+// Before the first step.
+pub fn begin() -> Cursor
+    ensures { λ r. ⌜ r ≡ beginning ⌝ }
+{
+    at_stage(0)
+}
+
+// Whether a side's places are those of a book.
+fn side_in(book: &[u8], s: Side) -> bool
+    ensures { λ r. ⌜ r ≡ sideIn (now (book .entry)) s ⌝ }
+{
+    let p = s.place;
+    let q = s.end;
+    stands(book, p) & stands(book, q)
+}
+
+// The end.
+fn end_step(out: &mut [u8]) -> Step
+    ensures { λ s. ⌜ Steps noStep (now (out .entry)) (now (out .exit)) s ⌝ }
+{
+    let d = at_stage(7);
+    Step {
+        cursor: d,
+        written: 0,
+    }
+}
+
+// The next step, by its stage.
+fn stage_step(old: &[u8], new: &[u8], c: Cursor, out: &mut [u8]) -> Step
+    requires { ⌜ ValidSide (now old) (c .old) × ValidSide (now new) (c .new) ⌝ }
+    ensures { λ s. ⌜ Steps (stageStep (now (old .entry)) (now (new .entry)) c) (now (out .entry)) (now (out .exit)) s ⌝ }
+{
+    if c.stage < 4 {
+        return verdict_step(old, new, c, out);
+    }
+    if c.stage == 4 {
+        return before_step(old, new, c, out);
+    }
+    if c.stage == 5 {
+        return section_step(old, new, c, out);
+    }
+    if c.stage == 6 {
+        let s = c.old;
+        let t = c.new;
+        return group_step(old, new, s.place, t.place, out);
+    }
+    end_step(out)
+}
+
+// The next piece of the text, from the start of out, and the cursor after it. A cursor that is none of these books ends it.
+pub fn next(old: &[u8], new: &[u8], c: Cursor, out: &mut [u8]) -> Step
+    ensures { λ s. ⌜ Steps (stepOf (now (old .entry)) (now (new .entry)) c) (now (out .entry)) (now (out .exit)) s ⌝ }
+{
+    let s = c.old;
+    let t = c.new;
+    if !(side_in(old, s) & side_in(new, t)) {
+        return end_step(out);
+    }
+    stage_step(old, new, c, out)
 }

@@ -1,21 +1,21 @@
 // Runs of records that are the same details in another order. They are counted: a book has some thousand records at most.
-use crate::cursor::reach;
-use crate::remarks::less;
+use crate::places::Place;
+use crate::places::reach;
+use crate::plans::less;
+use crate::records::detail;
+use crate::records::same;
 use crate::runs::one_if;
-use crate::runs::same;
-use account::sort::Sort;
-use account::sort::sort_of;
 use base::first_of;
 use base::rest_of;
 use book::front::ready;
 ghost use mathlib.Core.Path.{_≡_};
 ghost use Prim.Native.Nat.{_-_, _≤_};
 ghost use lib.ListN.{length, take};
-ghost use Rattle.promises.specs.WholeLines.{isDetail};
 ghost use Rattle.book.specs.WholeRecords.{recordsOf};
-ghost use Rattle.walk.specs.Walk.{entriesOf};
+ghost use Rattle.compare.specs.Inner.{Valid};
+ghost use Rattle.compare.specs.Places.{leftOf};
 ghost use Rattle.compare.specs.Moved.{timesIn, asOften, eachAsOften, sameDetails};
-ghost use Rattle.compare.specs.Compare.{movedOf};
+ghost use Rattle.compare.specs.Plans.{movedOf};
 
 // How often the record r stands among the first many records of xs.
 fn times(r: &[u8], xs: &[u8], many: usize) -> usize
@@ -35,21 +35,6 @@ fn times(r: &[u8], xs: &[u8], many: usize) -> usize
         i += 1;
     }
     n
-}
-
-// Whether the record r is a detail, of the group or of the farm.
-fn detail(r: &[u8]) -> bool
-    requires { ⌜ 4 ≤ length (now r) ⌝ }
-    ensures { λ b. ⌜ b ≡ isDetail (now (r .entry)) ⌝ }
-{
-    let row = by_row::table::row_of(r[2], r[3]);
-    match sort_of(row as u64) {
-        Sort::OfGroup => true,
-        Sort::OfFarm => true,
-        Sort::Opens => false,
-        Sort::Heads => false,
-        Sort::Closes => false,
-    }
 }
 
 // Whether the record r is a detail and stands as often among the first m records of xs as among the first n of ys.
@@ -101,17 +86,30 @@ fn between(n: usize, front: usize, back: usize) -> usize
     less(less(n, front), back)
 }
 
-// Whether the records between the first and the last ones of two books, of n and m accepted records, are the same details in another order.
-pub(crate) fn moved(old: &[u8], n: usize, new: &[u8], m: usize, front: usize, back: usize) -> bool
-    requires { ⌜ (n ≡ length (entriesOf (now old))) × (m ≡ length (entriesOf (now new))) ⌝ }
-    ensures { λ b. ⌜ b ≡ movedOf front back (entriesOf (now (old .entry))) (entriesOf (now (new .entry))) ⌝ }
+// Whether the records between the first and the last ones, of the n after a place and of the m after another, are the same details in another order.
+pub(crate) fn moved(
+    old: &[u8],
+    p: Place,
+    n: usize,
+    new: &[u8],
+    q: Place,
+    m: usize,
+    front: usize,
+    back: usize,
+) -> bool
+    requires { ⌜ Valid (now old) p × Valid (now new) q ⌝ }
+    requires { ⌜ (n ≤ length (leftOf (now old) p)) × (m ≤ length (leftOf (now new) q)) ⌝ }
+    ensures { λ b. ⌜ b ≡ movedOf front back (take n (leftOf (now (old .entry)) p)) (take m (leftOf (now (new .entry)) q)) ⌝ }
 {
     let o = between(n, front, back);
     if o == 0 {
         return false;
     }
-    let c = reach(old, front);
-    let d = reach(new, front);
+    if n != m {
+        return false;
+    }
+    let c = reach(old, p, front);
+    let d = reach(new, q, front);
     same_details(
         rest_of(old, c.at),
         o,

@@ -1,26 +1,30 @@
-// Pairs of records, one of either book: how many are the same at the beginning and at the end, and how many give other lines.
-use crate::cursor::reach;
-use crate::cursor::turn;
+// Pairs of records, one of either book: how many are the same at the beginning and at the end, and how many of them give other lines.
+use crate::places::Place;
+use crate::places::turn;
+use crate::records::same;
 use account::Account;
 use base::first_of;
 use base::rest_of;
-use codec::kinds::CLOSE;
 use line_bytes::LINES_MOST;
 ghost use mathlib.Core.Path.{_≡_};
 ghost use Prim.Native.Nat.{_+_, _≤_, _<_};
-ghost use lib.ListN.{length, take, drop};
+ghost use lib.ListN.{length, take};
 ghost use Rattle.base.specs.Choice.{pick};
 ghost use Rattle.account.specs.Range.{AccountInRange};
-ghost use Rattle.walk.specs.Walk.{entriesOf};
-ghost use Rattle.compare.specs.Same.{same};
-ghost use Rattle.compare.specs.Compare.{shapeOf, oneMore, runsOf};
-ghost use Rattle.compare.specs.Inner.{Looked, CountsIn};
+ghost use Rattle.compare.specs.Records.{same};
+ghost use Rattle.compare.specs.Places.{leftOf};
+ghost use Rattle.compare.specs.Plans.{oneMore, runsOf};
+ghost use Rattle.compare.specs.Inner.{Valid};
+ghost use Rattle.compare.specs.InnerPairs.{Looked, CountsIn};
 
-// How many pairs there are, how many of the first and of the last ones are the same, and how many give other lines.
+// How many pairs there are, how many of the first and of the last ones are the same, and how many of these and of all that are the same give
+// other lines.
 pub(crate) struct Counts {
     pub pairs: usize,
     pub leading: usize,
     pub trailing: usize,
+    pub first: usize,
+    pub last: usize,
     pub others: usize,
 }
 
@@ -34,40 +38,12 @@ pub(crate) struct Pair {
     pub lines: bool,
 }
 
-// Whether both are the same bytes.
-pub(crate) fn same(xs: &[u8], ys: &[u8]) -> bool
-    ensures { λ r. ⌜ r ≡ same (now (xs .entry)) (now (ys .entry)) ⌝ }
-{
-    if xs.len() != ys.len() {
-        return false;
-    }
-    let mut i = 0;
-    while i < xs.len() {
-        if xs[i] != ys[i] {
-            return false;
-        }
-        i += 1;
-    }
-    true
-}
-
-// The first n bytes of r, a record, and of a close all but its count.
-fn shape(r: &[u8], n: usize) -> &[u8]
-    requires { ⌜ (4 ≤ n) × (n ≤ length (now r)) ⌝ }
-    ensures { λ s. ⌜ now s ≡ shapeOf (take n (now (r .entry))) ⌝ }
-{
-    if r[3] == (CLOSE as u8) {
-        return first_of(r, 4);
-    }
-    first_of(r, n)
-}
-
-// Whether the first n bytes of xs and the first m of ys are the same record, but for the count of a close.
+// Whether the first n bytes of xs and the first m of ys are the same.
 fn alike(xs: &[u8], n: usize, ys: &[u8], m: usize) -> bool
-    requires { ⌜ (4 ≤ n) × (n ≤ length (now xs)) × (4 ≤ m) × (m ≤ length (now ys)) ⌝ }
-    ensures { λ r. ⌜ r ≡ same (shapeOf (take n (now (xs .entry)))) (shapeOf (take m (now (ys .entry)))) ⌝ }
+    requires { ⌜ (n ≤ length (now xs)) × (m ≤ length (now ys)) ⌝ }
+    ensures { λ r. ⌜ r ≡ same (take n (now (xs .entry))) (take m (now (ys .entry))) ⌝ }
 {
-    same(shape(xs, n), shape(ys, m))
+    same(first_of(xs, n), first_of(ys, m))
 }
 
 // The next pair of records of xs and ys; no bytes of the first where either has no more.
@@ -90,7 +66,7 @@ pub(crate) fn look(a: Account, xs: &[u8], b: Account, ys: &[u8]) -> Pair
         };
     }
     let records = alike(xs, t.n, ys, u.n);
-    let lines = same(first_of(&left, t.written), first_of(&right, u.written));
+    let lines = alike(&left, t.written, &right, u.written);
     let next = t.next;
     let other = u.next;
     Pair {
@@ -119,39 +95,57 @@ fn anew(b: bool, n: usize) -> usize
     if b { n + 1 } else { 0 }
 }
 
+// None where the records differ, one more where they are the same and their lines are not.
+fn lasting(records: bool, lines: bool, n: usize) -> usize
+    requires { ⌜ n < 18446744073709551615 ⌝ }
+    ensures { λ r. ⌜ r ≡ pick records (pick lines n (n + 1)) 0 ⌝ }
+{
+    if !records {
+        return 0;
+    }
+    if lines { n } else { n + 1 }
+}
+
 // One pair more.
 fn one_more(u: Counts, records: bool, lines: bool) -> Counts
     requires { ⌜ CountsIn u 18446744073709551614 ⌝ }
     ensures { λ r. ⌜ r ≡ oneMore u records lines ⌝ }
 {
-    let leading = one_if(records & (u.leading == u.pairs), u.leading);
+    let lead = records & (u.leading == u.pairs);
+    let leading = one_if(lead, u.leading);
     let trailing = anew(records, u.trailing);
-    let others = one_if(!lines, u.others);
+    let first = one_if(lead & !lines, u.first);
+    let last = lasting(records, lines, u.last);
+    let others = one_if(records & !lines, u.others);
     Counts {
         pairs: u.pairs + 1,
         leading: leading,
         trailing: trailing,
+        first: first,
+        last: last,
         others: others,
     }
 }
 
-// The pairs behind the first i records of the old book and the first j of the new one, up to the end of either.
-pub(crate) fn runs(old: &[u8], i: usize, new: &[u8], j: usize) -> Counts
-    ensures { λ r. ⌜ r ≡ runsOf (drop i (entriesOf (now (old .entry)))) (drop j (entriesOf (now (new .entry)))) ⌝ }
+// At most so many pairs of records after two places, up to the end of either book.
+pub(crate) fn runs(old: &[u8], p: Place, new: &[u8], q: Place, many: usize) -> Counts
+    requires { ⌜ Valid (now old) p × Valid (now new) q ⌝ }
+    ensures { λ r. ⌜ r ≡ runsOf (take many (leftOf (now (old .entry)) p)) (take many (leftOf (now (new .entry)) q)) ⌝ }
 {
-    let c = reach(old, i);
-    let d = reach(new, j);
-    let mut a = c.account;
-    let mut b = d.account;
-    let mut at = c.at;
-    let mut to = d.at;
+    let mut a = p.account;
+    let mut b = q.account;
+    let mut at = p.at;
+    let mut to = q.at;
     let mut u = Counts {
         pairs: 0,
         leading: 0,
         trailing: 0,
+        first: 0,
+        last: 0,
         others: 0,
     };
-    while at < old.len() {
+    let mut k = 0;
+    while k < many {
         let l = look(a, rest_of(old, at), b, rest_of(new, to));
         if l.old == 0 {
             return u;
@@ -161,6 +155,7 @@ pub(crate) fn runs(old: &[u8], i: usize, new: &[u8], j: usize) -> Counts
         b = l.b;
         at += l.old;
         to += l.new;
+        k += 1;
     }
     u
 }

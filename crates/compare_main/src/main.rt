@@ -1,18 +1,25 @@
 // Reads two books, the old one on standard input and the new one on descriptor 5, and prints what differs between them. Hints
 // go to standard error.
-use compare::Plan;
+use compare::Cursor;
 use compare::remarks;
 use libc::STDIN_FILENO;
 use names::hints::look;
 use program::send;
 ghost use mathlib.Core.Path.{_≡_};
-ghost use Prim.Native.Nat.{_≤_, _<_};
 ghost use lib.ListN.{length};
+ghost use Rattle.compare.specs.Steps.{beginning, stepOf};
+ghost use Rattle.compare_main.specs.Series.{Goes};
 
 const NEW_FILENO: i32 = 5;
 
-// The records that are printed with one write.
-const PART: usize = 64;
+// The stage of a cursor that has come to its end.
+const END: usize = 7;
+
+// Where the comparison has come to, and whether no write failed.
+struct Work {
+    cursor: Cursor,
+    written: bool,
+}
 
 // The 4,096 records that a book may have and one more, of 28 bytes each: what stands after them changes no answer.
 fn book_buffer() -> [u8; 114716]
@@ -21,156 +28,48 @@ fn book_buffer() -> [u8; 114716]
     [0u8; 114716]
 }
 
-fn tell_book(new: bool) -> bool {
-    let mut text = [0u8; 512];
-    let n = remarks::say_book(&mut text, new);
-    send(&text[..n])
-}
-
-// Whether a book is accepted, unfinished or refused.
-fn tell_verdict(new: bool, book: &[u8]) -> bool {
-    if !tell_book(new) {
-        return false;
-    }
-    let mut text = [0u8; 512];
-    let n = why::remarks::say_first(&mut text, why::why(book));
-    send(&text[..n])
-}
-
-fn tell_plan(p: Plan) -> bool {
-    let mut text = [0u8; 512];
-    let n = remarks::say_plan(&mut text, p);
-    send(&text[..n])
-}
-
-fn tell_changed(p: Plan) -> bool {
-    let mut text = [0u8; 512];
-    let n = remarks::say_changed(&mut text, p);
-    send(&text[..n])
-}
-
-fn tell_moved(p: Plan) -> bool {
-    let mut text = [0u8; 512];
-    let n = remarks::say_moved(&mut text, p);
-    send(&text[..n])
-}
-
-fn tell_others(p: Plan) -> bool {
-    let mut text = [0u8; 512];
-    let n = remarks::say_others(&mut text, p);
-    send(&text[..n])
-}
-
-fn tell_last(p: Plan) -> bool {
-    let mut text = [0u8; 512];
-    let n = remarks::say_last(&mut text, p);
-    send(&text[..n])
-}
-
-// A part of the records, with one write.
-fn tell_part(new: bool, book: &[u8], from: usize, many: usize) -> bool {
-    let mut text = io::large_buffer();
-    let n = remarks::say_records(&mut text, new, book, from, many);
-    send(&text[..n])
-}
-
-// How many records the next part has.
-fn part_of(left: usize) -> usize
-    requires { ⌜ 0 < left ⌝ }
-    ensures { λ r. ⌜ (0 < r) × (r ≤ left) ⌝ }
+// A piece of the text, with one write.
+fn turn(mut w: Work, old: &[u8], new: &[u8], text: &mut [u8]) -> Work
+    ensures { λ r. ⌜ r .cursor ≡ stepOf (now (old .entry)) (now (new .entry)) (w .cursor) .cursor ⌝ }
 {
-    if left < PART { left } else { PART }
+    let c = w.cursor;
+    let s = compare::next(old, new, c, text);
+    let next = s.cursor;
+    let n = s.written;
+    w.cursor = next;
+    w.written = send(&text[..n]);
+    w
 }
 
-// So many records further; there is no book with so many.
-fn onward(from: usize, many: usize) -> usize {
-    if from <= usize::MAX - many {
-        return from + many;
-    }
-    from
-}
-
-// So many records of a book, from a number on.
-fn tell_records(new: bool, book: &[u8], from: usize, many: usize) -> bool {
-    let mut at = from;
-    let mut left = many;
-    while 0 < left {
-        let n = part_of(left);
-        if !tell_part(new, book, at, n) {
-            return false;
+// A series of steps, each from the cursor that the one before left, until the comparison is at its end or a write fails. A proved loop has to end:
+// the turns count down from a number that no two books use up.
+fn run(from: Work, old: &[u8], new: &[u8], text: &mut [u8]) -> Work
+    ensures { λ r. ⌜ Goes (now (old .entry)) (now (new .entry)) (from .cursor) (r .cursor) ⌝ }
+{
+    let mut w = from;
+    let mut turns = u64::MAX;
+    while turns > 0 {
+        let c = w.cursor;
+        if (c.stage == END) | !w.written {
+            return w;
         }
-        at = onward(at, n);
-        left -= n;
+        turns -= 1;
+        w = turn(w, old, new, text);
     }
-    true
+    w
 }
 
-fn tell_pair_part(old: &[u8], i: usize, new: &[u8], j: usize, many: usize) -> bool {
-    let mut text = io::large_buffer();
-    let n = remarks::say_pairs(&mut text, old, i, new, j, many);
-    send(&text[..n])
-}
-
-// So many of the records that are the same, where their lines are not.
-fn tell_pairs(old: &[u8], i: usize, new: &[u8], j: usize, many: usize) -> bool {
-    let mut at = i;
-    let mut to = j;
-    let mut left = many;
-    while 0 < left {
-        let n = part_of(left);
-        if !tell_pair_part(old, at, new, to, n) {
-            return false;
-        }
-        at = onward(at, n);
-        to = onward(to, n);
-        left -= n;
-    }
-    true
-}
-
-// The records that differ, those of the old book first; or that they are the same in another order.
-fn tell_between(old: &[u8], new: &[u8], p: Plan) -> bool {
-    if p.moved {
-        return tell_moved(p);
-    }
-    if !tell_changed(p) {
-        return false;
-    }
-    if !tell_records(false, old, p.front, remarks::old_between(p)) {
-        return false;
-    }
-    tell_records(true, new, p.front, remarks::new_between(p))
-}
-
-// The records that are the same and give other lines, and the last word.
-fn tell_rest(old: &[u8], new: &[u8], p: Plan) -> bool {
-    if !tell_others(p) {
-        return false;
-    }
-    if 0 < p.others {
-        if !tell_pairs(old, remarks::old_last(p), new, remarks::new_last(p), p.back) {
-            return false;
-        }
-    }
-    tell_last(p)
-}
-
-// What differs, after what becomes of either book.
+// What differs, and whether all of it was written.
 fn tell(old: &[u8], new: &[u8]) -> bool {
-    if !tell_verdict(false, old) {
-        return false;
-    }
-    if !tell_verdict(true, new) {
-        return false;
-    }
-    let p = compare::compare(old, new);
-    if !tell_plan(p) {
-        return false;
-    }
-    if !tell_between(old, new, p) {
-        return false;
-    }
-    tell_rest(old, new, p)
+    let mut text = io::large_buffer();
+    let start = compare::begin();
+    let first = Work {
+        cursor: start,
+        written: true,
+    };
+    let last = run(first, old, new, &mut text);
+    let c = last.cursor;
+    last.written & (c.stage == END)
 }
 
 // A hint where one of the two is no book but a typed text, a sheet or nothing.

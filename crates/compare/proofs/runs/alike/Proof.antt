@@ -1,3 +1,4 @@
+-- Assumes nothing.
 use borrow.Author.Needs.{needs}
 use Rattle.compare.proofs.runs.alike.Statement.{statement}
 use Rattle.compare.proofs.runs.alike.Tie as tie
@@ -6,7 +7,7 @@ pub alike-spec : {M : Type 1} → statement M
 alike-spec =
     tie.close
     (tie.spec
+    (λ c κs. c .before .before .pre .0)
+    (λ c κs. c .before .before .before .pre .1)
     (λ c κs. search needs)
-    (λ c κs. search needs)
-    (λ c κs. tt)
-    (λ c. rw (c .before .before .shape .ensures, c .before .shape2 .ensures) at (c .same .ensures)))
+    (λ c. rw (c .before .before .first-of .ensures, c .before .first-of2 .ensures) at (c .same .ensures)))

@@ -1,0 +1,11 @@
+-- What the turns of the program have come to: a series of steps, one after the other.
+use Prim.Native.Nat.{ℕ}
+use mathlib.Core.Path.{_≡_}
+use mathlib.Core.List.{List}
+use Rattle.compare.specs.declared.Cursor.{Cursor}
+use Rattle.compare.specs.Steps.{cursorAfter}
+
+-- d is the cursor after so many steps from c
+pub record Goes (old new : List ℕ) (c d : Cursor) : Type 0 where
+  pub steps : ℕ
+  pub is : d ≡ cursorAfter steps old new c
