@@ -1,5 +1,5 @@
--- The groups add up: the bar of each row goes on by the row's CO2e from the step before it, and after the farm's CO2 the step is that of the total. So
--- do the gases. And the heading that a row bears.
+-- The groups add up: the bar of each row goes on by the row's CO2e from the step before it, and after the farm's CO2 the step is that of the total.
+-- So do the gases. And the heading that a row bears.
 -- Assumes nothing.
 use Prim.Native.Nat.{ℕ, zero, suc, _+_, _-_, _*_, _^_, _%_, _≤_, _<_}
 use mathlib.Core.Path.{_≡_, refl, sym, ap, _∙_, subst}
@@ -203,8 +203,8 @@ at-places (suc n) xs =
     by-test (goesOn p xs) (λ o. moved-keeps xs p k o)
     (λ o. subst (λ (q : Place). KeptAt xs q) (place-stays p xs o refl) (record { range = k .range; inside = k .inside; standing = k .standing }))
 
--- Wherever the program stands in a book, the row that would be printed there goes, from the step at which its bar begins, by its CO2e: so each step is
--- the sum of the CO2e of the rows before it.
+-- Wherever the program stands in a book, the row that would be printed there goes, from the step at which its bar begins, by its CO2e: so each step
+-- is the sum of the CO2e of the rows before it.
 pub page-adds-up : (n : ℕ) (xs : List ℕ)
     → let p = placeBy n xs in let g = groupOf (p .account) (p .from) (p .grazed) in g .to ≡ plus8 (g .from) (g .co2e)
 unfolding groupOf

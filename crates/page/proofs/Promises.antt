@@ -30,7 +30,8 @@ use Rattle.page.specs.declared.Survey.{Survey}
 use Rattle.page.specs.Over.{over, overBytes}
 use Rattle.page.specs.Figures.{groupStep, groupOf, surveyOf, groupScale}
 use Rattle.page.specs.Parts.{nameText, titleText, headText, topText, restText, beforeText, afterText}
-use Rattle.page.specs.Page.{Rows, rowBy, nextRows, rowsFrom, rowsOf, isRefused, pageOf, noPlace, goesOn, kindAt, stoppedAt, movedBy, placeAfter, rowAt}
+use Rattle.page.specs.Page.{Rows, rowBy, nextRows, rowsFrom, rowsOf, isRefused, pageOf}
+use Rattle.page.specs.Page.{noPlace, goesOn, kindAt, stoppedAt, movedBy, placeAfter, rowAt}
 use Rattle.page.specs.Promised.{rowsBy, subtotalOf, SameBook}
 use Rattle.page.proofs.Overs.{over-nil, over-end, over-next}
 use Rattle.page.proofs.Pages.{row-stays, next-stands, next-inside}
@@ -113,7 +114,8 @@ module _ (sc : Scale) (xs : List ℕ) (p : Place) where
 
     -- no record is accepted there
     ends : goesOn p xs ≡ false → rowsAt ≡ []
-    ends o = ap (λ (x : Rows). x .text) (over-end (nextRows sc) (record { from = p .from; grazed = p .grazed; text = [] }) (p .account) rest found refl
+    ends o = ap (λ (x : Rows). x .text) (over-end (nextRows sc) (record { from = p .from; grazed = p .grazed; text = [] })
+        (p .account) rest found refl
         (neither (eqb (found .size) 0) (eqb (found .account .stage) 3) (sym goes-is ∙ o)))
       where
         neither : (b c : Bool) → not b && not c ≡ false → b || c ≡ true
@@ -137,7 +139,8 @@ module _ (sc : Scale) (xs : List ℕ) (p : Place) where
       place-is = rw o refl
 
       -- its row, and then those of the place after it
-      goes : rowsAt ≡ rowAt sc p xs ++ rowsFrom sc (placeAfter p xs .from) (placeAfter p xs .grazed) (placeAfter p xs .account) (drop (placeAfter p xs .at) xs)
+      goes : rowsAt ≡ rowAt sc p xs
+          ++ rowsFrom sc (placeAfter p xs .from) (placeAfter p xs .grazed) (placeAfter p xs .account) (drop (placeAfter p xs .at) xs)
       goes =
           let r = take (found .size) rest in
           let k : kindByte r ≡ kindAt p xs = getD-take (found .size) rest 3 0 (omega (arith, stand .least)) in

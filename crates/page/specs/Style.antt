@@ -44,7 +44,8 @@ tableStyle =
     ++ (ascii ".not { margin-top:2rem; padding:1.5rem 1.75rem; border:4px solid var(--warn); background:var(--warnbg) }\n"
     ++ (ascii ".not h2 { font-size:2.25rem; color:var(--warn) }\n.not h2 + p { color:var(--ink) }\n"
     ++ (ascii "ol { margin:.25rem 0 0; padding-left:1.25rem }\n"
-    ++ ascii "footer { margin-top:2.5rem; border-top:1px solid var(--rule); padding-top:.6rem; color:var(--soft); font-size:.8125rem }\n"))))))))))))))))))
+    ++ (ascii "footer { margin-top:2.5rem; border-top:1px solid var(--rule); padding-top:.6rem; "
+    ++ ascii "color:var(--soft); font-size:.8125rem }\n")))))))))))))))))))
 
 -- narrow screens
 unfoldable pub narrowStyle : List ℕ

@@ -17,4 +17,4 @@ describe-spec =
     (λ c. search needs)
     (λ c. search needs)
     (λ c. search needs)
-    (λ c. let c3 = c .before .before .before in record { number = refl; first = refl; last = refl; row = c3 .row-of .ensures; group = refl }))
+    (λ c. let c3 = c .before .before .before in record { number = refl; first = refl; last = omega arith; row = c3 .row-of .ensures; group = refl }))
