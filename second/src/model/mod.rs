@@ -20,6 +20,7 @@ pub mod record;
 pub mod records;
 pub mod reported;
 pub mod salvage;
+pub mod sheet_faults;
 pub mod sheets;
 pub mod slip;
 pub mod state;

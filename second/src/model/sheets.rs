@@ -2,6 +2,7 @@
 
 use crate::model::feed::feed;
 use crate::model::programs::listed;
+use crate::model::sheet_faults::fault;
 use crate::model::state::{State, LARGE};
 use crate::model::words::sentence;
 
@@ -131,10 +132,14 @@ pub fn import(text: &[u8]) -> Result<(Vec<u8>, usize), Refusal> {
 pub type Told = (Vec<u8>, String, bool);
 
 /// A sentence for people, and then the line for machines.
-fn refused(Refusal { code, row }: Refusal) -> Told {
-    let head = row.map(|row| format!("row {row}: ")).unwrap_or_default();
+fn refused(text: &[u8], Refusal { code, row }: Refusal) -> Told {
+    let people = match (code, row) {
+        (20, Some(row)) => fault(text, row),
+        (_, Some(row)) => format!("row {row}: {}", sentence(code)),
+        (_, None) => sentence(code).to_string(),
+    };
     let row = row.map(|row| format!(" row {row}")).unwrap_or_default();
-    (Vec::new(), format!("{head}{}\nrefused {code}{row}\n", sentence(code)), false)
+    (Vec::new(), format!("{people}\nrefused {code}{row}\n"), false)
 }
 
 fn too_long(what: &str, most: usize) -> Told {
@@ -151,7 +156,7 @@ pub fn sheeted(lines: &[u8]) -> Told {
             let rows = text.iter().filter(|&&b| b == b'\n').count();
             (text, format!("{} lines\n", rows - 1), true)
         }
-        Err(refusal) => refused(refusal),
+        Err(refusal) => refused(lines, refusal),
     }
 }
 
@@ -162,7 +167,7 @@ pub fn unsheeted(text: &[u8]) -> Told {
     }
     match import(text) {
         Ok((lines, count)) => (lines, format!("{count} lines\n"), true),
-        Err(refusal) => refused(refusal),
+        Err(refusal) => refused(text, refusal),
     }
 }
 

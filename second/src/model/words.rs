@@ -17,7 +17,7 @@ pub fn class_name(class: u8) -> &'static str {
     CLASSES[usize::from(class) - 1]
 }
 
-/// The sentence of a number that the writer can give to a typed line, where 4, 7, 9 and 10 have others, or that a sheet or lines can get.
+/// The sentence of a number that the writer can give to a typed line, where 4, 7, 9 and 10 have others, or of 21 and 23 of sheets and lines.
 pub fn sentence(code: u8) -> &'static str {
     match code {
         3 => "no such kind of record: kinds are 1 to 10",
@@ -34,10 +34,6 @@ pub fn sentence(code: u8) -> &'static str {
         ),
         11 => "more nitrogen in milk and gain than in the feed",
         12 => "the close counts other records than there are before it; left out, the count is filled in",
-        20 => concat!(
-            "not of a sheet's form: first the row kind,group,ch4,n2o,co2,excreted,land,grazing,co2e, ",
-            "then rows of nine columns, digits without leading zeros, the last empty but on kind 8; CRLF behind each"
-        ),
         21 => concat!(
             "a number is outside its field: kind is 3 to 10 or 16, group up to 65535, ",
             "a figure up to 18446744073709551615, co2 and co2e -9223372036854775808 to 9223372036854775807"
