@@ -230,8 +230,7 @@ fn tell_sheet(program: fn(&[u8]) -> sheets::Told) -> Result<(), String> {
     io::stdin().read_to_end(&mut input).map_err(|e| e.to_string())?;
     let (written, said, right) = program(&input);
     write_bytes(&written)?;
-    let said: Vec<u8> = said.chars().map(|char| char as u8).collect();
-    io::stderr().write_all(&said).map_err(|e| e.to_string())?;
+    eprint!("{said}");
     if !right {
         std::process::exit(1);
     }

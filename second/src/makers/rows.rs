@@ -118,13 +118,31 @@ fn damaged(dice: &mut Dice, text: &str) -> Vec<u8> {
     rows.concat().into_bytes()
 }
 
-/// A sheet by chance: right, or damaged once or twice.
+/// A text as other programs save a sheet: with semicolons, a byte order mark, line feeds alone, quotes, or all of its last rows so.
+fn saved_otherwise(text: &str, way: u64) -> String {
+    let (head, rows) = text.split_at(text.find('\n').map_or(0, |at| at + 1));
+    match way % 8 {
+        0 => text.replace(',', ";"),
+        1 => format!("\u{feff}{text}"),
+        2 => text.replace("\r\n", "\n"),
+        3 => text.replace(',', "\",\"").replace("\r\n", "\"\r\n\""),
+        4 => head.to_string() + &rows.replace(',', ";"),
+        5 => head.to_string() + &rows.replace("\r\n", "\n"),
+        6 => head.to_string() + &rows.replace(',', "\",\""),
+        _ => head.to_string() + &rows.replace(",\r\n", ";\r\n"),
+    }
+}
+
+/// A sheet by chance: right, damaged once or twice, or as another program saves one.
 pub fn sheet(seed: u64, index: u64) -> Vec<u8> {
     let mut dice = Dice::of_case(seed, index);
     let mut text = HEADER.to_string();
     let most = if dice.one_in(20) { 900 } else { 7 };
     for _ in 0..dice.below(most) {
         text += &row(&line_by_chance(&mut dice));
+    }
+    if index % 16 == 9 {
+        return saved_otherwise(&text, index / 16).into_bytes();
     }
     let mut bytes = text.into_bytes();
     for _ in 0..dice.below(3) {

@@ -3,7 +3,6 @@
 pub mod changes;
 pub mod compare;
 pub mod covered;
-pub mod faults;
 pub mod feed;
 pub mod fields;
 pub mod figures;
@@ -21,6 +20,7 @@ pub mod record;
 pub mod records;
 pub mod reported;
 pub mod salvage;
+pub mod sheet_faults;
 pub mod sheets;
 pub mod slip;
 pub mod state;

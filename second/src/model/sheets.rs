@@ -1,8 +1,8 @@
 //! Document 02, W13: line records as a sheet for the spreadsheet, and back.
 
-use crate::model::faults::fault;
 use crate::model::feed::feed;
 use crate::model::programs::listed;
+use crate::model::sheet_faults::fault;
 use crate::model::state::{State, LARGE};
 use crate::model::words::sentence;
 
@@ -62,7 +62,7 @@ pub fn export(lines: &[u8]) -> Result<Vec<u8>, Refusal> {
 }
 
 /// Whether a column is a number as it is to be written.
-pub fn is_number(column: &str, signed: bool) -> bool {
+fn is_number(column: &str, signed: bool) -> bool {
     let digits = match column.strip_prefix('-') {
         Some(amount) if signed && amount != "0" => amount,
         _ => column,
@@ -128,18 +128,18 @@ pub fn import(text: &[u8]) -> Result<(Vec<u8>, usize), Refusal> {
     Ok((lines, at - 2))
 }
 
-/// What a program writes, what it says, a char for each byte, and whether its status is 0.
+/// What a program writes, what it says, and whether its status is 0.
 pub type Told = (Vec<u8>, String, bool);
 
-/// A sentence for people, and then the line for machines: 20 of a sheet says where it is not of the form.
-fn refused(Refusal { code, row }: Refusal, text: &[u8]) -> Told {
-    let words = match (code, row) {
+/// A sentence for people, and then the line for machines.
+fn refused(text: &[u8], Refusal { code, row }: Refusal) -> Told {
+    let people = match (code, row) {
         (20, Some(row)) => fault(text, row),
         (_, Some(row)) => format!("row {row}: {}", sentence(code)),
-        _ => sentence(code).to_string(),
+        (_, None) => sentence(code).to_string(),
     };
     let row = row.map(|row| format!(" row {row}")).unwrap_or_default();
-    (Vec::new(), format!("{words}\nrefused {code}{row}\n"), false)
+    (Vec::new(), format!("{people}\nrefused {code}{row}\n"), false)
 }
 
 fn too_long(what: &str, most: usize) -> Told {
@@ -156,7 +156,7 @@ pub fn sheeted(lines: &[u8]) -> Told {
             let rows = text.iter().filter(|&&b| b == b'\n').count();
             (text, format!("{} lines\n", rows - 1), true)
         }
-        Err(refusal) => refused(refusal, lines),
+        Err(refusal) => refused(lines, refusal),
     }
 }
 
@@ -167,7 +167,7 @@ pub fn unsheeted(text: &[u8]) -> Told {
     }
     match import(text) {
         Ok((lines, count)) => (lines, format!("{count} lines\n"), true),
-        Err(refusal) => refused(refusal, text),
+        Err(refusal) => refused(text, refusal),
     }
 }
 

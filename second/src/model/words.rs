@@ -17,7 +17,7 @@ pub fn class_name(class: u8) -> &'static str {
     CLASSES[usize::from(class) - 1]
 }
 
-/// The sentence of a number that the writer can give to a typed line, where 4, 7, 9 and 10 have others, or that a sheet or lines can get.
+/// The sentence of a number that the writer can give to a typed line, where 4, 7, 9 and 10 have others, or of 21 and 23 of sheets and lines.
 pub fn sentence(code: u8) -> &'static str {
     match code {
         3 => "no such kind of record: kinds are 1 to 10",

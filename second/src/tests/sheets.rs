@@ -64,15 +64,88 @@ fn numbers_outside_their_fields() {
 
 #[test]
 fn a_sentence_stands_before_a_refusal() {
-    let names = "kind,group,ch4,n2o,co2,excreted,land,grazing,co2e";
-    assert_eq!(
-        unsheeted(b"").1,
-        format!("row 1: the first row has to be {names}\nrefused 20 row 1\n")
-    );
+    let form = "row 1: the first row has to be kind,group,ch4,n2o,co2,excreted,land,grazing,co2e\nrefused 20 row 1\n";
+    assert_eq!(unsheeted(b"").1, form);
     let field = "row 2: a number is outside its field: kind is 3 to 10 or 16, group up to 65535, \
         a figure up to 18446744073709551615, co2 and co2e -9223372036854775808 to 9223372036854775807\n\
         refused 21 row 2\n";
     assert_eq!(unsheeted(format!("{HEADER}3,65536,0,0,0,0,0,0,\r\n").as_bytes()).1, field);
+}
+
+/// The words of the fault of a first row, after `row 1: `.
+fn of_header(text: &str) -> String {
+    let said = unsheeted(text.as_bytes()).1;
+    said.strip_prefix("row 1: ").unwrap().strip_suffix("\nrefused 20 row 1\n").unwrap().to_string()
+}
+
+#[test]
+fn faults_of_the_first_row() {
+    let names = HEADER.trim_end();
+    assert!(of_header(&format!("\u{feff}{HEADER}"))
+        .starts_with("a byte order mark stands before the sheet: "));
+    assert!(of_header(&format!("\u{feff}\"{HEADER}")).starts_with("a byte order mark"));
+    assert!(of_header("\"kind\";\"group\"\r\n")
+        .starts_with("cells have no quotes, and here are some: "));
+    assert!(of_header(&names.replace(',', ";"))
+        .starts_with("cells are separated by commas, and here are semicolons: "));
+    assert!(of_header(&format!("{names}\n")).starts_with("the row ends in a line feed alone: "));
+    for other in
+        [names.to_string(), format!("{names}\r"), "kind\n;".to_string(), format!("{names} \n")]
+    {
+        assert_eq!(of_header(&other), format!("the first row has to be {names}"));
+    }
+}
+
+/// The words of the fault of a row after a right one, from its column on.
+fn of_row(row: &str) -> String {
+    let said = unsheeted(format!("{HEADER}3,12,434501,0,0,0,0,0,\r\n{row}").as_bytes()).1;
+    said.strip_prefix("row 3, column ")
+        .unwrap()
+        .strip_suffix("\nrefused 20 row 3\n")
+        .unwrap()
+        .to_string()
+}
+
+#[test]
+fn faults_of_a_column() {
+    let number =
+        "expected a whole number without leading zeros (co2 may have a minus sign), then a comma";
+    for (row, cell) in [
+        ("3,12,0434501,0,0,0,0,0,\r\n", "ch4: \"0434501\""),
+        ("3,12,1,0,-0,0,0,0,\r\n", "co2: \"-0\""),
+        ("3,12,1,-7,0,0,0,0,\r\n", "n2o: \"-7\""),
+        ("3,12\r\n", "group: \"12\""),
+        ("\r\n", "kind: \"\""),
+        ("3,x y_abcdefghijklmnopqrstuvwxyz,", "group: \"x y_abcdefghijklmnopqrst\""),
+    ] {
+        assert_eq!(of_row(row), format!("{cell}: {number}"));
+    }
+    assert!(of_row("3;12;1\r\n").starts_with("kind: \"3;12;1\": cells are separated by commas"));
+    assert!(of_row("3,\"12;\",1").starts_with("group: \"\"12;\"\": cells have no quotes"));
+}
+
+#[test]
+fn faults_of_the_last_column() {
+    let total = "expected a whole number without leading zeros, perhaps with a minus sign, then the end of the row";
+    let nothing = "expected nothing before the end of the row: only a row of kind 8 has a co2e";
+    for (row, cell, words) in [
+        ("8,0,0,0,0,0,0,0,\r\n", "", total),
+        ("8,0,0,0,0,0,0,0,-0\n", "-0", total),
+        ("8,0,0,0,0,0,0,0,5,\r\n", "5", total),
+        ("3,0,0,0,0,0,0,0,5\r\n", "5", nothing),
+        ("264,0,0,0,0,0,0,0,5\n", "5", nothing),
+        ("3,0,0,0,0,0,0,0,\r", "", nothing),
+    ] {
+        assert_eq!(of_row(row), format!("co2e: \"{cell}\": {words}"), "{row:?}");
+    }
+    assert!(
+        of_row("3,0,0,0,0,0,0,0,\n").starts_with("co2e: \"\": the row ends in a line feed alone: ")
+    );
+    assert!(of_row("8,0,0,0,0,0,0,0,-5\n")
+        .starts_with("co2e: \"-5\": the row ends in a line feed alone: "));
+    assert!(
+        of_row("8,0,0,0,0,0,0,0,5;\n").starts_with("co2e: \"5;\": cells are separated by commas")
+    );
 }
 
 #[test]
@@ -89,30 +162,4 @@ fn the_makers_meet_every_answer() {
 #[test]
 fn a_sheet_that_was_cut_to_nothing_is_not_damaged_again() {
     assert!(sheet(1_478_361_860, 199).is_empty());
-}
-
-#[test]
-fn a_sheet_s_fault_is_named() {
-    let first =
-        |text: &str| unsheeted(text.as_bytes()).1.lines().next().unwrap_or_default().to_string();
-    let row = |text: &str| first(&format!("{HEADER}{text}"));
-    assert!(first(&format!("\u{feff}{HEADER}")).starts_with("row 1: a byte order mark"));
-    assert!(first(&HEADER.replace(',', ";")).starts_with("row 1: cells are separated by commas"));
-    assert!(
-        first(&HEADER.replace("\r", "")).starts_with("row 1: the row ends in a line feed alone")
-    );
-    assert!(row("3,7,0,0,0,0,0,0,\n")
-        .starts_with("row 2, column co2e: \"\": the row ends in a line feed alone"));
-    assert!(row("8,0,0,0,0,0,0,0,5\n")
-        .starts_with("row 2, column co2e: \"5\": the row ends in a line feed alone"));
-    assert!(row("3,7,01,0,0,0,0,0,\r\n")
-        .starts_with("row 2, column ch4: \"01\": expected a whole number"));
-    assert!(row("3,7,\"1\",0,0,0,0,0,\r\n")
-        .starts_with("row 2, column ch4: \"\"1\"\": cells have no quotes"));
-    assert!(row("3;7;1\r\n")
-        .starts_with("row 2, column kind: \"3;7;1\": cells are separated by commas"));
-    assert!(row("3,7,0,0,0,0,0,0,1\r\n")
-        .starts_with("row 2, column co2e: \"1\": expected nothing before"));
-    assert!(row("8,0,0,0,0,0,0,0,\r\n")
-        .starts_with("row 2, column co2e: \"\": expected a whole number"));
 }
