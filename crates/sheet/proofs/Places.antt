@@ -24,7 +24,7 @@ use Rattle.sheet.specs.declared.rows.Column.{Column}
 use Rattle.sheet.specs.Numbers.{first, Cell}
 use Rattle.sheet.specs.Rows.{columnCount, readColumn}
 use Rattle.sheet.specs.Code.{IsRead, IsSpot}
-use Rattle.sheet.specs.Faults.{afterMarks, ends, partLength, has, columnAt, Place, badBy, shownMost, placeText}
+use Rattle.sheet.specs.Faults.{afterMarks, ends, partLength, has, columnAt, Place, badBy, placeText}
 use Rattle.sheet.specs.Faults.{partAt, lastFault, cellFault}
 use Rattle.sheet.specs.declared.faults.Fault.the-variants.{Number}
 
@@ -168,15 +168,6 @@ module _ {text : List ℕ} {kind at j : ℕ} (g : Going text kind at j) where
         }
 
 -- ---- what is shown
-
-pub shown-is : (s : List ℕ) (n m : ℕ) {k : ℕ} → n ≡ min shownMost k → k ≡ m → take n s ≡ take shownMost (take m s)
-shown-is s n m {k} e f =
-    ⊎-elim
-    (λ (h : m < shownMost).
-    let short : n ≡ m = omega arith in
-    rw short (sym (take-all shownMost (take m s) (omega (arith, length-take m s)))))
-    (λ (h : shownMost ≤ m). let all : n ≡ shownMost = omega arith in rw all (sym (take-take shownMost m s h)))
-    (lt-or-ge m shownMost)
 
 pub both-same : {a b : Bool} {m n : ℕ} → a ≡ b → m ≡ n → (a && eqb m 10) ≡ (b && eqb n 10)
 both-same e f = rw (e, f) refl

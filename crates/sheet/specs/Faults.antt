@@ -9,6 +9,7 @@ use Rattle.base.specs.Choice.{pick}
 use Rattle.line_rows.specs.Rows.{columnNames}
 use Rattle.printing.specs.Ascii.{ascii}
 use Rattle.printing.specs.Decimal.{decimal}
+use Rattle.names.specs.Names.{shown}
 use Rattle.sheet.specs.declared.rows.Column.{Column}
 use Rattle.sheet.specs.declared.faults.Fault.{Fault}
 use Rattle.sheet.specs.declared.faults.Fault.the-variants.{Mark, Quotes, Semicolons, FeedAlone, Header, Number, Total, NoTotal}
@@ -101,17 +102,13 @@ badIn s = badBy (columnCount - 1) (kindIn s) 0 s
 abbrev pub firstText : List ℕ → List ℕ
 firstText text = ascii "row 1: " ++ (words (firstFault text) ++ ascii "\n")
 
--- at most so many bytes of a cell are shown
-abbrev pub shownMost : ℕ
-shownMost = 24
-
 -- of the cell at a place in a row of that kind
 abbrev pub placeText : ℕ → Place → List ℕ
 placeText kind p =
     ascii ", column "
     ++ (columnName (p .column)
     ++ (ascii ": \""
-    ++ (take shownMost (partAt true (p .rest)) ++ (ascii "\": " ++ (words (cellFault (columnAt kind (p .column)) (p .rest)) ++ ascii "\n")))))
+    ++ (shown (partAt true (p .rest)) ++ (ascii "\": " ++ (words (cellFault (columnAt kind (p .column)) (p .rest)) ++ ascii "\n")))))
 
 -- of a row whose text begins with s
 abbrev pub rowFaultText : ℕ → List ℕ → List ℕ

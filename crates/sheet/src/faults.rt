@@ -7,12 +7,12 @@ use crate::rows::read_cell;
 use crate::rows::read_column;
 use crate::rows::starts;
 use base::first_of;
-use base::least;
 use base::rest_of;
 use line_bytes::LINE_NUMBERS;
 use line_rows::Form;
 use line_rows::ROW_MOST;
 use line_rows::put_header;
+use names::say_shown;
 use printing::say;
 use printing::say_number;
 ghost use mathlib.Core.Path.{_≡_};
@@ -20,16 +20,14 @@ ghost use Prim.Native.Nat.{_-_, _≤_, _<_};
 ghost use lib.ListN.{length, drop, take};
 ghost use Rattle.base.specs.Choice.{pick};
 ghost use Rattle.printing.specs.Said.{Said};
+ghost use Rattle.names.specs.Names.{shown};
 ghost use Rattle.sheet.specs.Rows.{columnCount, kindIn};
 ghost use mathlib.Core.Bool.{true};
 ghost use Rattle.sheet.specs.declared.faults.Fault.the-variants.{Header};
 ghost use Rattle.sheet.specs.Code.{Fair, IsSpot};
 ghost use Rattle.sheet.specs.Faults.{afterMarks, ends, partLength, partAt, has, firstFault, lastFault, cellFault, words};
-ghost use Rattle.sheet.specs.Faults.{columnName, badIn, shownMost};
+ghost use Rattle.sheet.specs.Faults.{columnName, badIn};
 ghost use Rattle.sheet.specs.Faults.{firstText, placeText, rowFaultText, faultText};
-
-// The bytes of a cell that are shown at most.
-const SHOWN_MOST: usize = 24;
 
 // What is wrong with a row.
 pub enum Fault {
@@ -269,13 +267,13 @@ fn say_name(out: &mut [u8], at: usize, j: usize) -> usize
     say(out, at, first_of(rest, part_length(rest, true)))
 }
 
-// The first bytes of a cell, with which the text begins.
+// The cell with which the text begins, as a typed word is shown.
 fn say_cell(out: &mut [u8], at: usize, text: &[u8]) -> usize
     requires { ⌜ at ≤ length (now out) ⌝ }
-    ensures { λ r. ⌜ Said (now (out .entry)) (now (out .exit)) at (take shownMost (partAt true (now (text .entry)))) r ⌝ }
+    ensures { λ r. ⌜ Said (now (out .entry)) (now (out .exit)) at (shown (partAt true (now (text .entry)))) r ⌝ }
 {
-    let n = least(SHOWN_MOST, part_length(text, true));
-    say(out, at, first_of(text, n))
+    let n = part_length(text, true);
+    say_shown(out, at, first_of(text, n))
 }
 
 // The column, its cell, and what is wrong with it.

@@ -37,9 +37,9 @@ pub fn fault(text: &[u8], row: usize) -> String {
     format!("row {row}, column {name}: \"{}\": {words}", shown(&rest[..end]))
 }
 
-/// A cell's first 24 bytes, with a question mark for each that is not to be seen; a blank stays one.
+/// A cell's first 24 bytes, with a question mark for each that is not to be seen, as of a typed word; a blank is one of them.
 fn shown(cell: &[u8]) -> String {
-    let show = |&byte: &u8| if (32..=126).contains(&byte) { char::from(byte) } else { '?' };
+    let show = |&byte: &u8| if (33..=126).contains(&byte) { char::from(byte) } else { '?' };
     cell.iter().take(24).map(show).collect()
 }
 
