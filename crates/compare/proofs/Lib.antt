@@ -9,4 +9,6 @@ pub mod MovedRecords
 pub mod Sides
 pub mod Pieces
 pub mod NextGroups
+pub mod Truths
+pub mod Whole
 pub mod OneAnswer
