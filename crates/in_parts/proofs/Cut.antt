@@ -117,7 +117,7 @@ module _ (a : Account) (xs : List ℕ) where
     standing : Stands a xs t
     standing = stands a xs t refl some
 
-    size-most : t .size ≤ recordMost
+    pub size-most : t .size ≤ recordMost
     size-most = omega (arith, standing .size, need-most xs (standing .front))
 
     pub size-least : 6 ≤ t .size
@@ -126,7 +126,7 @@ module _ (a : Account) (xs : List ℕ) where
     pub size-in : length (take (t .size) xs) ≡ t .size
     size-in = length-take-le (t .size) xs (standing .inside)
 
-    one-counted : t .account .records ≡ a .records + 1
+    pub one-counted : t .account .records ≡ a .records + 1
     one-counted =
         let e = standing .account in
         ap (λ (b : Account). b .records) e ∙ counted a (take (t .size) xs) (rw e at still)
@@ -141,7 +141,7 @@ module _ (a : Account) (v : AccountInRange a) where
   deciding-some = omega (arith, v .started .counted .records-most)
 
   -- fewer decide after a record that is accepted
-  deciding-less : (xs : List ℕ) → ends a xs ≡ false → decidingBytes (nextOf a xs .account) + recordMost ≡ decidingBytes a
+  pub deciding-less : (xs : List ℕ) → ends a xs ≡ false → decidingBytes (nextOf a xs .account) + recordMost ≡ decidingBytes a
   deciding-less xs h =
       omega (arith, one-counted a xs h, v .started .counted .records-most, range-next a xs v .started .counted .records-most)
 

@@ -9,3 +9,4 @@ pub mod RetypeEnd
 pub mod Records
 pub mod RecordsWhole
 pub mod RecordsShown
+pub mod Table
