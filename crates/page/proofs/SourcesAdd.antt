@@ -97,7 +97,8 @@ module _ (a : Account) (r : List ℕ) where
   still-judged : (judge a r .account .stage ≡ 3 → ⊥) → Still (judge a r)
   unfolding judge
   still-judged n =
-      of-choice (λ (s : Step). (s .account .stage ≡ 3 → ⊥) → Still s) (eqb (first (refusals a r)) 0) (λ e m. still-accepted e) (λ e m. absurd (m refl)) n
+      of-choice (λ (s : Step). (s .account .stage ≡ 3 → ⊥) → Still s) (eqb (first (refusals a r)) 0) (λ e m. still-accepted e)
+      (λ e m. absurd (m refl)) n
 
 -- ---- the seven sums make those of the account
 
