@@ -36,7 +36,7 @@ rise-same f = record { ch4 = omega arith; n2o = omega arith; grazing = omega ari
 rise-more : (f g : Figures) → SumsRise f (added f g)
 rise-more f g = record { ch4 = omega arith; n2o = omega arith; grazing = omega arith }
 
-sums-rise : (a : Account) (r : List ℕ) → SumsRise (a .sums) (judge a r .account .sums)
+pub sums-rise : (a : Account) (r : List ℕ) → SumsRise (a .sums) (judge a r .account .sums)
 unfolding judge accepted
 sums-rise a r =
     of-choice (λ (s : Step). SumsRise (a .sums) (s .account .sums)) (eqb (first (refusals a r)) 0)

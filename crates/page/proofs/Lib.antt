@@ -5,4 +5,5 @@ mod Knowns
 pub mod Pages
 pub mod Promises
 pub mod AddsUp
+pub mod SourcesAdd
 pub mod OneAnswer
