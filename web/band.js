@@ -32,7 +32,7 @@ function soFar() {
 }
 
 export function choose(number) {
-    Object.assign(now, { chosen: number, mode: "record", correcting: null, fresh: null });
+    Object.assign(now, { chosen: number, mode: "record", correcting: null, fresh: null, look: true });
     settle();
     draw();
 }

@@ -2,7 +2,7 @@
 import { button, byId, el, gases, icon, saving, give } from "./dom.js";
 import { added, removed, undo } from "./change.js";
 import { undoes } from "./draft.js";
-import { figuresOf } from "./figures.js";
+import { COLUMNS, figuresOf } from "./figures.js";
 import { fileName, table } from "./judge.js";
 import { proved } from "./proved.js";
 import { draw, now } from "./state.js";
@@ -54,7 +54,7 @@ export function drawClosed() {
     const links = [saving("Save the page"), saving("Save the sheet")];
     byId("form").replaceChildren(
         el("div", { class: "scroll" }, el("h2", {}, "The book is closed"),
-            el("table", { class: "eff total" }, el("tbody", {}, total.map(({ label, kg }) => el("tr", {}, el("th", { scope: "row" }, gases(label)), el("td", {}, `${kg} kg`))))),
+            el("table", { class: "eff total" }, el("tbody", {}, total.map(({ name, kg }) => el("tr", {}, el("th", { scope: "row" }, gases(COLUMNS[name])), el("td", {}, `${kg} kg`))))),
             el("p", {}, "Save the book for the office. The member's page is ready: see Page."),
             el("div", { class: "aid" }, links, el("a", { class: "button", href: "#page" }, "See the page"))),
         el("div", { class: "gives" }, el("div", { id: "remarks", "aria-live": "polite" }), el("div", { class: "buttons" },

@@ -46,8 +46,10 @@ export function comparedOf(text, kinds) {
             const [, name, old, after = "", difference = ""] = figure;
             part.rows.push(sided({ name, unit: "kg", old, now: after, difference }, part.side));
         } else {
-            compared.words.push(section ? `${section}: ${line}` : line);
+            compared.words.push({ section, line });
         }
     }
+    // The verdict stands last, and belongs to no section.
+    compared.words = compared.words.map((each, at, all) => (each.section && at < all.length - 1 ? `${each.section}: ${each.line}` : each.line));
     return compared;
 }

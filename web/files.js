@@ -124,13 +124,11 @@ export const encodedLines = (lines) => encoded(textOfLines(lines));
 
 // Asks for files by the browser's own dialogue.
 export function chosenFiles(many = true) {
+    document.getElementById("files")?.remove();
     return new Promise((resolve) => {
         const input = document.createElement("input");
-        input.type = "file";
-        input.multiple = many;
-        input.hidden = true;
-        input.addEventListener("change", () => { resolve(input.files); input.remove(); });
-        input.addEventListener("cancel", () => { resolve([]); input.remove(); });
+        Object.assign(input, { type: "file", id: "files", multiple: many, hidden: true, ariaLabel: "Files to open" });
+        input.addEventListener("change", () => resolve(input.files));
         document.body.append(input);
         input.click();
     });

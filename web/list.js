@@ -72,7 +72,7 @@ function windowed(rows, key, large) {
 }
 
 function section(key, title, rows, note, large) {
-    const here = key === now.chosen && now.mode !== "heading";
+    const here = key === now.chosen && now.mode !== "heading" && !now.read.closed;
     const open = unfolded.get(key) ?? (here || key === "" || (now.fresh !== null && rows.some((row) => row.record === now.fresh)));
     const toggle = () => { unfolded.set(key, !open); draw(); };
     const head = el("tr", { class: `group${here ? " here" : ""}` }, el("th", { colspan: "4", scope: "rowgroup" },
@@ -123,7 +123,8 @@ export function drawList() {
     if (large) {
         byId("records").setAttribute("aria-rowcount", String(rows.length));
     }
-    byId("records").querySelector("[aria-current], .fresh, .here")?.scrollIntoView({ block: "nearest" });
+    byId("records").querySelector(`[aria-current], .fresh${now.look ? ", .here" : ""}`)?.scrollIntoView({ block: "nearest" });
+    now.look = false;
 }
 
 function grouped(rows) {

@@ -51,7 +51,7 @@ async function saveReady() {
 
 function shownBook(item) {
     const closed = item.state === "closed";
-    const links = { page: saving("Save the page"), sheet: saving("Save the sheet"), text: saving("Save the text") };
+    const links = { page: saving("Save the page"), sheet: saving("Save the sheet"), text: saving("Save its text") };
     const frame = el("iframe", { id: "frame", title: "The member's page", sandbox: "allow-same-origin allow-modals" });
     if (item.bytes) {
         const page = proved("page", item.bytes).output;
@@ -70,7 +70,7 @@ export function drawPage() {
     const ready = items.filter((item) => item.state === "closed").length;
     shown = Math.max(0, Math.min(shown, items.length - 1));
     byId("page-books").replaceChildren(...items.map(bookEntry));
-    byId("page-all").textContent = `Save the ${ready} ready pages`;
+    byId("page-all").textContent = ready === 1 ? "Save the 1 ready page" : `Save the ${ready} ready pages`;
     byId("page-all").disabled = ready === 0;
     byId("page-shown").replaceChildren(...(items.length > 0 ? shownBook(items[shown]) : [el("p", { class: "big" }, "No book is open. Open one, or several at once.")]));
 }

@@ -10,6 +10,7 @@ export const now = {
     kind: "", form: 0, // of the next record
     correcting: null, // {record, at, kind, form}, or {at} of a line that failed
     fresh: null, // the record that was added last
+    look: false, // whether the chosen group is to be brought into sight
     typed: new Map(), // what stands in the fields of each form, by group and kind
     books: [], // opened for the office: {name, bytes, ..}
     checked: null,

@@ -45,7 +45,7 @@ export function estimate() {
     const line = [...FIELDS.map(([name]) => name), "X"].map((name) => wordOf(byId(slipId(name)).value) || "_");
     const { output, remarks } = proved("whatif", encoded([...line.slice(0, 4), change, line[4]].join(" ")));
     const [answer, ge, ym, head, days, after, before, difference] = decoded(output).trim().split(" ");
-    const [first, ...said] = remarks.split("\n").filter(Boolean);
+    const [, ...said] = remarks.split("\n").filter(Boolean);
     byId("slip").dataset.printed = decoded(output).trim();
     if (answer !== "0") {
         byId("slip").replaceChildren(...said.slice(0, -1).map((words) => el("p", { class: "bad" }, icon("no"), ` ${words.replace(/^line 1: /, "")}`)));
@@ -57,7 +57,7 @@ export function estimate() {
     byId("slip").replaceChildren(el("p", { class: "diffbig" }, less ? thin(difference) : `+${thin(difference)}`),
         el("p", { class: "soft" }, gases(`kg CH4, ${less ? "less than before" : "more than before"}`)),
         el("div", { class: "vs" }, bar("before", before), bar("after", after)),
-        el("p", { class: "soft" }, `After: GE ${ge} MJ, Ym ${ym} %, ${head} head, ${days} days.`), el("p", { class: "soft" }, gases(first)),
+        el("p", { class: "soft" }, `After: GE ${ge} MJ, Ym ${ym} %, ${head} head, ${days} days.`),
         el("p", {}, button("Keep this line", () => { keptSlips.push([`${change} ${line[4]}`, after, difference]); drawKept(); })));
 }
 
