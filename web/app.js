@@ -15,6 +15,7 @@ import { draw, now, onDraw } from "./state.js";
 import { estimate, startWhatif, whatifView } from "./whatif.js";
 
 const VIEWS = ["book", "page", "check", "compare", "whatif"];
+const NEEDS = { book: [], page: ["why", "retype", "sheet", "page"], check: ["why", "salvage", "retype"], compare: ["why", "retype", "compare"], whatif: ["whatif"] };
 const SECOND = "This book is open in another window. Here it can only be read; it can be changed here when that window is closed.";
 const links = { book: saving("Save the book"), text: saving("Save the text") };
 
@@ -71,7 +72,7 @@ function drawAlways() {
 
 async function showView() {
     const view = VIEWS.includes(location.hash.slice(1)) ? location.hash.slice(1) : "book";
-    await prepared("why", "salvage", "retype", "sheet", "page", "compare", "whatif");
+    await prepared(...NEEDS[view]);
     for (const each of VIEWS) {
         byId(`view-${each}`).hidden = each !== view;
     }
@@ -101,7 +102,8 @@ async function mine() {
     } catch {
         now.store.database = null;
     }
-    Object.assign(now, { saved: now.store.lasting, trouble: now.store.lasting ? "" : PRIVATE });
+    const lasts = now.store.database !== null;
+    Object.assign(now, { saved: lasts, trouble: lasts ? "" : PRIVATE });
     settle();
     draw();
 }
@@ -116,6 +118,7 @@ async function start() {
     await new Promise((resolve) => claim(() => mine().then(resolve), () => { Object.assign(now, { mine: false, saved: true }); draw(); resolve(); }));
     await showView();
     byId("state").dataset.opened = performance.now().toFixed(1);
+    await prepared(...Object.values(NEEDS).flat());
 }
 
 start();

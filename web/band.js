@@ -7,7 +7,7 @@ const STRIP = 6; // more groups than these are a list
 
 function words() {
     if (now.read.rows.length === 0) {
-        return ["No book yet", ["Begin with the farm: its number, the year and the warming factors. Or open a book or a text."]];
+        return ["No book yet", ["Begin with the farm, or open a book or a text. All is kept on this device at once; in a private window until that is closed."]];
     }
     if (now.mode === "heading") {
         return ["New group, not begun yet", [now.draft.begun === null ? "No record goes in before the heading is added."

@@ -7,7 +7,7 @@ import { wordsOf } from "./typed.js";
 
 const NO_ROOM = "This device has no room: the last change is not kept. Save the text now; nothing is lost while this page is open.";
 const OTHERS = "Another window has changed this book. Here it can only be read: open this page anew to go on.";
-export const PRIVATE = "Nothing is kept here after this window is closed (it may be a private one). Save the text before you leave.";
+export const PRIVATE = "This browser keeps nothing on this device (a private window, perhaps). Save the text before you leave.";
 
 async function kept(draft) {
     if (!now.store.database) {
@@ -15,7 +15,7 @@ async function kept(draft) {
     }
     try {
         await keep(now.store, draft);
-        return now.store.lasting ? [true, ""] : [false, PRIVATE];
+        return [true, ""];
     } catch (error) {
         if (error instanceof OtherWindow) {
             now.mine = false;

@@ -4,7 +4,7 @@ import { added, removed, undo } from "./change.js";
 import { undoes } from "./draft.js";
 import { COLUMNS, figuresOf } from "./figures.js";
 import { fileName, table } from "./judge.js";
-import { proved } from "./proved.js";
+import { prepared, proved } from "./proved.js";
 import { draw, now } from "./state.js";
 import { kindOf } from "./typed.js";
 
@@ -25,7 +25,7 @@ function cell(group, kind) {
 }
 
 export function drawClose() {
-    const { groups, messages, verdict } = now.read.said;
+    const { groups, messages } = now.read.said;
     const kinds = counted();
     const rows = groups.map((group) => el("tr", {}, el("th", { scope: "row" }, `Group ${group.number}, ${group.class}`), kinds.map((kind) => cell(group, kind))));
     const waits = messages.length > 0 || now.draft.begun !== null;
@@ -35,7 +35,7 @@ export function drawClose() {
             groups.length > 0 ? el("table", { class: "eff days" }, el("thead", {}, el("tr", {}, heads)), el("tbody", {}, rows))
                 : el("p", {}, "The book has no group."),
             el("div", { id: "lacks" }),
-            waits ? el("p", { class: "note wrong" }, icon("no"), ` ${verdict.failed} lines are not in the book. A book with a failed line is not closed: mend them first.`) : "",
+            waits ? el("p", { class: "note wrong" }, icon("no"), ` ${now.read.failed} lines are not in the book. A book with a failed line is not closed: mend them first.`) : "",
             el("p", { class: "soft" }, "A closed book takes no more records, and has a member's page. “Open again” takes the close away.")),
         el("div", { class: "gives" }, el("div", { id: "remarks", "aria-live": "polite" }), el("div", { class: "buttons" },
             button("Go on entering", () => { now.mode = "record"; draw(); }),
@@ -61,8 +61,10 @@ export function drawClosed() {
             el("button", { type: "button", id: "undo", onclick: undo, disabled: undoes(now.draft) === null || !now.mine },
                 icon("undo"), " Undo", el("small", {}, undoes(now.draft) ?? "nothing yet")),
             button("Open again", openAgain, { class: "main", disabled: !now.mine }))));
-    give(links[0], fileName(rows, "html"), proved("page", book).output, "text/html");
-    give(links[1], fileName(rows, "csv"), proved("sheet", book).output, "text/csv");
+    prepared("page", "sheet").then(() => {
+        give(links[0], fileName(rows, "html"), proved("page", book).output, "text/html");
+        give(links[1], fileName(rows, "csv"), proved("sheet", book).output, "text/csv");
+    });
 }
 
 function openAgain() {

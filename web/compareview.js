@@ -5,7 +5,7 @@ import { rowsOfParts } from "./effect.js";
 import { readFiles } from "./files.js";
 import { table } from "./judge.js";
 import { draftItem } from "./opening.js";
-import { decoded, proved } from "./proved.js";
+import { decoded, prepared, proved } from "./proved.js";
 import { now } from "./state.js";
 
 const sides = { old: null, new: null };
@@ -18,6 +18,7 @@ function told(item) {
 }
 
 async function pick(side, list) {
+    await prepared("why", "salvage", "retype", "compare");
     const [item] = await readFiles(list);
     if (item) {
         set(side, item);

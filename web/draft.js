@@ -1,5 +1,5 @@
 // The draft: a typed text, its steps for Undo, and a heading that was begun and refused. Nothing here changes a draft: each change gives a new one.
-import { kindOf, wordsOf } from "./typed.js";
+import { hasWords, kindOf, wordsOf } from "./typed.js";
 
 export const emptyDraft = () => ({ lines: [], steps: [], begun: null });
 
@@ -8,7 +8,7 @@ const STEPS_KEPT = 500;
 // The place after the last line with a word before `end`, but not before `from`.
 function afterWords(lines, from, end) {
     let at = end;
-    while (at > from && wordsOf(lines[at - 1]).length === 0) {
+    while (at > from && !hasWords(lines[at - 1])) {
         at -= 1;
     }
     return at;
@@ -40,7 +40,7 @@ export function placeOfHeading(lines, number, kinds, places) {
         return after.at;
     }
     let at = endOf(lines, kinds, places);
-    while (at > 0 && (wordsOf(lines[at - 1]).length === 0 || places.own.includes(kindOf(lines[at - 1], kinds)))) {
+    while (at > 0 && (!hasWords(lines[at - 1]) || places.own.includes(kindOf(lines[at - 1], kinds)))) {
         at -= 1;
     }
     return at;
@@ -64,7 +64,7 @@ export function placeOf(lines, line, chosen, kinds, places) {
 // The lines of a group: its heading and the details under it; farm's own records that stand between stay.
 export function linesOfGroup(lines, heading, kinds, places) {
     const next = headingsOf(lines, kinds, places).find(({ at }) => at > heading)?.at ?? lines.length;
-    const stays = (line) => wordsOf(line).length > 0 && [...places.own, places.close].includes(kindOf(line, kinds));
+    const stays = (line) => [...places.own, places.close].includes(kindOf(line, kinds));
     return { from: heading, to: next, stay: lines.slice(heading + 1, next).filter(stays) };
 }
 

@@ -2,7 +2,7 @@
 import { el, gases } from "./dom.js";
 import { comparedOf } from "./comparison.js";
 import { table, triedClosed } from "./judge.js";
-import { decoded, proved } from "./proved.js";
+import { decoded, isPrepared, proved } from "./proved.js";
 import { now } from "./state.js";
 import { spaced } from "./typed.js";
 
@@ -16,6 +16,9 @@ export function rowsOfParts(parts) {
 }
 
 export function effectOf(book) {
+    if (!isPrepared("compare")) {
+        return [];
+    }
     const { output } = proved("compare", triedClosed(now.read.book), triedClosed(book));
     const { parts, words } = comparedOf(decoded(output), table.kinds);
     if (parts.length === 0) {

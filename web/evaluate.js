@@ -1,8 +1,8 @@
 // What the writer says of the record in the form, at each key: of the whole text with that record in it. Nothing of it is kept.
-import { recordsOf, written } from "./judge.js";
+import { recordOf, written } from "./judge.js";
 import { leastOf, lineOf } from "./kinds.js";
 import { besideOf, fieldOf } from "./said.js";
-import { wordOf } from "./typed.js";
+import { hasWords, wordOf } from "./typed.js";
 
 // form: the fields; values: what stands in them; trial(line): the lines with the record in them; at: its place there.
 // Gives for each field its remark, the remarks on the line, and where all is right the writer's result.
@@ -53,7 +53,6 @@ export function refusedShort({ trial, at, line }) {
 
 // What the record gives: its row, as records reads it in the tried book.
 export function rowOf(result, lines, at) {
-    const before = result.said.verdict.failed === 0 && result.said.messages.length === 0 ? null : written(lines.slice(0, at)).said.verdict.written;
-    const number = before ?? lines.slice(0, at).filter((line) => /^[^#]*[^#\s]/.test(line)).length;
-    return recordsOf(result.book).rows[number] ?? null;
+    const all = result.said.messages.length === 0;
+    return recordOf(result.book, all ? lines.slice(0, at).filter(hasWords).length : written(lines.slice(0, at)).written);
 }

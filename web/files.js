@@ -32,8 +32,8 @@ function ofBook(name, bytes, why) {
 
 function ofText(name, bytes) {
     const lines = linesOf(textIn(bytes));
-    const { book, said } = written(lines);
-    if (said.verdict.written === 0) {
+    const { book, said, written: count } = written(lines);
+    if (count === 0) {
         return null;
     }
     const { rows } = recordsOf(book);

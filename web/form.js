@@ -86,12 +86,20 @@ export function showJudged() {
     const judged = judgeNow();
     judged.form.fields.forEach((field, at) => sayAt(at, judged.remarks.get(at)));
     const all = [...judged.remarks.values()];
-    const bad = [...all.filter((remark) => remark.wrong).map((remark) => remark.words), ...judged.onLine, ...(judged.accepted ? [] : judged.others)];
+    const held = now.mode === "heading" && now.draft.begun !== null && !judged.complete ? heldWords() : [];
+    const bad = [...all.filter((remark) => remark.wrong).map((remark) => remark.words), ...judged.onLine, ...(judged.accepted ? [] : judged.others), ...held];
     const lines = [...bad.map((words) => remarkLine(words, true)), ...all.filter((remark) => !remark.wrong).map((remark) => remarkLine(remark.words, false))];
     byId("remarks").replaceChildren(...lines, ...(bad.length === 0 ? [givesLine(judged)] : []));
     byId("todo").textContent = current().todo(judged.values);
     byId("effect").replaceChildren(...(now.mode === "correct" && judged.accepted ? effectOf(judged.result.book) : []));
     return judged;
+}
+
+// Of a heading that was typed as a line and refused, the form may not hold every word: the writer's words on that line stand.
+function heldWords() {
+    const line = now.draft.begun;
+    const at = placeNow(line);
+    return [refusedShort({ trial: (each) => tried(at, 0, each), at, line })].filter(Boolean);
 }
 
 // What the record gives, as records reads it in a book that nobody keeps.

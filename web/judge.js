@@ -2,7 +2,7 @@
 import { encoded, decoded, proved } from "./proved.js";
 import { kindsOf, placesOf } from "./kinds.js";
 import { saidOf } from "./said.js";
-import { rowsOf, textOfLines, wordsOf } from "./typed.js";
+import { hasWords, kindOf, rowsOf, rowWith, textOfLines, wordsOf } from "./typed.js";
 
 // The table of kinds and the places of each, for the whole page; filled once.
 export const table = { kinds: new Map(), places: null };
@@ -14,7 +14,8 @@ export function fillTable() {
 
 export function written(lines) {
     const { output, remarks } = proved("writer", encoded(textOfLines(lines)));
-    return { book: output, said: saidOf(remarks), remarks };
+    const said = saidOf(remarks);
+    return { book: output, said, written: said.verdict.written, failed: said.verdict.failed };
 }
 
 // A book's accepted records in order, its subtotals, and the last word.
@@ -24,34 +25,47 @@ export function recordsOf(book) {
     return { rows: rows.filter((row) => row.record !== ""), subtotals: rows.filter((row) => row.record === ""), word: remarks.trim() };
 }
 
+export const recordOf = (book, number) => rowWith(decoded(proved("records", book).output), number);
+
 export const retyped = (book) => decoded(proved("retype", book).output);
 
 // The records of a book with a close after them, whatever it is now: for what its groups have so far.
 export function triedClosed(book, { close } = table.places) {
-    const lines = retyped(book).split("\n").filter((line) => wordsOf(line).length > 0 && wordsOf(line)[0] !== close);
+    const lines = retyped(book).split("\n").filter((line) => hasWords(line) && wordsOf(line)[0] !== close);
     return lines.length === 0 ? book : written([...lines, close]).book;
 }
 
-// All that the page shows of a text.
+const bySubtotal = (subtotals) => new Map(subtotals.map((row) => [row.group, row]));
+
+// All that the page shows of a text. Where it is open and right, one run with a close after it gives the records and what the groups have so far; the
+// book itself is what stands there before the close. Else the text is written as it stands.
 export function readText(lines) {
-    const { book, said, remarks } = written(lines);
-    const { rows, word } = recordsOf(book);
+    const { kinds, places } = table;
+    const ends = kindOf(lines.findLast(hasWords) ?? "", kinds) === places.close;
+    const tried = ends ? null : written([...lines, places.close]);
+    if (tried?.said.verdict.closed) {
+        const { rows, subtotals } = recordsOf(tried.book);
+        const close = rows.pop();
+        const book = tried.book.slice(0, Number(close.first));
+        return { lines, book, said: tried.said, written: tried.written - 1, failed: 0, rows, closed: false, together: bySubtotal(subtotals), lineOf: lineFinder(lines, rows.length) };
+    }
+    const { book, said, ...counts } = written(lines);
+    const { rows, subtotals } = recordsOf(book);
     const closed = said.verdict.closed;
-    const together = new Map(recordsOf(closed ? book : triedClosed(book)).subtotals.map((row) => [row.group, row]));
-    return { lines, book, said, remarks, rows, word, closed, together, lineOf: lineFinder(lines, said) };
+    return { lines, book, said, ...counts, rows, closed, together: bySubtotal(closed ? subtotals : recordsOf(triedClosed(book)).subtotals), lineOf: lineFinder(lines, counts.written) };
 }
 
 // The line of a text that became a record. Where lines failed, the writer is asked: the first part of the text that writes so many records ends there.
-function lineFinder(lines, said) {
-    const worded = lines.map((line, at) => at).filter((at) => wordsOf(lines[at]).length > 0);
-    if (said.verdict.written === worded.length) {
+function lineFinder(lines, count) {
+    const worded = lines.map((line, at) => at).filter((at) => hasWords(lines[at]));
+    if (count === worded.length) {
         return (record) => worded[record];
     }
     return (record) => {
         let [low, high] = [0, lines.length];
         while (low < high) {
             const middle = (low + high) >> 1;
-            const enough = written(lines.slice(0, middle)).said.verdict.written > record;
+            const enough = written(lines.slice(0, middle)).written > record;
             [low, high] = enough ? [low, middle] : [middle + 1, high];
         }
         return low - 1;
@@ -60,7 +74,7 @@ function lineFinder(lines, said) {
 
 // Whether a change may go in: the records that it is for were written, and no other line fails for it.
 export function betterBy(before, after, records) {
-    return after.said.verdict.written >= before.said.verdict.written + records && after.said.verdict.failed <= before.said.verdict.failed;
+    return after.written >= before.written + records && after.failed <= before.failed;
 }
 
 // The words of a heading's record: number, class, head.

@@ -18,21 +18,14 @@ async function opened() {
     return asked(request);
 }
 
-// A store of its own kind where the browser keeps nothing: the page works, and says so.
+// No database where the browser keeps nothing: the page works, and says so. A private window that keeps until it is closed can't be told from others.
 export async function openStore() {
     try {
         const database = await opened();
-        return { database, number: 0, lasting: await isLasting() };
+        return { database, number: 0 };
     } catch {
-        return { database: null, number: 0, lasting: false };
+        return { database: null, number: 0 };
     }
-}
-
-// In a private window everything goes with the window. No browser says so; Chromium's keep in memory, and offer less room than twice a page's memory.
-async function isLasting() {
-    const room = (await navigator.storage?.estimate?.())?.quota;
-    const memory = performance.memory?.jsHeapSizeLimit;
-    return room === undefined || memory === undefined || room >= 2 * memory;
 }
 
 export async function fetchKept(store) {

@@ -90,7 +90,7 @@ function section(key, title, rows, note, large) {
 
 // The lines of the text that are not in the book, each with the writer's words.
 function failedRows() {
-    const { messages, more, verdict } = now.read.said;
+    const { messages, more } = now.read.said;
     if (messages.length === 0) {
         return null;
     }
@@ -99,7 +99,7 @@ function failedRows() {
         el("td", {}, el("b", {}, now.draft.lines[at].trim(), to > at ? ` and the lines after it` : ""), el("small", {}, words)),
         el("td", {}, button(`Mend line ${at + 1}`, () => { now.mode = "line"; now.correcting = { at }; draw(); byId("line")?.focus(); }, { disabled: !now.mine }))));
     const rest = more.filter((words) => /^and \d+ more$/.test(words)).map((words) => el("tr", { class: "row failed" }, el("td"), el("td"), el("td", {}, words), el("td")));
-    return el("tbody", {}, el("tr", { class: "group bad" }, el("th", { colspan: "4" }, `${verdict.failed} lines are not in the book`)), rows, rest);
+    return el("tbody", {}, el("tr", { class: "group bad" }, el("th", { colspan: "4" }, `${now.read.failed} lines are not in the book`)), rows, rest);
 }
 
 export function drawList() {

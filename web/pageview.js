@@ -3,7 +3,7 @@ import { button, byId, el, give, icon, saving } from "./dom.js";
 import { chosenFiles, readFiles, linesFrom, encodedLines } from "./files.js";
 import { fileName } from "./judge.js";
 import { draftItem } from "./opening.js";
-import { proved } from "./proved.js";
+import { prepared, proved } from "./proved.js";
 import { now, onDraw } from "./state.js";
 
 let shown = 0;
@@ -28,6 +28,7 @@ function bookEntry(item, at) {
 }
 
 export async function addBooks(list) {
+    await prepared("why", "salvage", "retype", "sheet", "page");
     const items = await readFiles(list);
     shown = itemsNow().length;
     now.books.push(...items);

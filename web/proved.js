@@ -24,6 +24,8 @@ export function prepared(...names) {
     }));
 }
 
+export const isPrepared = (name) => compiled.has(name);
+
 // A program's output as bytes, its words as text, its status. Its module has to be prepared.
 export function proved(name, input, more) {
     const { output, remarks, status } = run(compiled.get(name), input, more);

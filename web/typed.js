@@ -14,9 +14,13 @@ export function wordsOf(line) {
     return line.replace(/#.*/s, "").split(/[ \t\r\ufeff]+/).filter(Boolean);
 }
 
+const FIRST = /^[ \t\r\ufeff]*([^ \t\r\ufeff#]+)/;
+
+export const hasWords = (line) => FIRST.test(line);
+
 // The first word of a line as the name of a kind: names may be in capitals, and a kind may stand by its number. Of other words: none.
 export function kindOf(line, kinds) {
-    const word = (wordsOf(line)[0] ?? "").toLowerCase();
+    const word = FIRST.exec(line)?.[1].toLowerCase() ?? "";
     return kinds.has(word) ? word : [...kinds.values()].find((kind) => kind.number === word)?.name ?? "";
 }
 
@@ -36,7 +40,22 @@ export function reworded(line, words) {
 // Rows of comma-separated text without quotes, each by the names of the first row.
 export function rowsOf(text) {
     const [names, ...rows] = linesOf(text).map((row) => row.split(","));
-    return rows.map((row) => Object.fromEntries(names.map((name, at) => [name, row[at] ?? ""])));
+    return rows.map((row) => rowBy(names, row));
+}
+
+function rowBy(names, row) {
+    const found = {};
+    for (let at = 0; at < names.length; at += 1) {
+        found[names[at]] = row[at] ?? "";
+    }
+    return found;
+}
+
+// The one row that begins with a number, without reading the others.
+export function rowWith(text, number) {
+    const from = text.indexOf(`\n${number},`) + 1;
+    const end = text.indexOf("\n", from);
+    return from === 0 ? null : rowsOf(`${text.slice(0, text.indexOf("\n") + 1)}${text.slice(from, end < 0 ? undefined : end)}`)[0];
 }
 
 // Grams as kilograms: the point moved in the printed digits, thin spaces between thousands. No number is computed.
