@@ -37,6 +37,7 @@ export function valuesOf(typed) {
         if (!field || field.choices.length > 0) {
             return word;
         }
-        return ["days", "head"].includes(field.label) ? `${word} ${field.label}` : `${field.label} ${word} ${unitOf(field)}`.trim();
+        const words = ["days", "head"].includes(field.label) ? `${word} ${field.label}` : `${field.label} ${word} ${unitOf(field)}`.trim();
+        return words.replaceAll(" ", "\u00a0");
     }).join(" · ");
 }

@@ -37,9 +37,12 @@ export async function addBooks(list) {
 
 // A download for each page that is ready: browsers ask once whether a page may save several files.
 async function saveReady() {
+    const names = new Map(); // two books of one farm and year have two names
     const links = itemsNow().filter((item) => item.state === "closed").map((item) => {
         const link = saving("", { hidden: true });
-        give(link, fileName(item.rows, "html"), proved("page", item.bytes).output, "text/html");
+        const name = fileName(item.rows, "html");
+        names.set(name, (names.get(name) ?? 0) + 1);
+        give(link, names.get(name) === 1 ? name : name.replace(".html", `-${names.get(name)}.html`), proved("page", item.bytes).output, "text/html");
         return link;
     });
     for (const link of links) {
