@@ -15,7 +15,8 @@ import { draw, now, onDraw } from "./state.js";
 import { estimate, startWhatif, whatifView } from "./whatif.js";
 
 const VIEWS = ["book", "page", "check", "compare", "whatif"];
-const NEEDS = { book: [], page: ["why", "retype", "sheet", "page"], check: ["why", "salvage", "retype"], compare: ["why", "retype", "compare"], whatif: ["whatif"] };
+const NEEDS = { book: [], page: ["why", "retype", "sheet", "page"], check: ["why", "salvage", "retype"], compare: ["why", "retype", "compare"],
+    whatif: ["whatif"] };
 const SECOND = "This book is open in another window. Here it can only be read; it can be changed here when that window is closed.";
 const links = { book: saving("Save the book"), text: saving("Save the text") };
 

@@ -7,7 +7,8 @@ const STRIP = 6; // more groups than these are a list
 
 function words() {
     if (now.read.rows.length === 0) {
-        return ["No book yet", ["Begin with the farm, or open a book or a text. All is kept on this device at once; in a private window until that is closed."]];
+        return ["No book yet", ["Begin with the farm, or open a book or a text. All is kept on this device at once; "
+            + "in a private window until that is closed."]];
     }
     if (now.mode === "heading") {
         return ["New group, not begun yet", [now.draft.begun === null ? "No record goes in before the heading is added."
@@ -28,7 +29,7 @@ function soFar() {
     }
     const days = said.days.length === 0 ? [el("span", {}, "no days")]
         : said.days.map(({ kind, words: text }) => el("span", { class: kind === now.kind ? "now" : "" }, text));
-    return [...days, ...said.gives.map((text) => el("span", {}, gases(text)))];
+    return [...days, ...said.gives.map((text) => el("span", { class: "gas" }, gases(text)))];
 }
 
 export function choose(number) {
@@ -45,7 +46,8 @@ function begin() {
 
 function groupChoice(groups, waits) {
     if (groups.length > STRIP) {
-        const options = groups.map(({ number, class: word }) => el("option", { value: number, selected: number === now.chosen }, `${number} ${word}`));
+        const options = groups.map(({ number, class: word }) => el("option", { value: number, selected: number === now.chosen },
+            `${number} ${word}`));
         return [el("select", { "aria-label": "Group to enter under", disabled: waits, onchange: (event) => choose(event.target.value) }, options)];
     }
     return groups.map(({ number, class: word }) => button([number, " ", el("br"), word], () => choose(number),

@@ -60,7 +60,8 @@ function typedNow() {
 function keyed(event) {
     if (event.key === "Escape" && (now.mode === "correct" || now.mode === "line")) {
         leaveForm();
-    } else if (event.key === "z" && (event.ctrlKey || event.metaKey) && !/INPUT|SELECT/.test(event.target.tagName) && location.hash.slice(1, 5) !== "what") {
+    } else if (event.key === "z" && (event.ctrlKey || event.metaKey) && !/INPUT|SELECT/.test(event.target.tagName)
+        && location.hash.slice(1, 5) !== "what") {
         once(undo);
     }
 }

@@ -4,6 +4,8 @@ import { createHash } from "node:crypto";
 import { readFileSync, readdirSync, writeFileSync } from "node:fs";
 import { dirname, join, relative } from "node:path";
 import { fileURLToPath } from "node:url";
+import { inflateRawSync } from "node:zlib";
+import { deflated } from "./deflate.mjs";
 
 const here = dirname(fileURLToPath(import.meta.url));
 const [file, wasm, programsModule, mutant] = process.argv.slice(2);
@@ -57,7 +59,8 @@ function modules() {
 }
 
 function namesOf(text) {
-    return [...text.matchAll(DECLARED)].flatMap(([, name]) => (name.startsWith("{") ? name.slice(1, -1).split(",") : [name])).map((name) => name.trim());
+    const names = [...text.matchAll(DECLARED)].flatMap(([, name]) => (name.startsWith("{") ? name.slice(1, -1).split(",") : [name]));
+    return names.map((name) => name.trim());
 }
 
 // One script: a name that two modules declare, or an import that no module exports, ends the build.
@@ -95,7 +98,11 @@ function main() {
     const names = readFileSync(join(here, "programs.txt"), "utf8").replace(/#.*/g, "").split("\n").map((line) => line.trim()).filter(Boolean);
     const programs = names.map((name) => {
         const bytes = readFileSync(join(wasm, `${name}.wasm`));
-        return `<script type="text/plain" id="program-${name}">${bytes.toString("base64")}</script>`;
+        const small = Buffer.from(deflated(bytes));
+        if (!inflateRawSync(small).equals(bytes)) {
+            fail(`${name}.wasm does not come back as it was`);
+        }
+        return `<script type="text/plain" id="program-${name}">${small.toString("base64")}</script>`;
     });
     const tables = readdirSync(join(here, "tables")).sort().map((name) => {
         const text = JSON.stringify(JSON.parse(read(join("tables", name)))).replace(/</g, "\\u003c");

@@ -64,7 +64,8 @@ export function settle() {
     }
 }
 
-export const groupsNow = () => now.read.rows.filter((row) => row.name === table.places.heading).map((row) => ({ ...headingWords(row.typed), record: row.record }));
+export const groupsNow = () => now.read.rows.filter((row) => row.name === table.places.heading)
+    .map((row) => ({ ...headingWords(row.typed), record: row.record }));
 
 export const groupNow = () => groupsNow().find(({ number }) => number === now.chosen) ?? null;
 

@@ -20,11 +20,13 @@ function verdictOf(item) {
 }
 
 function nearRows(item) {
-    const rows = item.rows.slice(-NEAR).map((row) => el("tr", { class: "row" }, el("td", {}, row.record), el("td", {}, row.name), el("td", {}, valuesOf(row.typed)),
+    const rows = item.rows.slice(-NEAR).map((row) => el("tr", { class: "row" }, el("td", {}, row.record), el("td", {}, row.name),
+        el("td", {}, valuesOf(row.typed)),
         el("td", { class: "f" }, "right")));
     if (item.state === "refused") {
         const record = /record (\d+)/.exec(item.why.machine)[1];
-        rows.push(el("tr", { class: "row hit" }, el("td", {}, record), el("td"), el("td", {}, item.why.people.replace(/^record \d+ ?/, "")), el("td", { class: "f" }, icon("no"), " wrong")));
+        rows.push(el("tr", { class: "row hit" }, el("td", {}, record), el("td"), el("td", {}, item.why.people.replace(/^record \d+ ?/, "")),
+            el("td", { class: "f" }, icon("no"), " wrong")));
     }
     return el("table", { class: "near" }, el("tbody", {}, rows));
 }
@@ -32,8 +34,10 @@ function nearRows(item) {
 // A text's own lines that failed, with the writer's words.
 function failedLines(item) {
     const messages = item.said?.messages ?? [];
-    return messages.length === 0 ? null : el("table", {}, el("thead", {}, el("tr", {}, ["Line", "What was typed", "Why it is not in the book"].map((word) => el("th", {}, word)))),
-        el("tbody", {}, messages.map(({ from, words }) => el("tr", {}, el("td", {}, String(from + 1)), el("td", {}, item.lines[from].trim()), el("td", {}, words)))));
+    return messages.length === 0 ? null : el("table", {}, el("thead", {},
+        el("tr", {}, ["Line", "What was typed", "Why it is not in the book"].map((word) => el("th", {}, word)))),
+        el("tbody", {}, messages.map(({ from, words }) => el("tr", {}, el("td", {}, String(from + 1)), el("td", {}, item.lines[from].trim()),
+            el("td", {}, words)))));
 }
 
 function todo(item) {
@@ -41,9 +45,11 @@ function todo(item) {
         return "Nothing has to be done.";
     }
     if (item.state === "unfinished") {
-        return item.said?.messages.length > 0 ? "Mend the lines below in Book, the first one first, and close the book." : "Open it in Book, enter what is missing, and close it.";
+        return item.said?.messages.length > 0 ? "Mend the lines below in Book, the first one first, and close the book."
+            : "Open it in Book, enter what is missing, and close it.";
     }
-    return item.state === "refused" ? "It is the first wrong one; others may come after it. Open what is right in Book and enter the rest again, or save what can be saved." : item.words;
+    return item.state !== "refused" ? item.words : "It is the first wrong one; others may come after it. "
+        + "Open what is right in Book and enter the rest again, or save what can be saved.";
 }
 
 function left(item) {
@@ -53,7 +59,8 @@ function left(item) {
         item.why ? el("p", { class: "big" }, el("b", {}, item.why.people)) : "",
         item.rows.length > 0 && item.state !== "closed" ? nearRows(item) : "",
         el("p", {}, el("b", {}, "What to do. "), todo(item)), failedLines(item),
-        item.bytes && item.rows.length > 0 ? el("p", {}, button("Open it in Book", () => replaceDraft(linesFrom(item), item.name), { class: "main" })) : "",
+        item.bytes && item.rows.length > 0 ? el("p", {}, button("Open it in Book", () => replaceDraft(linesFrom(item), item.name),
+            { class: "main" })) : "",
         item.why ? el("p", { class: "mono" }, item.why.machine) : "");
 }
 
@@ -77,7 +84,8 @@ function right(item) {
     return el("article", {}, el("h3", {}, "Or save what can be saved"), el("p", { class: "big" }, el("b", {}, counts)),
         el("ul", { class: "dropped" }, saved.lines.slice(0, -1).map((line) => el("li", {}, line))),
         saved.book ? lacks(saved.book) : "",
-        el("p", { class: "aid" }, saved.book ? button("Open the saved book in Book", () => replaceDraft(linesFrom({ lines: null, bytes: saved.book }), item.name)) : "", save, list));
+        el("p", { class: "aid" }, saved.book ? button("Open the saved book in Book",
+            () => replaceDraft(linesFrom({ lines: null, bytes: saved.book }), item.name)) : "", save, list));
 }
 
 export function check(item) {

@@ -12,7 +12,8 @@ import { kindOf } from "./typed.js";
 function counted() {
     const groups = now.read.said.groups;
     return [...table.places.classes.values()].flat().filter((kind, at, all) => all.indexOf(kind) === at)
-        .filter((kind) => table.kinds.get(kind).forms[0].fields[0].label === "days" && groups.some(({ class: word }) => table.places.classes.get(word).includes(kind)));
+        .filter((kind) => table.kinds.get(kind).forms[0].fields[0].label === "days"
+            && groups.some(({ class: word }) => table.places.classes.get(word).includes(kind)));
 }
 
 function cell(group, kind) {
@@ -27,7 +28,8 @@ function cell(group, kind) {
 export function drawClose() {
     const { groups, messages } = now.read.said;
     const kinds = counted();
-    const rows = groups.map((group) => el("tr", {}, el("th", { scope: "row" }, `Group ${group.number}, ${group.class}`), kinds.map((kind) => cell(group, kind))));
+    const rows = groups.map((group) => el("tr", {}, el("th", { scope: "row" }, `Group ${group.number}, ${group.class}`),
+        kinds.map((kind) => cell(group, kind))));
     const waits = messages.length > 0 || now.draft.begun !== null;
     const heads = ["", ...kinds].map((word) => el("th", { scope: "col" }, word));
     byId("form").replaceChildren(
@@ -35,14 +37,16 @@ export function drawClose() {
             groups.length > 0 ? el("table", { class: "eff days" }, el("thead", {}, el("tr", {}, heads)), el("tbody", {}, rows))
                 : el("p", {}, "The book has no group."),
             el("div", { id: "lacks" }),
-            waits ? el("p", { class: "note wrong" }, icon("no"), ` ${now.read.failed} lines are not in the book. A book with a failed line is not closed: mend them first.`) : "",
+            waits ? el("p", { class: "note wrong" }, icon("no"),
+                ` ${now.read.failed} lines are not in the book. A book with a failed line is not closed: mend them first.`) : "",
             el("p", { class: "soft" }, "A closed book takes no more records, and has a member's page. “Open again” takes the close away.")),
         el("div", { class: "gives" }, el("div", { id: "remarks", "aria-live": "polite" }), el("div", { class: "buttons" },
             button("Go on entering", () => { now.mode = "record"; draw(); }),
             button("Close the book", closeNow, { class: "main", id: "todo", disabled: waits }))));
     const short = byId("form").querySelectorAll(".short").length > 0;
     byId("lacks").replaceChildren(el("p", { class: short ? "note odd" : "note" }, icon(short ? "odd" : "ok"),
-        short ? [el("b", {}, " Unusual: some groups are short of the year."), " The book may be closed so, if the animals were not there."] : " Every group has its year."));
+        short ? [el("b", {}, " Unusual: some groups are short of the year."), " The book may be closed so, if the animals were not there."]
+            : " Every group has its year."));
 }
 
 const closeNow = () => added(now.draft.lines.length, table.places.close, "the close", { mode: "record", fresh: null });
@@ -54,7 +58,8 @@ export function drawClosed() {
     const links = [saving("Save the page"), saving("Save the sheet")];
     byId("form").replaceChildren(
         el("div", { class: "scroll" }, el("h2", {}, "The book is closed"),
-            el("table", { class: "eff total" }, el("tbody", {}, total.map(({ name, kg }) => el("tr", {}, el("th", { scope: "row" }, gases(COLUMNS[name])), el("td", {}, `${kg} kg`))))),
+            el("table", { class: "eff total" }, el("tbody", {}, total.map(({ name, kg }) => el("tr", {},
+                el("th", { scope: "row" }, gases(COLUMNS[name])), el("td", {}, `${kg} kg`))))),
             el("p", {}, "Save the book for the office. The member's page is ready: see Page."),
             el("div", { class: "aid" }, links, el("a", { class: "button", href: "#page" }, "See the page"))),
         el("div", { class: "gives" }, el("div", { id: "remarks", "aria-live": "polite" }), el("div", { class: "buttons" },

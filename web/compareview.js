@@ -14,7 +14,8 @@ function told(item) {
     if (!item.bytes) {
         return `${item.name}: ${item.words}`;
     }
-    return `${item.name}: ${item.state === "closed" ? "closed" : item.state === "refused" ? "refused, compared up to there" : "not closed"}, ${item.rows.length} records`;
+    const state = { closed: "closed", refused: "refused, compared up to there", unfinished: "not closed" }[item.state];
+    return `${item.name}: ${state}, ${item.rows.length} records`;
 }
 
 async function pick(side, list) {
@@ -34,7 +35,8 @@ function set(side, item) {
 function drawCompared() {
     const { old, new: after } = sides;
     if (!old?.bytes || !after?.bytes) {
-        byId("compared").replaceChildren(el("p", { class: "soft" }, "Choose two books. What differs is shown here; what is not shown is the same in both, to the gram."));
+        byId("compared").replaceChildren(el("p", { class: "soft" },
+            "Choose two books. What differs is shown here; what is not shown is the same in both, to the gram."));
         return;
     }
     const { output, remarks } = proved("compare", old.bytes, after.bytes);
@@ -55,7 +57,8 @@ function drawCompared() {
 function side(name, label) {
     return el("div", { class: "side" }, el("label", { for: `${name}-file` }, label),
         el("input", { type: "file", id: `${name}-file`, "aria-describedby": `${name}-told`, onchange: (event) => pick(name, event.target.files) }),
-        button("Take the draft", () => { if (now.read.rows.length > 0) { set(name, draftItem()); } }, { "aria-label": `Take the draft as the ${name} one` }),
+        button("Take the draft", () => { if (now.read.rows.length > 0) { set(name, draftItem()); } },
+            { "aria-label": `Take the draft as the ${name} one` }),
         el("small", { id: `${name}-told` }, "no book chosen"));
 }
 
@@ -67,5 +70,6 @@ export function compareView() {
     return el("section", { class: "view pad scroll", id: "view-compare", "aria-label": "Compare" },
         el("p", { class: "lead" }, "What did a correction touch? Choose the old book and the new one."),
         el("div", { class: "pick" }, side("old", "Old"), side("new", "New")),
-        el("div", { id: "compared", "aria-live": "polite" }, el("p", { class: "soft" }, "What differs is shown here; what is not shown is the same in both, to the gram.")));
+        el("div", { id: "compared", "aria-live": "polite" }, el("p", { class: "soft" },
+            "What differs is shown here; what is not shown is the same in both, to the gram.")));
 }

@@ -73,7 +73,8 @@ export function ask(words, answers) {
     return new Promise((resolve) => {
         const dialog = el("dialog", { "aria-labelledby": "question", onclose: () => { resolve(dialog.returnValue); dialog.remove(); } },
             el("p", { id: "question", class: "big" }, words),
-            el("form", { method: "dialog", class: "answers" }, answers.map(([word, text, main]) => el("button", { value: word, class: main ? "main" : "" }, text))));
+            el("form", { method: "dialog", class: "answers" }, answers.map(([word, text, main]) => el("button",
+                { value: word, class: main ? "main" : "" }, text))));
         document.body.append(dialog);
         dialog.showModal();
     });

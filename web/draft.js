@@ -112,7 +112,8 @@ export function savedLines(draft, kinds, places) {
 // What is kept may have been written by another version of this page: anything else than a draft is none.
 export function draftOf(kept) {
     const strings = (list) => Array.isArray(list) && list.every((each) => typeof each === "string");
-    const step = (each) => each && Number.isInteger(each.at) && Number.isInteger(each.added) && strings(each.removed) && typeof each.label === "string";
+    const step = (each) => each && Number.isInteger(each.at) && Number.isInteger(each.added) && strings(each.removed)
+        && typeof each.label === "string";
     if (!kept || !strings(kept.lines)) {
         return null;
     }

@@ -25,5 +25,6 @@ export function effectOf(book) {
         return words.at(-1)?.includes("differs") ? [el("p", { class: "soft" }, "Nothing is changed yet.")] : [];
     }
     const head = ["What", "", "was", "will be", "difference"].map((word) => el("th", { scope: "col" }, word));
-    return [el("h3", {}, "What the correction changes"), el("table", { class: "eff" }, el("thead", {}, el("tr", {}, head)), el("tbody", {}, rowsOfParts(parts)))];
+    return [el("h3", {}, "What the correction changes"), el("table", { class: "eff" }, el("thead", {}, el("tr", {}, head)),
+        el("tbody", {}, rowsOfParts(parts)))];
 }

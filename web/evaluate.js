@@ -37,7 +37,8 @@ export function evaluate({ form, values, trial, at, fits }) {
     const wrong = [...remarks.values()].some((remark) => remark.wrong);
     const accepted = complete && !wrong && onLine.length === 0 && fits(result);
     const line = lineOf(form.name, words.filter(Boolean));
-    return { complete, accepted, remarks, onLine: complete ? onLine : [], line, result, others: complete && !wrong ? othersOf(result, at, trial(line)) : [] };
+    return { complete, accepted, remarks, onLine: complete ? onLine : [], line, result,
+        others: complete && !wrong ? othersOf(result, at, trial(line)) : [] };
 }
 
 // Lines that the record makes fail, each by its own words instead of a line's number, which nobody sees.

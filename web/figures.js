@@ -3,7 +3,8 @@ import { el, gases } from "./dom.js";
 import { table } from "./judge.js";
 import { kilograms, wordsOf } from "./typed.js";
 
-export const FIGURES = [["ch4", "CH4"], ["n2o", "N2O"], ["co2", "CO2"], ["excreted", "N"], ["land", "land N"], ["grazing", "grazing CO2e"], ["co2e", "CO2e"]];
+export const FIGURES = [["ch4", "CH4"], ["n2o", "N2O"], ["co2", "CO2"], ["excreted", "N"], ["land", "land N"], ["grazing", "grazing CO2e"],
+    ["co2e", "CO2e"]];
 
 export const COLUMNS = { ch4: "CH4", n2o: "N2O", co2: "CO2", excreted: "excreted N", land: "N for land", grazing: "grazing CO2e", co2e: "CO2e" };
 

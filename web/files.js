@@ -103,7 +103,8 @@ export function itemsOf(files) {
 export async function readFiles(list) {
     const files = [...list].sort((a, b) => a.name.localeCompare(b.name, "en", { numeric: true }));
     const small = files.filter((file) => file.size <= MOST);
-    const large = files.filter((file) => file.size > MOST).map((file) => none(file.name, `The file is too large for a book: ${Math.round(file.size / 1e6)} MB.`));
+    const large = files.filter((file) => file.size > MOST).map((file) => none(file.name,
+        `The file is too large for a book: ${Math.round(file.size / 1e6)} MB.`));
     const read = [];
     for (const file of small) {
         try {

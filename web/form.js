@@ -54,7 +54,8 @@ export function drawForm() {
     const dense = form.fields.length > DENSE;
     const last = now.mode === "record" ? lastOf(now.kind) : null;
     const lastWords = last ? wordsOf(last.typed).slice(1) : [];
-    const rows = form.fields.map((field, at) => fieldRow(field, at, { value: values[at] ?? "", dense, hint: hintOf(field, groupNow()?.class, lastWords[at]) }));
+    const rows = form.fields.map((field, at) => fieldRow(field, at, { value: values[at] ?? "", dense,
+        hint: hintOf(field, groupNow()?.class, lastWords[at]) }));
     const undoing = undoes(now.draft);
     byId("form").replaceChildren(
         el("div", { class: "scroll" }, title ? el("h2", {}, title) : kindButtons(), el("div", { class: dense ? "three" : "" }, rows),
@@ -87,8 +88,10 @@ export function showJudged() {
     judged.form.fields.forEach((field, at) => sayAt(at, judged.remarks.get(at)));
     const all = [...judged.remarks.values()];
     const held = now.mode === "heading" && now.draft.begun !== null && !judged.complete ? heldWords() : [];
-    const bad = [...all.filter((remark) => remark.wrong).map((remark) => remark.words), ...judged.onLine, ...(judged.accepted ? [] : judged.others), ...held];
-    const lines = [...bad.map((words) => remarkLine(words, true)), ...all.filter((remark) => !remark.wrong).map((remark) => remarkLine(remark.words, false))];
+    const bad = [...all.filter((remark) => remark.wrong).map((remark) => remark.words), ...judged.onLine, ...(judged.accepted ? [] : judged.others),
+        ...held];
+    const lines = [...bad.map((words) => remarkLine(words, true)), ...all.filter((remark) => !remark.wrong)
+        .map((remark) => remarkLine(remark.words, false))];
     byId("remarks").replaceChildren(...lines, ...(bad.length === 0 ? [givesLine(judged)] : []));
     byId("todo").textContent = current().todo(judged.values);
     byId("effect").replaceChildren(...(now.mode === "correct" && judged.accepted ? effectOf(judged.result.book) : []));
@@ -105,12 +108,14 @@ function heldWords() {
 // What the record gives, as records reads it in a book that nobody keeps.
 function givesLine(judged) {
     if (!judged.accepted) {
-        return el("p", { class: "soft" }, now.mode === "heading" ? "Groups stand in the order of their numbers." : "What the record gives is shown here.");
+        return el("p", { class: "soft" }, now.mode === "heading" ? "Groups stand in the order of their numbers."
+            : "What the record gives is shown here.");
     }
     const row = rowOf(judged.result, judged.trial(judged.line), judged.at);
     const figures = figuresOf(row);
     return figures.length === 0 ? el("p", { class: "soft" }, "All values are right.")
-        : el("p", { class: "given" }, el("span", {}, "It gives"), el("b", {}, figures.map(({ label, kg }) => el("span", {}, gases(`${label} ${kg} kg `)))));
+        : el("p", { class: "given" }, el("span", {}, "It gives"), el("b", {},
+            figures.map(({ label, kg }) => el("span", {}, gases(`${label} ${kg} kg `)))));
 }
 
 // Enter: the record goes in where the writer takes it; else its words stand beside the field, and nothing is entered. A heading that is refused

@@ -47,15 +47,18 @@ export function readText(lines) {
         const { rows, subtotals } = recordsOf(tried.book);
         const close = rows.pop();
         const book = tried.book.slice(0, Number(close.first));
-        return { lines, book, said: tried.said, written: tried.written - 1, failed: 0, rows, closed: false, together: bySubtotal(subtotals), lineOf: lineFinder(lines, rows.length) };
+        return { lines, book, said: tried.said, written: tried.written - 1, failed: 0, rows, closed: false, together: bySubtotal(subtotals),
+            lineOf: lineFinder(lines, rows.length) };
     }
     const { book, said, ...counts } = written(lines);
     const { rows, subtotals } = recordsOf(book);
     const closed = said.verdict.closed;
-    return { lines, book, said, ...counts, rows, closed, together: bySubtotal(closed ? subtotals : recordsOf(triedClosed(book)).subtotals), lineOf: lineFinder(lines, counts.written) };
+    return { lines, book, said, ...counts, rows, closed, together: bySubtotal(closed ? subtotals : recordsOf(triedClosed(book)).subtotals),
+        lineOf: lineFinder(lines, counts.written) };
 }
 
-// The line of a text that became a record. Where lines failed, the writer is asked: the first part of the text that writes so many records ends there.
+// The line of a text that became a record. Where lines failed, the writer is asked: the first part of the text that writes so many records ends
+// there.
 function lineFinder(lines, count) {
     const worded = lines.map((line, at) => at).filter((at) => hasWords(lines[at]));
     if (count === worded.length) {

@@ -33,7 +33,8 @@ function takenAfter(kinds, before, write) {
     }).map((kind) => kind.name);
 }
 
-// What a book is made of, asked of the writer: the kind that begins it, the kind that begins a group, the farm's own kinds, and the kinds of each class.
+// What a book is made of, asked of the writer: the kind that begins it, the kind that begins a group, the farm's own kinds, and the kinds of each
+// class.
 export function placesOf(kinds, write) {
     const begin = takenAfter(kinds, [], write)[0];
     const farm = leastLine(kinds.get(begin));

@@ -37,7 +37,8 @@ export function drawLine() {
     byId("form").replaceChildren(
         el("div", { class: "scroll" }, el("h2", {}, mending() ? `Mend line ${now.correcting.at + 1} of the text` : "Type a line"),
             el("div", { class: "field whole" }, el("label", { for: "line" }, "line"),
-                el("span", { class: "box" }, el("input", { id: "line", value: line, autocomplete: "off", autocapitalize: "off", spellcheck: "false" }))),
+                el("span", { class: "box" }, el("input", { id: "line", value: line, autocomplete: "off", autocapitalize: "off",
+                    spellcheck: "false" }))),
             el("p", { class: "soft" }, "The kind, then its values with blanks between, as in: enteric 31 300 6.5. A comma is no point here."),
             el("div", { class: "aid" }, mending() ? button("Remove this line", () => removed(now.correcting.at, 1, [], "a line removed")) : "",
                 button(mending() ? "Leave it as it is" : "Back to the fields", leave))),

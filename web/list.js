@@ -41,7 +41,8 @@ function recordRow(row) {
         class: `row ${row.name}${now.fresh === row.record ? " fresh" : ""}`, "data-record": row.record, "data-typed": row.typed,
         "aria-current": here ? "true" : null, onclick: frozen ? null : () => correct(row),
     },
-    el("td", {}, frozen ? row.record : button(row.record, (event) => { event.stopPropagation(); correct(row); }, { "aria-label": `Record ${row.record}, ${row.name}` })),
+    el("td", {}, frozen ? row.record : button(row.record, (event) => { event.stopPropagation(); correct(row); },
+        { "aria-label": `Record ${row.record}, ${row.name}` })),
     el("td", {}, row.name), el("td", {}, valuesOf(row.typed), unusualAt(row)), el("td", { class: "f" }, figureCells(row)));
 }
 
@@ -51,7 +52,8 @@ function togetherRow(row) {
     return el("tr", { class: "row sub" }, el("td"), el("td"), el("td", {}, "together"), el("td", { class: "f" }, figureCells(row)));
 }
 
-const moreRow = (words, key, first) => el("tr", { class: "row" }, el("td"), el("td"), el("td", {}, button(words, () => { windowFrom.set(key, first); draw(); })), el("td"));
+const moreRow = (words, key, first) => el("tr", { class: "row" }, el("td"), el("td"),
+    el("td", {}, button(words, () => { windowFrom.set(key, first); draw(); })), el("td"));
 
 // Of a large group the part is drawn in which the last change stands, or its end, or what was asked for.
 function windowed(rows, key, large) {
@@ -97,8 +99,10 @@ function failedRows() {
     const rows = messages.map(({ from: at, to, words }) => el("tr", { class: "row failed" }, el("td"),
         el("td", {}, icon("no"), " not in"),
         el("td", {}, el("b", {}, now.draft.lines[at].trim(), to > at ? ` and the lines after it` : ""), el("small", {}, words)),
-        el("td", {}, button(`Mend line ${at + 1}`, () => { now.mode = "line"; now.correcting = { at }; draw(); byId("line")?.focus(); }, { disabled: !now.mine }))));
-    const rest = more.filter((words) => /^and \d+ more$/.test(words)).map((words) => el("tr", { class: "row failed" }, el("td"), el("td"), el("td", {}, words), el("td")));
+        el("td", {}, button(`Mend line ${at + 1}`, () => { now.mode = "line"; now.correcting = { at }; draw(); byId("line")?.focus(); },
+            { disabled: !now.mine }))));
+    const rest = more.filter((words) => /^and \d+ more$/.test(words)).map((words) => el("tr", { class: "row failed" }, el("td"), el("td"),
+        el("td", {}, words), el("td")));
     return el("tbody", {}, el("tr", { class: "group bad" }, el("th", { colspan: "4" }, `${now.read.failed} lines are not in the book`)), rows, rest);
 }
 

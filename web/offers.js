@@ -10,7 +10,8 @@ let tables = null;
 const chosen = {};
 
 function tablesNow() {
-    tables ??= Object.fromEntries([...document.querySelectorAll("script[id^=table-]")].map((each) => [each.id.slice(6), JSON.parse(each.textContent)]));
+    tables ??= Object.fromEntries([...document.querySelectorAll("script[id^=table-]")]
+        .map((each) => [each.id.slice(6), JSON.parse(each.textContent)]));
     return tables;
 }
 
@@ -71,7 +72,8 @@ export function aidsFor(form, last, more) {
         return [button(other, () => { const words = fieldsNow().slice(0, 2); now.form = 1 - now.form; more.refill(words); })];
     }
     if (now.mode === "heading") {
-        return now.draft.begun !== null || now.read.rows.length === 0 ? [] : [button(now.chosen === null ? "Back" : `Back to group ${now.chosen}`, leave)];
+        return now.draft.begun !== null || now.read.rows.length === 0 ? []
+            : [button(now.chosen === null ? "Back" : `Back to group ${now.chosen}`, leave)];
     }
     if (last) {
         out.push(button(`Fill in as record ${last.record}`, () => more.refill(wordsOf(last.typed).slice(1))));

@@ -11,7 +11,8 @@ export async function replaceDraft(lines, name) {
         return false;
     }
     if (now.draft.lines.length > 0) {
-        const words = name ? `Open ${name} in place of the draft? What is not saved as a file is gone.` : "Begin a new book in place of the draft? What is not saved as a file is gone.";
+        const words = name ? `Open ${name} in place of the draft? What is not saved as a file is gone.`
+            : "Begin a new book in place of the draft? What is not saved as a file is gone.";
         const answer = await ask(words, [["", "Keep the draft", false], ["yes", name ? "Open it in place of the draft" : "Begin anew", true]]);
         if (answer !== "yes") {
             return false;
@@ -25,5 +26,6 @@ export async function replaceDraft(lines, name) {
 
 export function draftItem() {
     const { book, rows, closed, said } = now.read;
-    return { name: "the draft in Book", bytes: book, rows, state: closed ? "closed" : "unfinished", title: titleOf(rows), lines: now.draft.lines, said, why: whyOf(book) };
+    return { name: "the draft in Book", bytes: book, rows, state: closed ? "closed" : "unfinished", title: titleOf(rows), lines: now.draft.lines,
+        said, why: whyOf(book) };
 }

@@ -18,7 +18,7 @@ function stateOf(item) {
     if (item.state === "unfinished") {
         return ["open", "not closed: not for members"];
     }
-    return ["no", item.state === "refused" ? `${/^refused \d+ record \d+/.exec(item.why.machine)[0].replace(/^refused \d+/, "refused at")}: see Check` : item.words];
+    return ["no", item.state === "refused" ? `refused at ${/record \d+/.exec(item.why.machine)[0]}: see Check` : item.words];
 }
 
 function bookEntry(item, at) {
@@ -76,13 +76,15 @@ export function drawPage() {
     byId("page-books").replaceChildren(...items.map(bookEntry));
     byId("page-all").textContent = ready === 1 ? "Save the 1 ready page" : `Save the ${ready} ready pages`;
     byId("page-all").disabled = ready === 0;
-    byId("page-shown").replaceChildren(...(items.length > 0 ? shownBook(items[shown]) : [el("p", { class: "big" }, "No book is open. Open one, or several at once.")]));
+    byId("page-shown").replaceChildren(...(items.length > 0 ? shownBook(items[shown])
+        : [el("p", { class: "big" }, "No book is open. Open one, or several at once.")]));
 }
 
 export function pageView() {
     onDraw(() => { if (location.hash === "#page") { drawPage(); } });
     return el("section", { class: "view cols2", id: "view-page", "aria-label": "Page" },
-        el("aside", { class: "scroll" }, el("p", { class: "lead" }, "The member's page of each book. Open or drop many books at once; parts of one book are put together."),
+        el("aside", { class: "scroll" }, el("p", { class: "lead" },
+            "The member's page of each book. Open or drop many books at once; parts of one book are put together."),
             button("Open books", async () => addBooks(await chosenFiles()), { class: "wide" }),
             el("ul", { class: "books", id: "page-books" }), button("Save the ready pages", saveReady, { class: "main wide", id: "page-all" })),
         el("div", { class: "paper", id: "page-shown" }));

@@ -1,4 +1,4 @@
-// The proved programs. Each stands in the page as base64, is compiled once and run on whole inputs; nothing is decided here.
+// The proved programs. Each stands in the page deflated and as base64, is compiled once and run on whole inputs; nothing is decided here.
 import { run } from "../ports/programs.mjs";
 
 const compiled = new Map();
@@ -10,7 +10,9 @@ export const decoded = (bytes) => decoder.decode(bytes);
 
 async function compile(name) {
     const base64 = document.getElementById(`program-${name}`).textContent;
-    compiled.set(name, await WebAssembly.compile(Uint8Array.from(atob(base64), (each) => each.charCodeAt(0))));
+    const small = new Blob([Uint8Array.from(atob(base64), (each) => each.charCodeAt(0))]);
+    const bytes = await new Response(small.stream().pipeThrough(new DecompressionStream("deflate-raw"))).arrayBuffer();
+    compiled.set(name, await WebAssembly.compile(bytes));
 }
 
 const waiting = new Map();

@@ -7,8 +7,10 @@ import { now } from "./state.js";
 import { spaced, wordOf, wordsOf } from "./typed.js";
 
 // whatif's names, the ends of its sliders and where they stand first. The ends are for the finger alone: the program judges what is typed.
-const FIELDS = [["GE", "MJ a head and day", 1, 650, 0.5, "340"], ["Ym", "per cent", 0.5, 20, 0.1, "6.5"], ["head", "animals", 1, 300, 1, "40"], ["days", "in the year", 1, 366, 1, "365"]];
-const CHANGES = { feed: ["feed times", "times", 0.5, 2, 0.01, "0.95"], ym: ["new Ym", "per cent", 0.5, 20, 0.1, "6"], head: ["head times", "times", 0.5, 2, 0.01, "0.9"] };
+const FIELDS = [["GE", "MJ a head and day", 1, 650, 0.5, "340"], ["Ym", "per cent", 0.5, 20, 0.1, "6.5"], ["head", "animals", 1, 300, 1, "40"],
+    ["days", "in the year", 1, 366, 1, "365"]];
+const CHANGES = { feed: ["feed times", "times", 0.5, 2, 0.01, "0.95"], ym: ["new Ym", "per cent", 0.5, 20, 0.1, "6"],
+    head: ["head times", "times", 0.5, 2, 0.01, "0.9"] };
 
 let change = "feed";
 const keptSlips = [];
@@ -48,7 +50,8 @@ export function estimate() {
     const [, ...said] = remarks.split("\n").filter(Boolean);
     byId("slip").dataset.printed = decoded(output).trim();
     if (answer !== "0") {
-        byId("slip").replaceChildren(...said.slice(0, -1).map((words) => el("p", { class: "bad" }, icon("no"), ` ${words.replace(/^line 1: /, "")}`)));
+        byId("slip").replaceChildren(...said.slice(0, -1).map((words) => el("p", { class: "bad" }, icon("no"),
+            ` ${words.replace(/^line 1: /, "")}`)));
         return;
     }
     const less = difference.startsWith("-");
@@ -62,8 +65,10 @@ export function estimate() {
 }
 
 function drawKept() {
-    byId("slips").replaceChildren(el("thead", {}, el("tr", {}, ["Kept to compare", "kg CH4", "difference"].map((word) => el("th", { scope: "col" }, gases(word))))),
-        el("tbody", {}, keptSlips.map(([name, after, difference]) => el("tr", {}, el("td", {}, name), el("td", {}, thin(after)), el("td", {}, thin(difference))))));
+    byId("slips").replaceChildren(el("thead", {}, el("tr", {}, ["Kept to compare", "kg CH4", "difference"]
+        .map((word) => el("th", { scope: "col" }, gases(word))))),
+        el("tbody", {}, keptSlips.map(([name, after, difference]) => el("tr", {}, el("td", {}, name), el("td", {}, thin(after)),
+            el("td", {}, thin(difference))))));
 }
 
 function chooseChange(next) {
@@ -94,5 +99,6 @@ export function whatifView() {
                 el("div", { class: "seg", id: "whatif-seg", role: "group", "aria-label": "What changes" },
                     Object.entries(CHANGES).map(([name, [words]]) => button(words, () => chooseChange(name), { "data-change": name }))),
                 el("div", { id: "whatif-change" })),
-            el("article", {}, el("h3", {}, gases("Enteric methane, kg CH4")), el("div", { id: "slip", "aria-live": "polite" }), el("table", { class: "eff kept", id: "slips" }))));
+            el("article", {}, el("h3", {}, gases("Enteric methane, kg CH4")), el("div", { id: "slip", "aria-live": "polite" }),
+                el("table", { class: "eff kept", id: "slips" }))));
 }

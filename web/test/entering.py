@@ -94,7 +94,8 @@ def expected(lines, line):
 
 
 def test_mistakes():
-    """Every mistake of samples/mistakes.txt: refused with the writer's words, nothing entered. By fields where the form can hold it, else as a line."""
+    """Every mistake of samples/mistakes.txt: refused with the writer's words, nothing entered. By fields where the form can hold it, else as a
+    line."""
     page, lines, refused = Page(), [], 0
     try:
         for line in lines_of("mistakes.txt"):
@@ -165,12 +166,15 @@ def test_correcting():
     """A line in the middle is corrected, removed, and given back by Undo; unusual values go in; groups and farm's own records find their place."""
     page = Page()
     try:
-        for line in ("farm 7 2010 1", "heading 12 milking 40", "enteric 31 300 6.5", "energy 1 12,5 70000", "heading 9 dry 10", "enteric 365 220 6.5"):
+        for line in ("farm 7 2010 1", "heading 12 milking 40", "enteric 31 300 6.5", "energy 1 12,5 70000", "heading 9 dry 10",
+            "enteric 365 220 6.5"):
             page.changed(lambda: page.press(enter(page, line)))
         page.press("Group 12, milking")
         page.changed(lambda: page.press(enter(page, "enteric 28 3 6,5")))
-        wanted = ["farm 7 2010 1", "heading 9 dry 10", "enteric 365 220.00 6.50", "heading 12 milking 40", "enteric 31 300.00 6.50", "energy 1 12.5 70000", "enteric 28 3.00 6.50"]
-        order = lambda: [row for _, row in sorted((int(row.get_attribute("data-record")), row.get_attribute("data-typed")) for row in page.all("#records tr[data-record]"))]
+        wanted = ["farm 7 2010 1", "heading 9 dry 10", "enteric 365 220.00 6.50", "heading 12 milking 40", "enteric 31 300.00 6.50",
+            "energy 1 12.5 70000", "enteric 28 3.00 6.50"]
+        order = lambda: [row for _, row in sorted((int(row.get_attribute("data-record")), row.get_attribute("data-typed"))
+            for row in page.all("#records tr[data-record]"))]
         assert order() == wanted, order()
         assert "unusual: enteric, GE 3.00 MJ" in page.text("#records")
         page.one("#records tr[data-record='4']").click()

@@ -16,7 +16,8 @@ Object.defineProperty(IDBTransaction.prototype, "oncomplete", { set(handler) { l
 
 FULL = """
 const put = IDBObjectStore.prototype.put;
-IDBObjectStore.prototype.put = function (...words) { if (window.full) { throw new DOMException("no room", "QuotaExceededError"); } return put.apply(this, words); };
+IDBObjectStore.prototype.put = function (...words) { if (window.full) { throw new DOMException("no room",
+    "QuotaExceededError"); } return put.apply(this, words); };
 """
 
 NO_STORE = "Object.defineProperty(window, 'indexedDB', { get() { throw new Error('no store'); } });"
@@ -33,7 +34,9 @@ def test_slow():
     """A change is kept before it is shown: while the disk is slow, the record is not in the list."""
     page = Page(script=SLOW)
     try:
-        begin(page, BEGIN[:2])
+        for line in BEGIN[:2]:
+            begin(page, (line,))
+            time.sleep(1.8)
         button = enter(page, BEGIN[2])
         start = time.time()
         page.press(button)
@@ -121,7 +124,8 @@ def test_quota():
 
 
 def test_private():
-    """Without a kept draft the page works and says that nothing is kept. A private window of Chromium keeps until it is closed, which no page can see:
+    """Without a kept draft the page works and says that nothing is kept. A private window of Chromium keeps until it is closed, which no page can
+    see:
     there the first screen has said so."""
     page = Page(script=NO_STORE)
     try:
@@ -173,7 +177,8 @@ def test_large():
         page.changed(lambda: page.press("Close the book"))
         page.view("page")
         page.until(lambda: page.all("#frame"), "no page")
-        print(f"large: opening {took[0]:.0f} ms, a change {took[1]:.0f} and {took[2]:.0f} ms, a key {start:.0f} ms, the page anew {opened:.0f} ms; {PAGE.stat().st_size} bytes")
+        print(f"large: opening {took[0]:.0f} ms, a change {took[1]:.0f} and {took[2]:.0f} ms, a key {start:.0f} ms, "
+              f"the page anew {opened:.0f} ms; {PAGE.stat().st_size} bytes")
     finally:
         page.close()
         shutil.rmtree(folder)
@@ -212,10 +217,12 @@ def test_offline():
             page.view(view)
         asked = page.script("return performance.getEntriesByType('resource').map((each) => each.name)")
         assert [each for each in asked if not each.startswith("blob:")] == [], asked
-        sent = [entry["message"] for entry in page.driver.get_log("performance") if '"Network.requestWillBeSent"' in entry["message"] and '"http' in entry["message"].split('"request"')[-1][:400]]
+        sent = [entry["message"] for entry in page.driver.get_log("performance")
+            if '"Network.requestWillBeSent"' in entry["message"] and '"http' in entry["message"].split('"request"')[-1][:400]]
         assert [each for each in sent if '"url":"http' in each] == [], sent
-        stopped = page.driver.execute_async_script("const done = arguments[0]; fetch('https://example.org/').then(() => done('sent'), (error) => done('stopped'));"
-                                                   "document.addEventListener('securitypolicyviolation', (event) => { window.stopped = event.violatedDirective; });")
+        stopped = page.driver.execute_async_script("""const done = arguments[0];
+            document.addEventListener("securitypolicyviolation", (event) => { window.stopped = event.violatedDirective; });
+            fetch("https://example.org/").then(() => done("sent"), (error) => done("stopped"));""")
         assert stopped == "stopped" and page.script("return window.stopped") == "connect-src", "the policy does not stop a request"
     finally:
         page.close()

@@ -1,6 +1,7 @@
 // What can be measured of how the page looks: gives a sentence for each thing that is wrong.
 const said = [];
-const name = (each) => `${each.tagName.toLowerCase()}${each.id ? `#${each.id}` : ""} "${(each.getAttribute("aria-label") ?? each.innerText ?? "").trim().slice(0, 24)}"`;
+const words = (each) => (each.getAttribute("aria-label") ?? each.innerText ?? "").trim().slice(0, 24);
+const name = (each) => `${each.tagName.toLowerCase()}${each.id ? `#${each.id}` : ""} "${words(each)}"`;
 const parsed = (colour) => colour.match(/[\d.]+/g).map(Number);
 const light = ([r, g, b]) => [r, g, b].map((part) => part / 255).map((part) => (part <= 0.03928 ? part / 12.92 : ((part + 0.055) / 1.055) ** 2.4))
     .reduce((sum, part, at) => sum + part * [0.2126, 0.7152, 0.0722][at], 0);
@@ -15,7 +16,8 @@ const ground = (each) => {
 };
 const seen = (each) => {
     const box = each.getBoundingClientRect();
-    return each.checkVisibility({ visibilityProperty: true, opacityProperty: true }) && box.width > 0 && box.height > 0 && box.right > 0 && box.left < innerWidth;
+    return each.checkVisibility({ visibilityProperty: true, opacityProperty: true }) && box.width > 0 && box.height > 0 && box.right > 0
+        && box.left < innerWidth;
 };
 for (const each of document.querySelectorAll("body *")) {
     const own = [...each.childNodes].some((node) => node.nodeType === 3 && node.textContent.trim());

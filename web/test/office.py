@@ -19,7 +19,8 @@ def folder_of(files):
 
 
 def test_files():
-    """A typed text, a damaged book, a sheet, garbage, an empty file and 200 MB: words, no crash, and nothing replaces the draft without a question."""
+    """A typed text, a damaged book, a sheet, garbage, an empty file and 200 MB: words, no crash, and nothing replaces the draft without a
+    question."""
     folder = folder_of({"garbage.bin": bytes(range(256)) * 40, "letter.txt": b"Dear Sir,\nthe cows are well.\n", "empty.book": b"",
                         "cut.book": (SAMPLES / "sample.book").read_bytes()[:40]})
     with open(folder / "huge.book", "wb") as file:
@@ -28,10 +29,13 @@ def test_files():
     try:
         begin(page)
         before = page.shown()
-        for path, words in ((SAMPLES / "damaged.book", "Refused at record 3"), (SAMPLES / "sample.csv", "This is a sheet"), (folder / "garbage.bin", "No book"),
-                            (folder / "letter.txt", "no book and no text"), (folder / "empty.book", "The file is empty"), (folder / "huge.book", "too large for a book: 200 MB")):
+        for path, words in ((SAMPLES / "damaged.book", "Refused at record 3"), (SAMPLES / "sample.csv", "This is a sheet"),
+            (folder / "garbage.bin", "No book"),
+                            (folder / "letter.txt", "no book and no text"), (folder / "empty.book", "The file is empty"), (folder / "huge.book",
+                                "too large for a book: 200 MB")):
             page.choose_files("Open", path)
-            page.until(lambda: page.one("#view-check").is_displayed() and words in page.text("#view-check"), f"{path.name}: {page.text('#view-check')}")
+            page.until(lambda: page.one("#view-check").is_displayed() and words in page.text("#view-check"),
+                f"{path.name}: {page.text('#view-check')}")
             page.view("book")
             assert page.shown() == before, f"{path.name} replaced the draft"
         for path, count in ((SAMPLES / "farm.txt", 27), (folder / "cut.book", 3)):
@@ -75,7 +79,8 @@ def test_check():
 def test_books():
     """Many books at once, and a book in parts: which are ready; the page, sheet and text of one; all pages that are ready."""
     sample = (SAMPLES / "sample.book").read_bytes()
-    folder = folder_of({"a.book": sample, "b.part1": sample[:30], "b.part2": sample[30:], "c.book": sample[:40], "d.book": (SAMPLES / "refused.book").read_bytes(),
+    folder = folder_of({"a.book": sample, "b.part1": sample[:30], "b.part2": sample[30:], "c.book": sample[:40],
+        "d.book": (SAMPLES / "refused.book").read_bytes(),
                         "e.txt": (SAMPLES / "farm.txt").read_bytes()})
     page = Page()
     try:
@@ -158,8 +163,10 @@ def test_looks():
     the heading in sight with the keypad up, nothing wider than the screen."""
     page, wrong = Page(), []
     try:
-        begin(page, ("farm 1174 2026 1", "heading 12 milking 64", "enteric 31 342 6.5", "enteric 28 342 6.5", "cattle 31 20.80 16.40 29.40 3.38 40 15 85 0",
-                     "heading 20 dry 11", "heading 31 heifer 38", "heading 50 pig 240", "energy 1 9400 2730", "tillage mixedwood-plains medium intensive-to-no 6 42.5"))
+        begin(page, ("farm 1174 2026 1", "heading 12 milking 64", "enteric 31 342 6.5", "enteric 28 342 6.5",
+            "cattle 31 20.80 16.40 29.40 3.38 40 15 85 0",
+                     "heading 20 dry 11", "heading 31 heifer 38", "heading 50 pig 240", "energy 1 9400 2730",
+                     "tillage mixedwood-plains medium intensive-to-no 6 42.5"))
         page.press("Group 12, milking")
         page.press("enteric")
         page.fill_all([("days", []), ("GE", []), ("Ym", [])], ["31", "34.20", "65"])

@@ -92,7 +92,8 @@ class Page:
         """The buttons in sight whose accessible name is or begins with the words."""
         return self.script("""
             const name = (each) => (each.getAttribute("aria-label") ?? each.innerText).replace(/\\s+/g, " ").trim();
-            return [...document.querySelectorAll("button, a[role=button]")].filter((each) => each.checkVisibility() && name(each).startsWith(arguments[0]));""", name)
+            return [...document.querySelectorAll("button, a[role=button]")].filter((each) => each.checkVisibility()
+                && name(each).startsWith(arguments[0]));""", name)
 
     def button(self, name):
         found = self.buttons(name)

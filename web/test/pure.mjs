@@ -95,10 +95,13 @@ const tests = {
     "the writer's words: where they belong"() {
         const said = saidOf(readFileSync(join(here, "../../samples/mistakes.said"), "utf8"));
         assert.equal(said.messages.length, 20);
-        assert.deepEqual(said.messages.find(({ to }) => to === 20), { from: 18, to: 20, words: "without heading: line 18, which may have been a heading, was not read" });
+        assert.deepEqual(said.messages.find(({ to }) => to === 20), { from: 18, to: 20,
+            words: "without heading: line 18, which may have been a heading, was not read" });
         assert.equal(said.unusual.length, 1);
-        assert.deepEqual(said.groups.map(({ number, days }) => [number, days.map((part) => part.short)]), [["1", [true, false]], ["2", [false]], ["4", []]]);
-        assert.deepEqual(said.verdict, { closed: false, written: 10, failed: 20, unusual: 1, text: "not closed: 10 written, 10 refused, 6 not read, 4 without heading, 1 unusual" });
+        assert.deepEqual(said.groups.map(({ number, days }) => [number, days.map((part) => part.short)]),
+            [["1", [true, false]], ["2", [false]], ["4", []]]);
+        assert.deepEqual(said.verdict, { closed: false, written: 10, failed: 20, unusual: 1,
+            text: "not closed: 10 written, 10 refused, 6 not read, 4 without heading, 1 unusual" });
         const form = (name) => kinds.get(name).forms[0];
         assert.equal(fieldOf('refused 7 field 2: GE: "34000" is out of its range', form("enteric")), 1);
         assert.equal(fieldOf('not read: cattle, milk protein: "x" is no number', form("cattle")), 4);
@@ -109,20 +112,25 @@ const tests = {
         assert.equal(besideOf('refused 7 field 2: GE: "34000" is out of its range'), '"34000" is out of its range');
     },
     "what compare prints"() {
-        const text = "old: accepted\nnew: accepted\ngroup 12:\nrecord 2, enteric: GE 300.00 MJ, now 300.01\n  CH4 434.501 kg, now 434.516, +0.015\nsubtotal:\n"
+        const text = "old: accepted\nnew: accepted\ngroup 12:\nrecord 2, enteric: GE 300.00 MJ, now 300.01\n"
+            + "  CH4 434.501 kg, now 434.516, +0.015\nsubtotal:\n"
             + "  CH4 826.954 kg, now 826.969, +0.015\ntotal:\n  CO2e 18241.034 kg, now 18241.349, +0.315\nall else is the same\n";
         const { parts, words } = comparedOf(text, kinds);
         assert.deepEqual(words, ["all else is the same"]);
-        assert.deepEqual(parts.map(({ section, title }) => [section, title]), [["group 12", "record 2, enteric"], ["group 12", "subtotal"], ["the farm", "total"]]);
+        assert.deepEqual(parts.map(({ section, title }) => [section, title]),
+            [["group 12", "record 2, enteric"], ["group 12", "subtotal"], ["the farm", "total"]]);
         assert.deepEqual(parts[0].rows, [{ name: "GE", unit: "MJ", old: "300.00", now: "300.01", difference: "" },
             { name: "CH4", unit: "kg", old: "434.501", now: "434.516", difference: "+0.015" }]);
-        const added = comparedOf("old: accepted\nnew: accepted\ngroup 9, added:\nnew record 3, heading: group 9; class dry; head 4\nsubtotal, only in new:\n  CH4 1.000 kg\n", kinds);
+        const added = comparedOf("old: accepted\nnew: accepted\ngroup 9, added:\nnew record 3, heading: group 9; class dry; head 4\n"
+            + "subtotal, only in new:\n  CH4 1.000 kg\n", kinds);
         assert.deepEqual(added.parts[0].rows[2], { name: "head", unit: "", old: "", now: "4", difference: "" });
         assert.deepEqual(added.parts[1].rows[0], { name: "CH4", unit: "kg", old: "", now: "1.000", difference: "" });
     },
     "the tables have what the document's rows have"() {
-        const rows = readFileSync(join(here, "tables.tsv"), "utf8").split("\n").filter((row) => row && !row.startsWith("#")).map((row) => row.split("\t"));
-        const tables = Object.fromEntries(["14", "19", "20", "21", "22", "23", "24"].map((number) => [`a4-${number}`, JSON.parse(readFileSync(join(web, `tables/a4-${number}.json`), "utf8"))]));
+        const rows = readFileSync(join(here, "tables.tsv"), "utf8").split("\n").filter((row) => row && !row.startsWith("#"))
+            .map((row) => row.split("\t"));
+        const tables = Object.fromEntries(["14", "19", "20", "21", "22", "23", "24"]
+            .map((number) => [`a4-${number}`, JSON.parse(readFileSync(join(web, `tables/a4-${number}.json`), "utf8"))]));
         let numbers = 0;
         for (const [table, row, ...values] of rows) {
             const { classes, diets, handlings } = tables[table];
@@ -132,12 +140,16 @@ const tests = {
             numbers += values.length;
         }
         assert.equal(numbers, 150 + 4 + 6 + 30 + 70);
-        const chosen = { "pig class": "Finisher", province: "ON", diet: "Reduced protein diet", handling: "Liquid/slurry, with natural crust cover", season: "fall" };
-        assert.deepEqual(holos.pigValues(tables, chosen).values, { feed: "2.80", "VS excretion": "0.1034", "VS factor": "0.99", "N factor": "0.70", MCF: "0.210",
-            protein: "13.5", "direct EF": "0.005", "volatilised part": "0.48", "volatilised EF": "0.01", "leached part": "0", "leached EF": "0.0075" });
+        const chosen = { "pig class": "Finisher", province: "ON", diet: "Reduced protein diet", handling: "Liquid/slurry, with natural crust cover",
+            season: "fall" };
+        assert.deepEqual(holos.pigValues(tables, chosen).values, { feed: "2.80", "VS excretion": "0.1034", "VS factor": "0.99", "N factor": "0.70",
+            MCF: "0.210",
+            protein: "13.5", "direct EF": "0.005", "volatilised part": "0.48", "volatilised EF": "0.01", "leached part": "0",
+                "leached EF": "0.0075" });
         const pit = holos.pigValues(tables, { ...chosen, handling: "Deep pit under barn" });
         assert.deepEqual([pit.values.MCF, pit.notes.length, pit.from.includes("A4-23")], ["0.351", 1, false]);
-        const none = holos.pigValues(tables, { ...chosen, province: "NB", handling: "Liquid/slurry, without natural crust cover", season: "spring & fall" });
+        const none = holos.pigValues(tables, { ...chosen, province: "NB", handling: "Liquid/slurry, without natural crust cover",
+            season: "spring & fall" });
         assert.deepEqual([none.values.MCF, none.notes.length], ["", 1]);
         assert.deepEqual(holos.dietValues(tables, "Dairy dry diet"), { protein: "12", Ym: "6.5" });
     },

@@ -28,7 +28,8 @@ def main(names):
         except Exception as error:  # the browser's own
             failed += 1
             place = [each for each in traceback.extract_tb(error.__traceback__) if "/web/test/" in each.filename][-1]
-            print(f"{name}: failed: {type(error).__name__}: {str(error).splitlines()[0]} ({place.filename.rsplit('/', 1)[-1]}:{place.lineno})", flush=True)
+            print(f"{name}: failed: {type(error).__name__}: {str(error).splitlines()[0]} ({place.filename.rsplit('/', 1)[-1]}:{place.lineno})",
+                flush=True)
     print(f"browser: {passed} passed, {failed} failed, {unable} could not run")
     return 0 if failed == unable == 0 else 1
 
