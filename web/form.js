@@ -37,6 +37,9 @@ function judgeNow() {
     const probe = [form.name, ...values].join(" ");
     const { at, count } = placed(probe);
     const trial = (line) => tried(at, count, count ? reworded(now.draft.lines[at], line) : line);
+    if (values.every((value) => !value)) {
+        return { form, values, at, count, trial, complete: false, accepted: false, remarks: new Map(), onLine: [], others: [], line: form.name };
+    }
     return { form, values, at, count, trial, ...evaluate({ form, values, trial, at, fits: (after) => fits(after, count) }) };
 }
 

@@ -5,19 +5,22 @@ import { undoes } from "./draft.js";
 import { rowOf } from "./evaluate.js";
 import { table, written } from "./judge.js";
 import { draw, now } from "./state.js";
-import { kindOf, wordsOf } from "./typed.js";
+import { hasWords, kindOf } from "./typed.js";
 
 const mending = () => now.correcting?.at !== undefined;
 
 function judgeLine(line) {
+    if (!hasWords(line)) {
+        return { line, accepted: false, wrong: [], unusual: [] };
+    }
     const at = mending() ? now.correcting.at : placeNow(line) ?? now.draft.lines.length;
     const count = mending() ? 1 : 0;
     const result = written(tried(at, count, line));
     const words = result.said.messages.filter(({ from, to }) => from <= at && at <= to).map((message) => message.words);
     const lost = !mending() && placeNow(line) === null ? ["without heading: begin a group first"] : [];
-    const accepted = wordsOf(line).length > 0 && words.length + lost.length === 0 && fits(result, count);
+    const accepted = words.length + lost.length === 0 && fits(result, count);
     const unusual = result.said.unusual.filter(({ from }) => from === at).map((message) => message.words);
-    return { at, count, line, result, accepted, wrong: wordsOf(line).length === 0 ? [] : [...words, ...lost], unusual };
+    return { at, count, line, result, accepted, wrong: [...words, ...lost], unusual };
 }
 
 function show() {

@@ -9,6 +9,7 @@ import tempfile
 import time
 
 from selenium import webdriver
+from selenium.common.exceptions import StaleElementReferenceException
 from selenium.webdriver.chrome.service import Service
 from selenium.webdriver.common.by import By
 from selenium.webdriver.support.ui import Select, WebDriverWait
@@ -101,10 +102,21 @@ class Page:
             raise AssertionError(f"there is no button {name}")
         return found[0]
 
+    def again(self, act):
+        """What is drawn anew in this moment is looked for once more."""
+        for _ in range(5):
+            try:
+                return act()
+            except StaleElementReferenceException:
+                time.sleep(0.1)
+        return act()
+
     def press(self, name):
-        button = self.button(name)
-        self.script("arguments[0].scrollIntoView({ block: 'center' })", button)
-        button.click()
+        def act():
+            button = self.button(name)
+            self.script("arguments[0].scrollIntoView({ block: 'center' })", button)
+            button.click()
+        self.again(act)
 
     def field(self, label):
         for each in self.all("#form label[for]"):
@@ -113,6 +125,9 @@ class Page:
         raise AssertionError(f"there is no field {label}")
 
     def fill(self, label, value):
+        self.again(lambda: self.fill_once(label, value))
+
+    def fill_once(self, label, value):
         field = self.field(label)
         if field.tag_name == "select":
             Select(field).select_by_visible_text(value)
