@@ -59,7 +59,7 @@ function left(item) {
         item.why ? el("p", { class: "big" }, el("b", {}, item.why.people)) : "",
         item.rows.length > 0 && item.state !== "closed" ? nearRows(item) : "",
         el("p", {}, el("b", {}, "What to do. "), todo(item)), failedLines(item),
-        item.bytes && item.rows.length > 0 ? el("p", {}, button("Open it in Book", () => replaceDraft(linesFrom(item), item.name),
+        item.bytes && item.rows.length > 0 && !item.draft ? el("p", {}, button("Open it in Book", () => replaceDraft(linesFrom(item), item.name),
             { class: "main" })) : "",
         item.why ? el("p", { class: "mono" }, item.why.machine) : "");
 }

@@ -81,7 +81,7 @@ export const begun = (draft, line) => ({ ...draft, begun: line });
 
 export function undoes(draft) {
     if (draft.begun !== null) {
-        return `${draft.begun}: not begun`;
+        return "the refused heading";
     }
     return draft.steps.at(-1)?.label ?? null;
 }

@@ -40,6 +40,9 @@ export function fieldOf(words, form) {
     if (numbered) {
         return Number(numbered[1]) - 1;
     }
+    if (/^refused 8: /.test(words)) {
+        return form.fields.findIndex(({ label }) => label === "group");
+    }
     const named = /^(?:not read: \w+, |refused \d+: )([^:]+): /.exec(words)?.[1] ?? /^unusual: \w+, ([^:]+): /.exec(words)?.[1] ?? "";
     const fields = form.fields.map((field, at) => ({ at, label: field.label }));
     const found = fields.filter(({ label }) => named === label || named.startsWith(`${label} `)).sort((a, b) => b.label.length - a.label.length)[0];
@@ -48,6 +51,6 @@ export function fieldOf(words, form) {
 
 // The words of a message that stand beside its field: without what the field's place says already.
 export function besideOf(words) {
-    return words.replace(/^refused \d+ field \d+: [^:]+: /, "").replace(/^not read: \w+, [^:]+: /, "").replace(/^refused \d+: (days|fraction): /, "")
+    return words.replace(/^refused \d+ field \d+: [^:]+: /, "").replace(/^not read: \w+, [^:]+: /, "").replace(/^refused \d+: (?:(?:days|fraction): )?/, "")
         .replace(/^unusual: \w+, [^:]+: /, "unusual: ");
 }

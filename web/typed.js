@@ -55,7 +55,7 @@ function rowBy(names, row) {
 export function rowWith(text, number) {
     const from = text.indexOf(`\n${number},`) + 1;
     const end = text.indexOf("\n", from);
-    return from === 0 ? null : rowsOf(`${text.slice(0, text.indexOf("\n") + 1)}${text.slice(from, end < 0 ? undefined : end)}`)[0];
+    return from === 0 ? null : rowsOf(text.slice(0, text.indexOf("\n") + 1) + text.slice(from, end < 0 ? undefined : end + 1))[0];
 }
 
 // Grams as kilograms: the point moved in the printed digits, thin spaces between thousands. No number is computed.

@@ -49,6 +49,12 @@ const tests = {
         assert.equal(typed.kilograms("471141364"), "471\u202f141.364");
         assert.equal(typed.kilograms("-14402025"), "\u221214\u202f402.025");
     },
+    "one row of a table"() {
+        const text = "record,first,typed,co2e\r\n0,0,farm 7 2010 1,\r\n,,,5\r\n1,11,close 1,7\r\n";
+        assert.deepEqual(typed.rowWith(text, 0), { record: "0", first: "0", typed: "farm 7 2010 1", co2e: "" });
+        assert.deepEqual(typed.rowWith(text, 1), typed.rowsOf(text)[2]);
+        assert.equal(typed.rowWith(text, 2), null);
+    },
     "a part as per cent"() {
         assert.deepEqual(["0.065", "0.16", "0.220", "1", "0.1"].map(typed.perCent), ["6.5", "16", "22.0", "100", "10"]);
     },
@@ -79,7 +85,7 @@ const tests = {
         const second = draft.changed(first, 1, 0, ["heading 12 milking 40"], "record 1 added");
         const third = draft.changed(second, 1, 1, ["heading 12 dry 40"], "record 1 corrected");
         const held = draft.begun(third, "heading 12 pig 3");
-        assert.equal(draft.undoes(held), "heading 12 pig 3: not begun");
+        assert.equal(draft.undoes(held), "the refused heading");
         assert.deepEqual(draft.savedLines(held, kinds, places), ["farm 7 2010 1", "heading 12 dry 40", "heading 12 pig 3"]);
         assert.deepEqual(draft.undone(held).lines, third.lines);
         assert.deepEqual(draft.undone(third).lines, second.lines);

@@ -5,9 +5,10 @@ import traceback
 
 import entering
 import keeping
+import mending
 import office
 
-TESTS = {name[5:]: test for module in (entering, keeping, office) for name, test in vars(module).items() if name.startswith("test_")}
+TESTS = {name[5:]: test for module in (entering, mending, keeping, office) for name, test in vars(module).items() if name.startswith("test_")}
 
 
 def main(names):
