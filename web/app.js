@@ -36,7 +36,8 @@ async function openFiles(list) {
         location.hash = "#check";
         check(item);
     } else {
-        await replaceDraft(linesFrom(item), item.name);
+        const cut = item.why.machine.endsWith("bytes missing") ? `${item.why.people}: that record is left out. ` : "";
+        await replaceDraft(linesFrom(item), item.name, cut);
     }
 }
 
@@ -78,7 +79,7 @@ async function showView() {
         byId(`view-${each}`).hidden = each !== view;
     }
     for (const link of document.querySelectorAll("nav a")) {
-        link.toggleAttribute("aria-current", link.hash === `#${view}`);
+        link.hash === `#${view}` ? link.setAttribute("aria-current", "page") : link.removeAttribute("aria-current");
     }
     const drawers = { page: drawPage, check: drawCheck, whatif: () => { startWhatif(); estimate(); } };
     drawers[view]?.();

@@ -123,12 +123,27 @@ export function drawList() {
         el("tbody", {}, rows.filter((row) => row.name === table.places.begin).map(recordRow)), ...groups,
         ...(own.length > 0 ? [section("", "The farm as a whole", own, countedRecords(own.length), large)] : []),
         el("tbody", {}, rows.filter((row) => row.name === table.places.close).map(recordRow)));
+    marked(byId("records"));
     byId("records").toggleAttribute("aria-rowcount", large);
     if (large) {
         byId("records").setAttribute("aria-rowcount", String(rows.length));
     }
     byId("records").querySelector(`[aria-current], .fresh${now.look ? ", .here" : ""}`)?.scrollIntoView({ block: "nearest" });
     now.look = false;
+}
+
+// Rows are laid out as a grid: what is a table, a row and a cell is said again for a screen reader.
+function marked(list) {
+    list.setAttribute("role", "table");
+    for (const body of [...list.tBodies, list.tHead]) {
+        body.setAttribute("role", "rowgroup");
+        for (const row of body.rows) {
+            row.setAttribute("role", "row");
+            for (const cell of row.cells) {
+                cell.setAttribute("role", cell.tagName === "TH" ? "rowheader" : "cell");
+            }
+        }
+    }
 }
 
 function grouped(rows) {

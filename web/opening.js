@@ -6,12 +6,12 @@ import { titleOf } from "./judge.js";
 import { draw, now } from "./state.js";
 
 // Gives whether the draft was replaced.
-export async function replaceDraft(lines, name) {
+export async function replaceDraft(lines, name, note = "") {
     if (!now.mine) {
         return false;
     }
-    if (now.draft.lines.length > 0) {
-        const words = name ? `Open ${name} in place of the draft? What is not saved as a file is gone.`
+    if (now.draft.lines.length > 0 || note) {
+        const words = name ? `${note}Open ${name} in place of the draft? What is not saved as a file is gone.`
             : "Begin a new book in place of the draft? What is not saved as a file is gone.";
         const answer = await ask(words, [["", "Keep the draft", false], ["yes", name ? "Open it in place of the draft" : "Begin anew", true]]);
         if (answer !== "yes") {

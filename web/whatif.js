@@ -9,8 +9,8 @@ import { spaced, wordOf, wordsOf } from "./typed.js";
 // whatif's names, the ends of its sliders and where they stand first. The ends are for the finger alone: the program judges what is typed.
 const FIELDS = [["GE", "MJ a head and day", 1, 650, 0.5, "340"], ["Ym", "per cent", 0.5, 20, 0.1, "6.5"], ["head", "animals", 1, 300, 1, "40"],
     ["days", "in the year", 1, 366, 1, "365"]];
-const CHANGES = { feed: ["feed times", "times", 0.5, 2, 0.01, "0.95"], ym: ["new Ym", "per cent", 0.5, 20, 0.1, "6"],
-    head: ["head times", "times", 0.5, 2, 0.01, "0.9"] };
+const CHANGES = { feed: ["times X", "times", 0.5, 2, 0.01, "0.95"], ym: ["becomes X", "per cent", 0.5, 20, 0.1, "6"],
+    head: ["times X", "times", 0.5, 2, 0.01, "0.9"] };
 
 let change = "feed";
 const keptSlips = [];
@@ -18,11 +18,11 @@ const keptSlips = [];
 const slipId = (name) => `whatif-${name}`;
 
 function slide(name, help, low, high, step, value) {
-    const box = el("input", { id: slipId(name), inputmode: "decimal", value, autocomplete: "off" });
+    const box = el("input", { id: slipId(name), inputmode: "decimal", value, autocomplete: "off", "aria-describedby": `${slipId(name)}-help` });
     const range = el("input", { type: "range", min: low, max: high, step, value, "aria-label": `${name}, slider` });
     box.addEventListener("input", () => { range.value = wordOf(box.value); estimate(); });
     range.addEventListener("input", () => { box.value = range.value; estimate(); });
-    return el("div", { class: "slide" }, el("label", { for: slipId(name) }, name, el("small", {}, help)), range, box);
+    return el("div", { class: "slide" }, el("span", {}, el("label", { for: slipId(name) }, name), el("small", { id: `${slipId(name)}-help` }, help)), range, box);
 }
 
 function fill(name, value) {
@@ -97,7 +97,7 @@ export function whatifView() {
                 el("div", { class: "tools" }, el("h3", {}, "The ration"), button("Take it from the book", fromGroup, { id: "whatif-from" })),
                 FIELDS.map((field) => slide(...field)), el("h3", {}, "The change"),
                 el("div", { class: "seg", id: "whatif-seg", role: "group", "aria-label": "What changes" },
-                    Object.entries(CHANGES).map(([name, [words]]) => button(words, () => chooseChange(name), { "data-change": name }))),
+                    Object.entries(CHANGES).map(([name, [words]]) => button([el("b", {}, name), " ", el("small", {}, words)], () => chooseChange(name), { "data-change": name }))),
                 el("div", { id: "whatif-change" })),
             el("article", {}, el("h3", {}, gases("Enteric methane, kg CH4")), el("div", { id: "slip", "aria-live": "polite" }),
                 el("table", { class: "eff kept", id: "slips" }))));

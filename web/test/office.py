@@ -38,6 +38,10 @@ def test_files():
                 f"{path.name}: {page.text('#view-check')}")
             page.view("book")
             assert page.shown() == before, f"{path.name} replaced the draft"
+        page.script("""const data = new DataTransfer(); data.items.add(new File(["hello"], "dropped.txt"));
+            window.dispatchEvent(new DragEvent("drop", { dataTransfer: data, cancelable: true }));""")
+        page.until(lambda: "dropped.txt" in page.text("#view-check"), "what is dropped is not opened")
+        page.view("book")
         for path, count in ((SAMPLES / "farm.txt", 27), (folder / "cut.book", 3)):
             page.choose_files("Open", path)
             page.until(lambda: page.all("dialog"), f"{path.name} replaced the draft without a question")
@@ -127,7 +131,7 @@ def test_whatif():
         begin(page)
         page.view("whatif")
         page.press("Take it from group 12")
-        page.press("head times")
+        page.press("head times X")
         page.script("const field = document.getElementById('whatif-X'); field.value = '1,25'; field.dispatchEvent(new Event('input'));")
         printed = reference("whatif", b"300.00 6.50 40 31 head 1.25\n")[0].decode().strip()
         assert page.one("#slip").get_attribute("data-printed") == printed, page.one("#slip").get_attribute("data-printed")
