@@ -20,7 +20,7 @@ function choices(field, id, value) {
         return el("span", { class: "few", role: "radiogroup", "aria-labelledby": `${id}-label`, id: `${id}-few` },
             field.choices.map((word, at) => el("label", {}, el("input", {
                 type: "radio", name: id, id: at === 0 ? id : `${id}-${at}`, value: word, checked: value === word || value === String(at + 1),
-            }), word)));
+            }), el("span", {}, word))));
     }
     const options = field.choices.map((word, at) => el("option", { value: word, selected: value === word || value === String(at + 1) }, word));
     return el("select", { id, "aria-describedby": `${id}-say` }, el("option", { value: "" }, "choose"), options);
@@ -50,7 +50,7 @@ export function fieldRow(field, at, { value, dense, hint }) {
     const [range, ...more] = hint;
     const say = el("div", { class: "say", id: `${id}-say` });
     say.dataset.hint = dense ? more.join(" · ") : hint.join("\n");
-    return el("div", { class: "field", id: `${id}-row` },
+    return el("div", { class: field.choices.length > 0 ? "field choice" : "field", id: `${id}-row` },
         el("div", { class: "named" }, label, dense ? el("small", {}, range ?? "") : el("small", {}, field.help)),
         el("span", { class: "box" }, field.choices.length > 0 ? choices(field, id, value) : box(field, id, value)),
         say);
@@ -60,7 +60,8 @@ export function fieldRow(field, at, { value, dense, hint }) {
 export function sayAt(at, remark) {
     const row = document.getElementById(`field-${at}-row`);
     const say = document.getElementById(`field-${at}-say`);
-    row.className = `field${remark ? (remark.wrong ? " wrong" : " odd") : ""}`;
+    row.classList.toggle("wrong", Boolean(remark?.wrong));
+    row.classList.toggle("odd", Boolean(remark) && !remark.wrong);
     document.getElementById(`field-${at}`).setAttribute("aria-invalid", String(Boolean(remark?.wrong)));
     say.replaceChildren(...(remark ? [icon(remark.wrong ? "no" : "odd"), " ", remark.beside]
         : say.dataset.hint.split("\n").flatMap((line, each) => (each === 0 ? [line] : [el("br"), el("i", {}, "· "), line]))));
