@@ -88,6 +88,7 @@ function remarkLine(words, wrong) {
 
 export function showJudged() {
     const judged = judgeNow();
+    judged.row = judged.accepted ? rowOf(judged.result, judged.trial(judged.line), judged.at) : null;
     judged.form.fields.forEach((field, at) => sayAt(at, judged.remarks.get(at)));
     const all = [...judged.remarks.values()];
     const held = now.mode === "heading" && now.draft.begun !== null && !judged.complete ? heldWords() : [];
@@ -114,8 +115,7 @@ function givesLine(judged) {
         return el("p", { class: "soft" }, now.mode === "heading" ? "Groups stand in the order of their numbers."
             : "What the record gives is shown here.");
     }
-    const row = rowOf(judged.result, judged.trial(judged.line), judged.at);
-    const figures = figuresOf(row);
+    const figures = figuresOf(judged.row);
     return figures.length === 0 ? el("p", { class: "soft" }, "All values are right.")
         : el("p", { class: "given" }, el("span", {}, "It gives"), el("b", {},
             figures.map(({ label, kg }) => el("span", {}, gases(`${label} ${kg} kg `)))));
@@ -137,9 +137,8 @@ export async function submit() {
         (byId("form").querySelector(".wrong input") ?? byId(`field-${Math.max(0, judged.values.findIndex((value) => !value))}`)).focus();
         return;
     }
-    const row = rowOf(judged.result, judged.trial(judged.line), judged.at);
     fieldsNow().splice(0, Infinity);
-    await entered(judged, row?.record ?? null);
+    await entered(judged, judged.row?.record ?? null);
     focusFirst();
 }
 

@@ -7,7 +7,7 @@ import { draw, now } from "./state.js";
 import { wordsOf } from "./typed.js";
 
 const ALL = 400; // so many records are all drawn; of a larger book a part of each group
-const SOME = 100;
+const SOME = 60;
 
 const unfolded = new Map(); // groups that were opened or shut by hand
 const windowFrom = new Map(); // of a large group, the first record that is drawn
