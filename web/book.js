@@ -25,18 +25,10 @@ function drawEntry() {
     }
 }
 
-// One change at a time: a second Enter waits for the first.
-let busy = false;
-
-async function once(action) {
-    if (busy || !now.mine) {
-        return;
-    }
-    busy = true;
-    try {
-        await action();
-    } finally {
-        busy = false;
+// What is typed stays in its fields while a change before it is being kept.
+function once(action) {
+    if (!now.busy && now.mine) {
+        action();
     }
 }
 

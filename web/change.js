@@ -6,6 +6,7 @@ import { draw, now } from "./state.js";
 import { wordsOf } from "./typed.js";
 
 const NO_ROOM = "This device has no room: the last change is not kept. Save the text now; nothing is lost while this page is open.";
+const NOT_KEPT = "The last change could not be kept on this device. Save the text now; nothing is lost while this page is open.";
 const OTHERS = "Another window has changed this book. Here it can only be read: open this page anew to go on.";
 export const PRIVATE = "This browser keeps nothing on this device (a private window, perhaps). Save the text before you leave.";
 
@@ -21,18 +22,21 @@ async function kept(draft) {
             now.mine = false;
             return [false, OTHERS];
         }
-        return [false, NO_ROOM];
+        return [false, error?.name === "QuotaExceededError" ? NO_ROOM : NOT_KEPT];
     }
 }
 
-// The draft as it will be: read, kept, then shown. Where another window has changed it, nothing is.
+// The draft as it will be: read, kept, then shown. Where another window has changed it, nothing is. One change at a time: what is asked for while
+// one is being kept is not done.
 export async function apply(draft, then = {}) {
-    if (!now.mine) {
+    if (!now.mine || now.busy) {
         return false;
     }
     const start = performance.now();
     const read = readText(draft.lines);
+    now.busy = true;
     const [saved, trouble] = await kept(draft);
+    now.busy = false;
     Object.assign(now, { saved, trouble });
     if (now.mine) {
         Object.assign(now, { draft, read, fresh: null, correcting: null }, then);

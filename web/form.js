@@ -1,11 +1,11 @@
 // The form of the Book view: what may be entered now, judged at each key, and entered.
 import { button, byId, el, gases, icon } from "./dom.js";
-import { added, corrected, fits, groupNow, headingAt, heldBack, kindsNow, placeNow, removed, tried, undo } from "./change.js";
+import { added, corrected, fits, groupNow, heldBack, kindsNow, placeNow, removed, tried, undo } from "./change.js";
 import { effectOf } from "./effect.js";
 import { evaluate, refusedShort, rowOf } from "./evaluate.js";
 import { fieldRow, hintOf, sayAt, valueAt } from "./fields.js";
 import { figuresOf } from "./figures.js";
-import { linesOfGroup, undoes } from "./draft.js";
+import { undoes } from "./draft.js";
 import { table } from "./judge.js";
 import { aidsFor } from "./offers.js";
 import { draw, fieldsNow, now } from "./state.js";
@@ -62,7 +62,7 @@ export function drawForm() {
     const undoing = undoes(now.draft);
     byId("form").replaceChildren(
         el("div", { class: "scroll" }, title ? el("h2", {}, title) : kindButtons(), el("div", { class: dense ? "three" : "" }, rows),
-            el("div", { id: "effect" }), el("div", { class: "aid" }, aidsFor(form, last, { lines: linesOfGroup, headingAt, removed, refill }))),
+            el("div", { id: "effect" }), el("div", { class: "aid" }, aidsFor(form, last, { removed, refill }))),
         el("div", { class: "gives" }, el("div", { id: "remarks", "aria-live": "polite" }),
             el("div", { class: "buttons" },
                 el("button", { type: "button", id: "undo", onclick: undo, disabled: undoing === null },
@@ -92,14 +92,21 @@ export function showJudged() {
     judged.form.fields.forEach((field, at) => sayAt(at, judged.remarks.get(at)));
     const all = [...judged.remarks.values()];
     const held = now.mode === "heading" && now.draft.begun !== null && !judged.complete ? heldWords() : [];
-    const bad = [...all.filter((remark) => remark.wrong).map((remark) => remark.words), ...judged.onLine, ...(judged.accepted ? [] : judged.others),
-        ...held];
+    const bad = [...all.filter((remark) => remark.wrong).map((remark) => remark.words), ...judged.onLine, ...othersFor(judged), ...held];
     const lines = [...bad.map((words) => remarkLine(words, true)), ...all.filter((remark) => !remark.wrong)
         .map((remark) => remarkLine(remark.words, false))];
     byId("remarks").replaceChildren(...lines, ...(bad.length === 0 ? [givesLine(judged)] : []));
     byId("todo").textContent = current().todo(judged.values);
     byId("effect").replaceChildren(...(now.mode === "correct" && judged.accepted ? effectOf(judged.result.book) : []));
     return judged;
+}
+
+// Other lines that would fail for this record. Of a text that has failed lines already, which of them are new is not said.
+function othersFor({ accepted, complete, onLine, remarks, others }) {
+    if (accepted || !complete || onLine.length > 0 || [...remarks.values()].some((remark) => remark.wrong)) {
+        return [];
+    }
+    return now.read.failed === 0 && others.length > 0 ? others : ["other lines of the text would fail"];
 }
 
 // Of a heading that was typed as a line and refused, the form may not hold every word: the writer's words on that line stand.

@@ -1,5 +1,6 @@
 // What helps beside the fields of a form: a record before it, Holos' values, the way out.
 import { button, el } from "./dom.js";
+import { linesOfGroup } from "./draft.js";
 import { dietsOf, dietValues, filled, needsSeason, pigChoices, pigValues } from "./holos.js";
 import { table } from "./judge.js";
 import { draw, fieldsNow, now } from "./state.js";
@@ -42,7 +43,7 @@ function dietOffers(form, refill) {
     });
 }
 
-function removal({ lines, headingAt, removed }) {
+function removal({ removed }) {
     const { record, kind, at } = now.correcting;
     if (kind === table.places.begin) {
         return null;
@@ -50,9 +51,9 @@ function removal({ lines, headingAt, removed }) {
     if (kind !== table.places.heading) {
         return button(`Remove record ${record}`, () => removed(at, 1, [], `record ${record} removed`));
     }
-    const { number } = { number: wordsOf(now.draft.lines[at])[1] };
+    const number = wordsOf(now.draft.lines[at])[1];
     return button(`Remove group ${number} with its records`, () => {
-        const { from, to, stay } = lines(now.draft.lines, headingAt(number), table.kinds, table.places);
+        const { from, to, stay } = linesOfGroup(now.draft.lines, at, table.kinds, table.places);
         removed(from, to - from, stay, `group ${number} removed`);
     });
 }
@@ -80,7 +81,7 @@ export function aidsFor(form, last, more) {
     }
     if (form.fields.some((field) => field.label === "VS excretion")) {
         out.push(pigOffers(form, more.refill));
-    } else if (form.fields.some((field) => field.label in dietValues(tablesNow(), dietsOf(tablesNow())[0])) ) {
+    } else if (form.fields.some((field) => field.label in dietValues(tablesNow(), dietsOf(tablesNow())[0]))) {
         out.push(...dietOffers(form, more.refill));
     }
     out.push(button("Empty the fields", () => more.refill([])));

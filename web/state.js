@@ -4,7 +4,7 @@ import { emptyDraft } from "./draft.js";
 export const now = {
     draft: emptyDraft(), // the text, its steps, a heading that was refused
     read: null, // what the proved programs read in it
-    store: null, mine: false, saved: false, trouble: "", ms: 0,
+    store: null, mine: false, saved: false, trouble: "", ms: 0, busy: false, // busy: while a change is being kept
     mode: "farm", // what the form is for: farm, heading, record, line, correct, close
     chosen: null, // the number of the group that records go under
     kind: "", form: 0, // of the next record

@@ -46,6 +46,11 @@ def test_slow():
             assert len(shown) == 2, "the record is shown before it is kept"
         page.until(lambda: len(page.shown()) == 3, "the record is not shown")
         assert time.time() - start >= 1.5
+        page.press(enter(page, "enteric 28 300 6.5"))
+        page.press("Undo")
+        page.until(lambda: len(page.shown()) == 4, "Undo in the meantime took a record away")
+        time.sleep(2)
+        assert len(page.shown()) == 4, "Undo in the meantime took a record away"
     finally:
         page.close()
 
