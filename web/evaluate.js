@@ -1,7 +1,7 @@
 // What the writer says of the record in the form, at each key: of the whole text with that record in it. Nothing of it is kept.
 import { recordOf, written } from "./judge.js";
 import { leastOf, lineOf } from "./kinds.js";
-import { besideOf, fieldOf } from "./said.js";
+import { besideOf, fieldOf, isSum } from "./said.js";
 import { hasWords, wordOf } from "./typed.js";
 
 // form: the fields; values: what stands in them; trial(line): the lines with the record in them; at: its place there.
@@ -21,7 +21,10 @@ export function evaluate({ form, values, trial, at, fits }) {
             break;
         }
         const field = fieldOf(own.words, form);
-        if (field < 0 || remarks.has(field) || !words[field]) {
+        if (remarks.has(field) || (isSum(own.words) && !complete)) {
+            break;
+        }
+        if (field < 0 || !words[field]) {
             onLine.push(own.words);
             break;
         }

@@ -38,7 +38,8 @@ function recordRow(row) {
     const here = now.correcting?.record === row.record;
     const frozen = row.name === table.places.close || now.read.closed || !now.mine;
     return el("tr", {
-        class: `row ${row.name}${now.fresh === row.record ? " fresh" : ""}${frozen ? "" : " free"}`, "data-record": row.record, "data-typed": row.typed,
+        class: `row ${row.name}${now.fresh === row.record ? " fresh" : ""}${frozen ? "" : " free"}`, "data-record": row.record,
+            "data-typed": row.typed,
         "aria-current": here ? "true" : null, onclick: frozen ? null : () => correct(row),
     },
     el("td", {}, frozen ? row.record : button(row.record, (event) => { event.stopPropagation(); correct(row); },

@@ -26,6 +26,7 @@ export async function replaceDraft(lines, name, note = "") {
 
 export function draftItem() {
     const { book, rows, closed, said } = now.read;
-    return { name: "the draft in Book", draft: true, bytes: book, rows, state: closed ? "closed" : "unfinished", title: titleOf(rows), lines: now.draft.lines,
+    return { name: "the draft in Book", draft: true, bytes: book, rows, state: closed ? "closed" : "unfinished", title: titleOf(rows),
+        lines: now.draft.lines,
         said, why: whyOf(book) };
 }

@@ -34,14 +34,22 @@ function groupOf([, number, word, head, words], text) {
     return { number, class: word, head, days: parts, gives, text };
 }
 
+// Messages on several fields stand beside the last of them.
+const SUMMED = [[/^refused 8: /, "group"], [/^refused 10: the three shares /, "pasture share"],
+    [/^refused 10: the volatilised and the leached /, "leached part"]];
+
+// Whether a message is on several fields: it holds where all of them are typed.
+export const isSum = (words) => /^refused 10: the /.test(words);
+
 // The field of a form that a message is about, by its number or its label; -1 where it is about the line.
 export function fieldOf(words, form) {
     const numbered = /^refused \d+ field (\d+): /.exec(words);
     if (numbered) {
         return Number(numbered[1]) - 1;
     }
-    if (/^refused 8: /.test(words)) {
-        return form.fields.findIndex(({ label }) => label === "group");
+    const summed = SUMMED.find(([message]) => message.test(words));
+    if (summed) {
+        return form.fields.findIndex(({ label }) => label === summed[1]);
     }
     const named = /^(?:not read: \w+, |refused \d+: )([^:]+): /.exec(words)?.[1] ?? /^unusual: \w+, ([^:]+): /.exec(words)?.[1] ?? "";
     const fields = form.fields.map((field, at) => ({ at, label: field.label }));
@@ -51,6 +59,7 @@ export function fieldOf(words, form) {
 
 // The words of a message that stand beside its field: without what the field's place says already.
 export function besideOf(words) {
-    return words.replace(/^refused \d+ field \d+: [^:]+: /, "").replace(/^not read: \w+, [^:]+: /, "").replace(/^refused \d+: (?:(?:days|fraction): )?/, "")
+    return words.replace(/^refused \d+ field \d+: [^:]+: /, "").replace(/^not read: \w+, [^:]+: /,
+        "").replace(/^refused \d+: (?:(?:days|fraction): )?/, "")
         .replace(/^unusual: \w+, [^:]+: /, "unusual: ");
 }

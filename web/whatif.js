@@ -22,7 +22,8 @@ function slide(name, help, low, high, step, value) {
     const range = el("input", { type: "range", min: low, max: high, step, value, "aria-label": `${name}, slider` });
     box.addEventListener("input", () => { range.value = wordOf(box.value); estimate(); });
     range.addEventListener("input", () => { box.value = range.value; estimate(); });
-    return el("div", { class: "slide" }, el("span", {}, el("label", { for: slipId(name) }, name), el("small", { id: `${slipId(name)}-help` }, help)), range, box);
+    return el("div", { class: "slide" }, el("span", {}, el("label", { for: slipId(name) }, name), el("small", { id: `${slipId(name)}-help` }, help)),
+        range, box);
 }
 
 function fill(name, value) {
@@ -97,7 +98,8 @@ export function whatifView() {
                 el("div", { class: "tools" }, el("h3", {}, "The ration"), button("Take it from the book", fromGroup, { id: "whatif-from" })),
                 FIELDS.map((field) => slide(...field)), el("h3", {}, "The change"),
                 el("div", { class: "seg", id: "whatif-seg", role: "group", "aria-label": "What changes" },
-                    Object.entries(CHANGES).map(([name, [words]]) => button([el("b", {}, name), " ", el("small", {}, words)], () => chooseChange(name), { "data-change": name }))),
+                    Object.entries(CHANGES).map(([name, [words]]) => button([el("b", {}, name), " ", el("small", {}, words)],
+                        () => chooseChange(name), { "data-change": name }))),
                 el("div", { id: "whatif-change" })),
             el("article", {}, el("h3", {}, gases("Enteric methane, kg CH4")), el("div", { id: "slip", "aria-live": "polite" }),
                 el("table", { class: "eff kept", id: "slips" }))));

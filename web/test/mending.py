@@ -30,7 +30,8 @@ def test_mending():
     try:
         assert page.saved("Save the text") == text.encode(), "a line of the text was changed"
         assert page.state().startswith("2 records, not closed"), page.state()
-        for words in ('"6,5" is no number: use a point', '"drye" is none of milking', "without heading: the heading in line 5 was not written", "close withheld"):
+        for words in ('"6,5" is no number: use a point', '"drye" is none of milking', "without heading: the heading in line 5 was not written",
+            "close withheld"):
             assert words in page.text("#records"), words
         page.press("Mend line 4")
         page.fill("line", "enteric 31 300 6.5x")

@@ -114,7 +114,9 @@ const tests = {
         assert.equal(fieldOf("unusual: cattle, milk 90.00 kg: usual for milking is 3.00 to 70.00", form("cattle")), 3);
         assert.equal(fieldOf("unusual: cattle, milk protein 9.00 per cent: usual is 2.00 to 5.00", form("cattle")), 4);
         assert.equal(fieldOf("refused 9: days: 59 and 350 make 409, and 366 are the most", form("enteric")), 0);
-        assert.equal(fieldOf("refused 10: the three shares must make 100.00 per cent: together 90.00", form("cattle")), -1);
+        assert.equal(fieldOf("refused 10: the three shares must make 100.00 per cent: together 90.00", form("cattle")), 8);
+        assert.equal(fieldOf("refused 8: the group number must be above that of the heading before", form("heading")), 0);
+        assert.equal(fieldOf("refused 11: more nitrogen in milk and gain than in the feed", form("cattle")), -1);
         assert.equal(besideOf('refused 7 field 2: GE: "34000" is out of its range'), '"34000" is out of its range');
     },
     "what compare prints"() {
