@@ -46,7 +46,7 @@ function todo(item) {
     }
     if (item.state === "unfinished") {
         return item.said?.messages.length > 0 ? "Mend the lines below in Book, the first one first, and close the book."
-            : "Open it in Book, enter what is missing, and close it.";
+            : `${item.draft ? "Go on in Book" : "Open it in Book"}, enter what is missing, and close it.`;
     }
     return item.state !== "refused" ? item.words : "It is the first wrong one; others may come after it. "
         + "Open what is right in Book and enter the rest again, or save what can be saved.";
