@@ -56,10 +56,11 @@ export function estimate() {
         return;
     }
     const less = difference.startsWith("-");
+    const same = /^0\.0*$/.test(difference);
     const most = less ? before : after;
     const bar = (name, value) => [el("span", {}, name), el("meter", { min: "0", max: most, value, "aria-label": name }), el("b", {}, thin(value))];
-    byId("slip").replaceChildren(el("p", { class: "diffbig" }, less ? thin(difference) : `+${thin(difference)}`),
-        el("p", { class: "soft" }, gases(`kg CH4, ${less ? "less than before" : "more than before"}`)),
+    byId("slip").replaceChildren(el("p", { class: "diffbig" }, less || same ? thin(difference) : `+${thin(difference)}`),
+        el("p", { class: "soft" }, gases(`kg CH4, ${same ? "the same as before" : less ? "less than before" : "more than before"}`)),
         el("div", { class: "vs" }, bar("before", before), bar("after", after)),
         el("p", { class: "soft" }, `After: GE ${ge} MJ, Ym ${ym} %, ${head} head, ${days} days.`),
         el("p", {}, button("Keep this line", () => { keptSlips.push([`${change} ${line[4]}`, after, difference]); drawKept(); })));
