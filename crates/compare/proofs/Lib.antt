@@ -11,4 +11,5 @@ pub mod Pieces
 pub mod NextGroups
 pub mod Truths
 pub mod Whole
+pub mod Silent
 pub mod OneAnswer
