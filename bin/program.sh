@@ -119,7 +119,8 @@ build() {
         [ -x "$program" ] || rm -f "$root/target/stamp/${name}_main" # rt does not make again what it made and somebody removed
         touch "$root/target/lock"
         . "$here/jobs.sh"
-        failed=$({ { (cd "$root" && rt check "${name}_main") </dev/null 2>&1 9>&- || echo failed >&3; } |
+        # rt runs the program on its stored input, and the descriptors of this script are none of that run's: a status or a second book
+        failed=$({ { (cd "$root" && rt check "${name}_main") </dev/null 2>&1 3>&- 5<&- 9>&- || echo failed >&3; } |
             tee "$log" | places "$(needed | wc -l)"; } 3>&1 >&2)
         [ -z "$failed" ] || { tail -n 20 "$log" >&2; stop 1 "the build failed: $log has all of it"; }
         touch -r "$root/target/lock" "$program"
