@@ -116,7 +116,7 @@ fn faults_of_a_column() {
         ("3,12,1,-7,0,0,0,0,\r\n", "n2o: \"-7\""),
         ("3,12\r\n", "group: \"12\""),
         ("\r\n", "kind: \"\""),
-        ("3,x y_abcdefghijklmnopqrstuvwxyz,", "group: \"x y_abcdefghijklmnopqrst\""),
+        ("3,x y_abcdefghijklmnopqrstuvwxyz,", "group: \"x?y_abcdefghijklmnopqrst\""),
     ] {
         assert_eq!(of_row(row), format!("{cell}: {number}"));
     }
