@@ -9,7 +9,4 @@ pub mod MovedRecords
 pub mod Sides
 pub mod Pieces
 pub mod NextGroups
-pub mod Truths
-pub mod Whole
-pub mod Silent
 pub mod OneAnswer

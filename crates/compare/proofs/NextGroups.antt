@@ -127,12 +127,13 @@ module _ (xs ys : List ℕ) (p q : Place) (out : List ℕ) (d : Cursor) (u b : B
 
 -- ---- which group comes next
 
-module _ (xs ys : List ℕ) (p q : Place) (out out′ : List ℕ) (s : Step) (g h : ℕ) (e : g ≡ groupAt (leftOf xs p)) (f : h ≡ groupAt (leftOf ys q)) where
-  pub group-removed : g < h → Steps (removedStep xs p q) out out′ s → Steps (groupStep xs ys p q) out out′ s
+module _ (alike : Bool) (xs ys : List ℕ) (p q : Place) (out out′ : List ℕ) (s : Step) (g h : ℕ)
+    (e : g ≡ groupAt (leftOf xs p)) (f : h ≡ groupAt (leftOf ys q)) where
+  pub group-removed : g < h → Steps (removedStep xs p q) out out′ s → Steps (groupStep alike xs ys p q) out out′ s
   unfolding groupStep
   group-removed k t = let z : ltb (groupAt (leftOf xs p)) (groupAt (leftOf ys q)) ≡ true = lt-ltb (groupAt (leftOf xs p)) (groupAt (leftOf ys q)) (omega (arith, k, e, f)) in rw z t
 
-  pub group-added : h ≤ g → h < g → Steps (addedStep ys p q) out out′ s → Steps (groupStep xs ys p q) out out′ s
+  pub group-added : h ≤ g → h < g → Steps (addedStep ys p q) out out′ s → Steps (groupStep alike xs ys p q) out out′ s
   unfolding groupStep
   group-added k l t =
       let z : ltb (groupAt (leftOf xs p)) (groupAt (leftOf ys q)) ≡ false = le-ltb (groupAt (leftOf xs p)) (groupAt (leftOf ys q)) (omega (arith, k, e, f)) in
@@ -146,11 +147,11 @@ module _ (xs ys : List ℕ) (p q : Place) (out out′ : List ℕ) (s : Step) (g 
     y : ltb (groupAt (leftOf ys q)) (groupAt (leftOf xs p)) ≡ false
     y = le-ltb (groupAt (leftOf ys q)) (groupAt (leftOf xs p)) (omega (arith, l, e, f))
 
-    pub group-last : g ≡ noGroup → Steps (lastStep xs ys p q) out out′ s → Steps (groupStep xs ys p q) out out′ s
+    pub group-last : g ≡ noGroup → Steps (lastStep alike xs ys p q) out out′ s → Steps (groupStep alike xs ys p q) out out′ s
     unfolding groupStep
     group-last n t = let x : eqb (groupAt (leftOf xs p)) noGroup ≡ true = eq-eqb _ _ (sym e ∙ n) in rw (z, y, x) t
 
-    pub group-both : (g ≡ noGroup → ⊥) → Steps (bothStep xs ys p q) out out′ s → Steps (groupStep xs ys p q) out out′ s
+    pub group-both : (g ≡ noGroup → ⊥) → Steps (bothStep xs ys p q) out out′ s → Steps (groupStep alike xs ys p q) out out′ s
     unfolding groupStep
     group-both n t = let x : eqb (groupAt (leftOf xs p)) noGroup ≡ false = ne-eqb _ _ (λ w. n (e ∙ w)) in rw (z, y, x) t
 
@@ -248,10 +249,11 @@ module _ (xs ys : List ℕ) (c : Cursor) (a b : Bool) (e : a ≡ sideIn xs (c .o
       let z = not-false (a && b) h in
       (side-stands xs (c .old) (sym e ∙ and-l a b z), side-stands ys (c .new) (sym f ∙ and-r a b z))
 
-  pub next-ended : (out out′ : List ℕ) (s : Step) → not (a && b) ≡ true → Steps noStep out out′ s → Steps (stepOf xs ys c) out out′ s
+  pub next-ended : (alike : Bool) (out out′ : List ℕ) (s : Step) → not (a && b) ≡ true → Steps noStep out out′ s → Steps (stepOf alike xs ys c) out out′ s
   unfolding stepOf
-  next-ended out out′ s h t = let z : sideIn xs (c .old) && sideIn ys (c .new) ≡ false = both-in ∙ not-true (a && b) h in rw z t
+  next-ended alike out out′ s h t = let z : sideIn xs (c .old) && sideIn ys (c .new) ≡ false = both-in ∙ not-true (a && b) h in rw z t
 
-  pub next-stepped : (out out′ : List ℕ) (s : Step) → not (a && b) ≡ false → Steps (stageStep xs ys c) out out′ s → Steps (stepOf xs ys c) out out′ s
+  pub next-stepped : (alike : Bool) (out out′ : List ℕ) (s : Step) → not (a && b) ≡ false
+      → Steps (stageStep alike xs ys c) out out′ s → Steps (stepOf alike xs ys c) out out′ s
   unfolding stepOf
-  next-stepped out out′ s h t = let z : sideIn xs (c .old) && sideIn ys (c .new) ≡ true = both-in ∙ not-false (a && b) h in rw z t
+  next-stepped alike out out′ s h t = let z : sideIn xs (c .old) && sideIn ys (c .new) ≡ true = both-in ∙ not-false (a && b) h in rw z t

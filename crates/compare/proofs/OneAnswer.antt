@@ -6,6 +6,8 @@ use Rattle.base.specs.Answers.{AsksNothing, OneAnswer, OneAnswerWith, TwoAnswer
 use Rattle.printing.proofs.Examples.{one-put}
 use Rattle.compare.proofs.begin.Kinds as first
 use Rattle.compare.proofs.begin.Reads as first-contract
+use Rattle.compare.proofs.alike_on.Kinds as more
+use Rattle.compare.proofs.alike_on.Reads as more-contract
 use Rattle.compare.proofs.next.Kinds as piece
 use Rattle.compare.proofs.next.Reads as piece-contract
 use Rattle.compare.proofs.remarks.say_hint.Kinds as hint
@@ -15,6 +17,9 @@ use Rattle.compare.proofs.remarks.status.Reads as digit-contract
 
 pub begin-asks-nothing : AsksNothing first.ps first-contract.Asked
 begin-asks-nothing κs args = tt
+
+pub alike-on-asks-nothing : AsksNothing more.ps more-contract.Asked
+alike-on-asks-nothing κs args = tt
 
 pub next-asks-nothing : AsksNothing piece.ps piece-contract.Asked
 next-asks-nothing κs args = tt
@@ -29,9 +34,13 @@ status-asks-nothing κs args = tt
 pub one-begin : OneAnswer first.ps first.r first-contract.Learnt
 one-begin κs args f g e e′ p q = p ∙ sym q
 
+-- Whether these bytes are the same too.
+pub one-alike-on : OneAnswer more.ps more.r more-contract.Learnt
+one-alike-on κs args f g e e′ p q = p ∙ sym q
+
 -- A step: the cursor after it, and its piece.
 pub one-next : TwoAnswers piece.ps piece.r piece-contract.Learnt
-    (λ κs args f g e e′. (f .cursor ≡ g .cursor) × ((f .written ≡ g .written) × (now (e .1 .1 .1 .0) ≡ now (e′ .1 .1 .1 .0))))
+    (λ κs args f g e e′. (f .cursor ≡ g .cursor) × ((f .written ≡ g .written) × (now (e .1 .1 .1 .1 .0) ≡ now (e′ .1 .1 .1 .1 .0))))
 one-next κs args f g e e′ p q = (p .cursor ∙ sym (q .cursor), one-put (p .said .put) (q .said .put))
 
 -- A hint.

@@ -127,9 +127,14 @@ sameEach [] (n ∷ ns) = false
 sameEach (e ∷ es) [] = false
 sameEach (e ∷ es) (n ∷ ns) = same (e .bytes) (n .bytes) && sameEach es ns
 
-unfoldable pub lastText : List ℕ → List ℕ → List ℕ
-lastText old new =
-    pick (same old new) (ascii "nothing differs\n")
+-- these bytes of both are the same, and alike is whether all others are
+abbrev pub alikeOn : Bool → List ℕ → List ℕ → Bool
+alikeOn alike xs ys = alike && same xs ys
+
+-- the last word, where alike is whether the bytes after these are the same in both
+unfoldable pub lastText : Bool → List ℕ → List ℕ → List ℕ
+lastText alike old new =
+    pick (alikeOn alike old new) (ascii "nothing differs\n")
     (pick (sameEach (entriesOf old) (entriesOf new)) (ascii "no accepted record differs\n") (ascii "all else is the same\n"))
 
 -- which book, before its verdict
@@ -140,12 +145,17 @@ bookText new = wordOf new ++ ascii ": "
 unfoldable pub beforeText : List Entry → List Entry → List ℕ
 beforeText es ns = partsText (ascii "before the groups:\n") [] true false 0 es 0 ns
 
-unfoldable pub compareText : List ℕ → List ℕ → List ℕ
-compareText old new =
+-- of the beginnings of two books; alike is whether the bytes after them are the same in both
+unfoldable pub beginningsText : Bool → List ℕ → List ℕ → List ℕ
+beginningsText alike old new =
     let es = entriesOf old in
     let ns = entriesOf new in
     bookText false
     ++ (machineText (whyOf old)
     ++ (bookText true
     ++ (machineText (whyOf new)
-    ++ (beforeText es ns ++ (groupsText (length (partOf es)) (afterPart es) (length (partOf ns)) (afterPart ns) ++ lastText old new)))))
+    ++ (beforeText es ns ++ (groupsText (length (partOf es)) (afterPart es) (length (partOf ns)) (afterPart ns) ++ lastText alike old new)))))
+
+-- of two books: no byte comes after them
+abbrev pub compareText : List ℕ → List ℕ → List ℕ
+compareText old new = beginningsText true old new

@@ -164,14 +164,15 @@ bothStep old new p q =
     }
 
 -- there is no group: the total, and the last word
-abbrev pub lastStep : List ℕ → List ℕ → Place → Place → Stepping
-lastStep old new p q = record { text = totalText (leftOf old p) (leftOf new q) ++ lastText old new; cursor = ended }
+abbrev pub lastStep : Bool → List ℕ → List ℕ → Place → Place → Stepping
+lastStep alike old new p q = record { text = totalText (leftOf old p) (leftOf new q) ++ lastText alike old new; cursor = ended }
 
-unfoldable pub groupStep : List ℕ → List ℕ → Place → Place → Stepping
-groupStep old new p q =
+unfoldable pub groupStep : Bool → List ℕ → List ℕ → Place → Place → Stepping
+groupStep alike old new p q =
     let g = groupAt (leftOf old p) in
     let h = groupAt (leftOf new q) in
-    pick (ltb g h) (removedStep old p q) (pick (ltb h g) (addedStep new p q) (pick (eqb g noGroup) (lastStep old new p q) (bothStep old new p q)))
+    pick (ltb g h) (removedStep old p q)
+    (pick (ltb h g) (addedStep new p q) (pick (eqb g noGroup) (lastStep alike old new p q) (bothStep old new p q)))
 
 -- the verdicts, a book's word and its line
 unfoldable pub verdictText : ℕ → List ℕ → List ℕ → List ℕ
@@ -188,29 +189,29 @@ noStep = record { text = []; cursor = ended }
 
 -- ---- any step
 
-unfoldable pub stageStep : List ℕ → List ℕ → Cursor → Stepping
-stageStep old new c =
+unfoldable pub stageStep : Bool → List ℕ → List ℕ → Cursor → Stepping
+stageStep alike old new c =
     pick (ltb (c .stage) 4) (verdictStep old new c)
     (pick (eqb (c .stage) 4) (beforeStep old new c)
     (pick (eqb (c .stage) 5) (sectionStep old new c)
-    (pick (eqb (c .stage) 6) (groupStep old new (c .old .place) (c .new .place)) noStep)))
+    (pick (eqb (c .stage) 6) (groupStep alike old new (c .old .place) (c .new .place)) noStep)))
 
 -- the places of a cursor are those of the books
 abbrev pub sideIn : List ℕ → Side → Bool
 sideIn xs s = standsIn xs (s .place) && standsIn xs (s .end)
 
 -- a cursor that is none of these books ends it
-unfoldable pub stepOf : List ℕ → List ℕ → Cursor → Stepping
-stepOf old new c = pick (sideIn old (c .old) && sideIn new (c .new)) (stageStep old new c) noStep
+unfoldable pub stepOf : Bool → List ℕ → List ℕ → Cursor → Stepping
+stepOf alike old new c = pick (sideIn old (c .old) && sideIn new (c .new)) (stageStep alike old new c) noStep
 
 -- ---- all steps
 
 -- the pieces of so many steps, one after the other
-unfoldable pub textIn : ℕ → List ℕ → List ℕ → Cursor → List ℕ
-textIn zero old new c = []
-textIn (suc n) old new c = stepOf old new c .text ++ textIn n old new (stepOf old new c .cursor)
+unfoldable pub textIn : ℕ → Bool → List ℕ → List ℕ → Cursor → List ℕ
+textIn zero alike old new c = []
+textIn (suc n) alike old new c = stepOf alike old new c .text ++ textIn n alike old new (stepOf alike old new c .cursor)
 
 -- the cursor after them
-unfoldable pub cursorAfter : ℕ → List ℕ → List ℕ → Cursor → Cursor
-cursorAfter zero old new c = c
-cursorAfter (suc n) old new c = cursorAfter n old new (stepOf old new c .cursor)
+unfoldable pub cursorAfter : ℕ → Bool → List ℕ → List ℕ → Cursor → Cursor
+cursorAfter zero alike old new c = c
+cursorAfter (suc n) alike old new c = cursorAfter n alike old new (stepOf alike old new c .cursor)

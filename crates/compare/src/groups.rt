@@ -2,6 +2,7 @@
 use crate::Cursor;
 use crate::Side;
 use crate::Step;
+use crate::alike_on;
 use crate::at_places;
 use crate::at_stage;
 use crate::figures::say_sum;
@@ -183,12 +184,12 @@ fn same_each(old: &[u8], new: &[u8]) -> bool
     u.n == 0
 }
 
-// The last word.
-fn say_last(out: &mut [u8], at: usize, old: &[u8], new: &[u8]) -> usize
+// The last word; alike is whether the bytes after these are the same in both.
+fn say_last(out: &mut [u8], at: usize, old: &[u8], new: &[u8], alike: bool) -> usize
     requires { ⌜ at ≤ length (now out) ⌝ }
-    ensures { λ r. ⌜ Said (now (out .entry)) (now (out .exit)) at (lastText (now (old .entry)) (now (new .entry))) r ⌝ }
+    ensures { λ r. ⌜ Said (now (out .entry)) (now (out .exit)) at (lastText alike (now (old .entry)) (now (new .entry))) r ⌝ }
 {
-    if same(old, new) {
+    if alike_on(alike, old, new) {
         return say(out, at, b"nothing differs\n");
     }
     if same_each(old, new) {
@@ -198,12 +199,12 @@ fn say_last(out: &mut [u8], at: usize, old: &[u8], new: &[u8]) -> usize
 }
 
 // The total, and the last word.
-fn last_step(old: &[u8], new: &[u8], p: Place, q: Place, out: &mut [u8]) -> Step
+fn last_step(old: &[u8], new: &[u8], alike: bool, p: Place, q: Place, out: &mut [u8]) -> Step
     requires { ⌜ Valid (now old) p × Valid (now new) q ⌝ }
-    ensures { λ s. ⌜ Steps (lastStep (now (old .entry)) (now (new .entry)) p q) (now (out .entry)) (now (out .exit)) s ⌝ }
+    ensures { λ s. ⌜ Steps (lastStep alike (now (old .entry)) (now (new .entry)) p q) (now (out .entry)) (now (out .exit)) s ⌝ }
 {
     let total = say_totals(out, old, p, new, q);
-    let end = say_last(out, total, old, new);
+    let end = say_last(out, total, old, new, alike);
     let d = at_stage(7);
     Step {
         cursor: d,
@@ -212,9 +213,16 @@ fn last_step(old: &[u8], new: &[u8], p: Place, q: Place, out: &mut [u8]) -> Step
 }
 
 // The next group, or the end.
-pub(crate) fn group_step(old: &[u8], new: &[u8], p: Place, q: Place, out: &mut [u8]) -> Step
+pub(crate) fn group_step(
+    old: &[u8],
+    new: &[u8],
+    alike: bool,
+    p: Place,
+    q: Place,
+    out: &mut [u8],
+) -> Step
     requires { ⌜ Valid (now old) p × Valid (now new) q ⌝ }
-    ensures { λ s. ⌜ Steps (groupStep (now (old .entry)) (now (new .entry)) p q) (now (out .entry)) (now (out .exit)) s ⌝ }
+    ensures { λ s. ⌜ Steps (groupStep alike (now (old .entry)) (now (new .entry)) p q) (now (out .entry)) (now (out .exit)) s ⌝ }
 {
     let g = group_at(old, p);
     let h = group_at(new, q);
@@ -225,7 +233,7 @@ pub(crate) fn group_step(old: &[u8], new: &[u8], p: Place, q: Place, out: &mut [
         return added_step(new, p, q, h, out);
     }
     if g == NO_GROUP {
-        return last_step(old, new, p, q, out);
+        return last_step(old, new, alike, p, q, out);
     }
     both_step(old, new, p, q, g, out)
 }

@@ -4,9 +4,9 @@ pub mod remarks; // remarks.rt: hints, and the status
 mod figures; // figures.rt: figures in kilograms
 mod groups; // groups.rt: the steps from section to section
 mod moved; // moved.rt: the same records in another order
-mod plans; // plans.rt: two runs of records compared
+pub mod plans; // plans.rt: two runs of records compared
 mod records; // records.rt: a record's bytes
-mod runs; // runs.rt: pairs of records
+pub mod runs; // runs.rt: pairs of records
 mod sections; // sections.rt: the steps of a section
 mod values; // values.rt: a record in words
 
@@ -15,11 +15,13 @@ use crate::groups::verdict_step;
 use crate::places::Place;
 use crate::places::stands;
 use crate::places::start;
+use crate::records::same;
 use crate::sections::before_step;
 use crate::sections::section_step;
 ghost use mathlib.Core.Path.{_≡_};
 ghost use Rattle.compare.specs.InnerSides.{ValidSide};
 ghost use Rattle.compare.specs.Places.{start as startPlace};
+ghost use Rattle.compare.specs.Sections.{alikeOn};
 ghost use Rattle.compare.specs.Steps.{Steps, idle as idleSide, atPlaces, beginning, noStep, stageStep, sideIn, stepOf};
 
 // Of one book in a section: where the telling stands, how many records are left to tell, where the section ends, and whether it is a group's.
@@ -89,6 +91,13 @@ pub fn begin() -> Cursor
     at_stage(0)
 }
 
+// Whether these bytes of both books are the same, where alike says it of all others.
+pub fn alike_on(alike: bool, old: &[u8], new: &[u8]) -> bool
+    ensures { λ r. ⌜ r ≡ alikeOn alike (now (old .entry)) (now (new .entry)) ⌝ }
+{
+    alike & same(old, new)
+}
+
 // Whether a side's places are those of a book.
 fn side_in(book: &[u8], s: Side) -> bool
     ensures { λ r. ⌜ r ≡ sideIn (now (book .entry)) s ⌝ }
@@ -110,9 +119,9 @@ fn end_step(out: &mut [u8]) -> Step
 }
 
 // The next step, by its stage.
-fn stage_step(old: &[u8], new: &[u8], c: Cursor, out: &mut [u8]) -> Step
+fn stage_step(old: &[u8], new: &[u8], alike: bool, c: Cursor, out: &mut [u8]) -> Step
     requires { ⌜ ValidSide (now old) (c .old) × ValidSide (now new) (c .new) ⌝ }
-    ensures { λ s. ⌜ Steps (stageStep (now (old .entry)) (now (new .entry)) c) (now (out .entry)) (now (out .exit)) s ⌝ }
+    ensures { λ s. ⌜ Steps (stageStep alike (now (old .entry)) (now (new .entry)) c) (now (out .entry)) (now (out .exit)) s ⌝ }
 {
     if c.stage < 4 {
         return verdict_step(old, new, c, out);
@@ -126,19 +135,20 @@ fn stage_step(old: &[u8], new: &[u8], c: Cursor, out: &mut [u8]) -> Step
     if c.stage == 6 {
         let s = c.old;
         let t = c.new;
-        return group_step(old, new, s.place, t.place, out);
+        return group_step(old, new, alike, s.place, t.place, out);
     }
     end_step(out)
 }
 
-// The next piece of the text, from the start of out, and the cursor after it. A cursor that is none of these books ends it.
-pub fn next(old: &[u8], new: &[u8], c: Cursor, out: &mut [u8]) -> Step
-    ensures { λ s. ⌜ Steps (stepOf (now (old .entry)) (now (new .entry)) c) (now (out .entry)) (now (out .exit)) s ⌝ }
+// The next piece of the text, from the start of out, and the cursor after it; alike is whether the bytes after these two are the same. A cursor that
+// is none of these books ends it.
+pub fn next(old: &[u8], new: &[u8], alike: bool, c: Cursor, out: &mut [u8]) -> Step
+    ensures { λ s. ⌜ Steps (stepOf alike (now (old .entry)) (now (new .entry)) c) (now (out .entry)) (now (out .exit)) s ⌝ }
 {
     let s = c.old;
     let t = c.new;
     if !(side_in(old, s) & side_in(new, t)) {
         return end_step(out);
     }
-    stage_step(old, new, c, out)
+    stage_step(old, new, alike, c, out)
 }

@@ -15,7 +15,7 @@ ghost use Rattle.compare.specs.Plans.{runsOf, planOf, oldTold, newTold, 
 
 // The records of either book; how many of them are the same at the beginning and at the end; whether those between are the same details in another
 // order, or go one by one; and how many are the same and give other lines.
-pub(crate) struct Plan {
+pub struct Plan {
     pub old: usize,
     pub new: usize,
     pub front: usize,

@@ -19,7 +19,7 @@ ghost use Rattle.compare.specs.InnerPairs.{Looked, CountsIn};
 
 // How many pairs there are, how many of the first and of the last ones are the same, and how many of these and of all that are the same give
 // other lines.
-pub(crate) struct Counts {
+pub struct Counts {
     pub pairs: usize,
     pub leading: usize,
     pub trailing: usize,
@@ -29,7 +29,7 @@ pub(crate) struct Counts {
 }
 
 // The next pair: the bytes of either record, the accounts after them, and whether the records and their lines are the same.
-pub(crate) struct Pair {
+pub struct Pair {
     pub old: usize,
     pub new: usize,
     pub a: Account,

@@ -11,23 +11,23 @@ use lib.Dec.{eqb}
 use Rattle.base.specs.Choice.{pick}
 use Rattle.base.proofs.Tests.{by-test, no-bool, and-l, and-r}
 use Rattle.walk.specs.Walk.{Entry, recordsIn}
 use Rattle.compare.specs.declared.runs.Counts.{Counts}
 use Rattle.compare.specs.Records.{same}
 use Rattle.compare.specs.Places.{partOf, afterPart, subtotalOf, firstBytes}
 use Rattle.compare.specs.Plans.{noRuns, oneMore, runsFrom, runsOf, frontOf, backMost, backRuns, backOf, movedOf, pairedOf, othersOf, planOf}
 use Rattle.compare.specs.Plans.{oldTold, newTold, movedMany}
 use Rattle.compare.specs.Sections.{silent}
 use Rattle.compare.proofs.SameBytes.{same-true, same-self}
 use Rattle.compare.proofs.Pairs.{leading-left, leading-right, trailing-left}
-use Rattle.compare.proofs.Truths.{front-same, back-same}
+use Rattle.compared.proofs.Truths.{front-same, back-same}
 
 -- ---- the same records with no other lines are the same entries
 
-others-kept : (b : Bool) (n : ℕ) → n ≤ pick b (n + 1) n
+pub others-kept : (b : Bool) (n : ℕ) → n ≤ pick b (n + 1) n
 others-kept true n = omega arith
 others-kept false n = omega arith
 
-others-grow : (u : Counts) (es ns : List Entry) → u .others ≤ runsFrom u es ns .others
+pub others-grow : (u : Counts) (es ns : List Entry) → u .others ≤ runsFrom u es ns .others
 unfolding runsFrom
 others-grow u [] ns = omega arith
 others-grow u (e ∷ es) [] = omega arith
@@ -66,7 +66,7 @@ same-entries u (e ∷ es) (n ∷ ns) r h =
 
 -- ---- nothing between, and no other lines
 
-records-drop : (k : ℕ) (es : List Entry) → recordsIn (drop k es) ≡ drop k (recordsIn es)
+pub records-drop : (k : ℕ) (es : List Entry) → recordsIn (drop k es) ≡ drop k (recordsIn es)
 unfolding recordsIn
 records-drop zero es = refl
 records-drop (suc k) [] = refl
@@ -92,7 +92,7 @@ module _ (es ns : List Entry) where
   abbrev b : ℕ
   b = backOf es ns
 
-  back-few : b ≤ min (length es) (length ns) - f
+  pub back-few : b ≤ min (length es) (length ns) - f
   back-few =
       let m = backMost es ns in
       let t = trailing-left (drop (length es - m) es) (drop (length ns - m) ns) in
@@ -118,7 +118,8 @@ module _ (es ns : List Entry) where
         let k = length-drop f ns in
         let w : b ≡ runsOf (drop f es) (drop f ns) .trailing = ap (λ (x : Counts). x .trailing) t in
         let z : length (drop f es) - runsOf (drop f es) (drop f ns) .trailing ≡ 0 = none-is (length (drop f es)) (length es) f b _ l all-old w in
-        let s = back-same (drop f es) (drop f ns) (even-is (length (drop f es)) (length (drop f ns)) (length es) (length ns) f b l k all-old all-new) in
+        let s = back-same (drop f es) (drop f ns) (even-is (length (drop f es)) (length (drop f ns)) (length es)
+        (length ns) f b l k all-old all-new) in
         let e : recordsIn (drop f es) ≡ recordsIn (drop f ns) = rw z at s in
         let d : drop f (recordsIn es) ≡ drop f (recordsIn ns) = sym (records-drop f es) ∙ e ∙ records-drop f ns in
         sym (take-append-drop f (recordsIn es))

@@ -26,25 +26,25 @@ use Rattle.why.specs.Why.{whyOf}
 use Rattle.why.specs.Remarks.{machineText}
 use Rattle.book.specs.WholeRecords.{recordsOf}
 use Rattle.walk.specs.Walk.{Entry, entryOf, accepts, entriesFrom, entriesOf}
 use Rattle.compare.specs.declared.Cursor.{Cursor}
 use Rattle.compare.specs.declared.Side.{Side}
 use Rattle.compare.specs.declared.places.Place.{Place}
 use Rattle.compare.specs.declared.plans.Plan.{Plan}
 use Rattle.compare.specs.Records.{same, valuesIn}
 use Rattle.compare.specs.Places.{start, leftOf, onward, standsIn, heads, ends, partOf, afterPart, noGroup, groupAt, groupSize, afterGroup, firstBytes}
 use Rattle.compare.specs.Places.{partEnd, subtotalOf}
 use Rattle.compare.specs.Plans.{planOf, pairedOf, movedOf, frontOf, backOf, oldTold, newTold, movedMany}
 use Rattle.compare.specs.Values.{firstAlone, firstPair}
 use Rattle.compare.specs.Sections.{alonesText, pairsText, toldText, tailText, silent, partsText, groupTitle, bothGroupsText, removedText, addedText}
-use Rattle.compare.specs.Sections.{totalText, groupsFrom, groupsText, lastText, bookText, beforeText, compareText}
+use Rattle.compare.specs.Sections.{totalText, groupsFrom, groupsText, lastText, bookText, beforeText, beginningsText}
 use Rattle.compare.specs.Steps.{Stepping, idle, atPlaces, beginning, ended, aloneSide, sideAfter, opened, oneTold, subtotalAt, openText, beforeStep}
 use Rattle.compare.specs.Steps.{oldStep, newStep, pairStep, tailStep, sectionStep, removedStep, addedStep, bothStep, lastStep, groupStep}
 use Rattle.compare.specs.Steps.{verdictText, verdictStep, noStep, stageStep, sideIn, stepOf, textIn, cursorAfter}
 use Rattle.compare.specs.Inner.{Valid}
 use Rattle.compare.specs.InnerSides.{ValidSide}
 use Rattle.compare.proofs.Walks.{valid-start}
 use Rattle.compare.proofs.Onward.{valid-onward, left-onward, number-onward}
 use Rattle.compare.proofs.Sides.{part-few, plan-front}
 
 -- ---- lists
 
@@ -54,7 +54,8 @@ unfolding partOf afterPart
 after-drop [] = refl
 after-drop (e ∷ es) = go (ends e) (after-drop es)
   where
-    go : (b : Bool) → drop (length (partOf es)) es ≡ afterPart es → drop (length (pick b [] (e ∷ partOf es))) (e ∷ es) ≡ pick b (e ∷ es) (afterPart es)
+    go : (b : Bool) → drop (length (partOf es)) es ≡ afterPart es
+        → drop (length (pick b [] (e ∷ partOf es))) (e ∷ es) ≡ pick b (e ∷ es) (afterPart es)
     go true h = refl
     go false h = h
 
@@ -73,10 +74,10 @@ module _ (xs : List ℕ) (p : Place) (v : Valid xs p) where
 -- ---- group numbers, and how many sections there are
 
 -- a heading's number is below the one that stands for no group
-abbrev Low : Entry → Type 0
+abbrev pub Low : Entry → Type 0
 Low e = heads e ≡ true → getD (valuesIn (e .bytes)) 0 0 < noGroup
 
-unfoldable AllLow : List Entry → Type 0
+unfoldable pub AllLow : List Entry → Type 0
 AllLow [] = Unit {0}
 AllLow (e ∷ es) = Low e × AllLow es
 
@@ -84,7 +85,7 @@ first-value : (vs : List ℕ) → getD (inTwelve vs) 0 0 ≡ getD vs 0 0
 first-value [] = refl
 first-value (v ∷ vs) = refl
 
-row-two : (version kind : ℕ) → kind ≡ 2 → rowOf version kind ≡ 2
+pub row-two : (version kind : ℕ) → kind ≡ 2 → rowOf version kind ≡ 2
 row-two version kind e = rw (e, and-false (eqb version 2)) refl
 
 low-value : (row : ℕ) (vs : List ℕ) → row ≡ 2 → firstBad (fields row) vs 0 ≡ 0 → getD vs 0 0 ≤ 65535
@@ -99,34 +100,38 @@ low a r still h =
     let f = first-value (valuesOf r) in
     omega (arith, v, f)
 
-all-low : (a : Account) (rs : List (List ℕ)) → AllLow (entriesFrom a rs)
+pub all-low : (a : Account) (rs : List (List ℕ)) → AllLow (entriesFrom a rs)
 unfolding AllLow entriesFrom
 all-low a [] = tt
 all-low a (r ∷ rs) =
     of-choice AllLow (accepts a r)
-    (λ t. (low a r (eqb-false _ _ (not-true _ (and-r (ltb (a .stage) 2) (not (eqb (judge a r .account .stage) 3)) t))), all-low (judge a r .account) rs))
+    (λ t. (
+      low a r (eqb-false _ _ (not-true _ (and-r (ltb (a .stage) 2) (not (eqb (judge a r .account .stage) 3)) t))),
+      all-low
+          (judge a r .account) rs,
+    ))
     (λ t. tt)
 
-low-drop : (n : ℕ) (es : List Entry) → AllLow es → AllLow (drop n es)
+pub low-drop : (n : ℕ) (es : List Entry) → AllLow es → AllLow (drop n es)
 unfolding AllLow
 low-drop zero es l = l
 low-drop (suc n) [] l = tt
 low-drop (suc n) (e ∷ es) l = low-drop n es (l .1)
 
-low-after : (es : List Entry) → AllLow es → AllLow (afterGroup es)
+pub low-after : (es : List Entry) → AllLow es → AllLow (afterGroup es)
 low-after es l = subst AllLow (after-drop (drop 1 es)) (low-drop (length (partOf (drop 1 es))) (drop 1 es) (low-drop 1 es l))
 
-group-low : (es : List Entry) → AllLow es → groupAt es ≤ noGroup
+pub group-low : (es : List Entry) → AllLow es → groupAt es ≤ noGroup
 unfolding AllLow
 group-low [] l = omega arith
 group-low (e ∷ es) l =
     by-test (heads e) (λ t. rw t (let v = l .0 t in omega (arith, v))) (λ t. rw t (omega arith))
 
-some-there : (es : List Entry) → groupAt es < noGroup → 0 < length es
+pub some-there : (es : List Entry) → groupAt es < noGroup → 0 < length es
 some-there [] h = absurd (omega (arith, h))
 some-there (e ∷ es) h = omega arith
 
-shorter : (es : List Entry) → 0 < length es → length (afterGroup es) < length es
+pub shorter : (es : List Entry) → 0 < length es → length (afterGroup es) < length es
 shorter es h =
     let l = ap length (sym (after-drop (drop 1 es))) ∙ length-drop (length (partOf (drop 1 es))) (drop 1 es) in
     let m = length-drop 1 es in
@@ -146,7 +151,8 @@ enough (suc k) zero i j [] (n ∷ ns) a b h m = absurd (omega (arith, m))
 enough (suc k) (suc l) i j es ns a b h m =
     go (λ i′ es′ j′ ns′ p q r s. enough k l i′ j′ es′ ns′ p q r s)
   where
-    go : ((i′ : ℕ) (es′ : List Entry) (j′ : ℕ) (ns′ : List Entry) → AllLow es′ → AllLow ns′ → length es′ + length ns′ ≤ k → length es′ + length ns′ ≤ l
+    go : ((i′ : ℕ) (es′ : List Entry) (j′ : ℕ) (ns′ : List Entry) → AllLow es′ → AllLow ns′ → length es′ + length ns′ ≤ k
+        → length es′ + length ns′ ≤ l
         → groupsFrom k i′ es′ j′ ns′ ≡ groupsFrom l i′ es′ j′ ns′)
         → groupsFrom (suc k) i es j ns ≡ groupsFrom (suc l) i es j ns
     go ih =
@@ -171,13 +177,14 @@ enough (suc k) (suc l) i j es ns a b h m =
         let o : 0 < length ns = some-there ns (omega (arith, g, low′, x, y)) in
         let s = shorter es n in
         let r = shorter ns o in
-        rw (t, u, v) (ap (λ (z : List ℕ). bothGroupsText i es j ns ++ z) (ih _ _ _ _ (low-after es a) (low-after ns b) (omega (arith, s, r, h)) (omega (arith, s, r, m)))))))
+        rw (t, u, v) (ap (λ (z : List ℕ). bothGroupsText i es j ns ++ z)
+        (ih _ _ _ _ (low-after es a) (low-after ns b) (omega (arith, s, r, h)) (omega (arith, s, r, m)))))))
 
 -- ---- what is left to print
 
 -- from two places at the end of a section on
-abbrev groupsRest : List ℕ → List ℕ → Place → Place → List ℕ
-groupsRest old new p q = groupsText (p .number) (leftOf old p) (q .number) (leftOf new q) ++ lastText old new
+abbrev groupsRest : Bool → List ℕ → List ℕ → Place → Place → List ℕ
+groupsRest alike old new p q = groupsText (p .number) (leftOf old p) (q .number) (leftOf new q) ++ lastText alike old new
 
 -- in a section
 abbrev toldRest : List ℕ → List ℕ → Cursor → List ℕ
@@ -185,35 +192,35 @@ toldRest old new c =
     toldText (c .paired) (c .old .place .number) (take (c .old .left) (leftOf old (c .old .place))) (c .new .place .number)
     (take (c .new .left) (leftOf new (c .new .place)))
 
-abbrev sectionRest : List ℕ → List ℕ → Cursor → List ℕ
-sectionRest old new c =
+abbrev sectionRest : Bool → List ℕ → List ℕ → Cursor → List ℕ
+sectionRest alike old new c =
     toldRest old new c
-    ++ (tailText (c .others) (subtotalAt old (c .old)) (subtotalAt new (c .new)) ++ groupsRest old new (c .old .end) (c .new .end))
+    ++ (tailText (c .others) (subtotalAt old (c .old)) (subtotalAt new (c .new)) ++ groupsRest alike old new (c .old .end) (c .new .end))
 
-abbrev beforeRest : List ℕ → List ℕ → List ℕ
-beforeRest old new =
+abbrev beforeRest : Bool → List ℕ → List ℕ → List ℕ
+beforeRest alike old new =
     beforeText (entriesOf old) (entriesOf new)
     ++ (groupsText (length (partOf (entriesOf old))) (afterPart (entriesOf old)) (length (partOf (entriesOf new))) (afterPart (entriesOf new))
-    ++ lastText old new)
+    ++ lastText alike old new)
 
 -- text is what is left to print at the cursor c
-pub data Left (old new : List ℕ) (c : Cursor) (text : List ℕ) : Type 0 where
-  first : c ≡ atPlaces 0 start start → text ≡ compareText old new → Left old new c text
-  second : c ≡ atPlaces 1 start start → text ≡ machineText (whyOf old) ++ (bookText true ++ (machineText (whyOf new) ++ beforeRest old new))
-      → Left old new c text
-  third : c ≡ atPlaces 2 start start → text ≡ bookText true ++ (machineText (whyOf new) ++ beforeRest old new) → Left old new c text
-  fourth : c ≡ atPlaces 3 start start → text ≡ machineText (whyOf new) ++ beforeRest old new → Left old new c text
-  before : c ≡ atPlaces 4 start start → text ≡ beforeRest old new → Left old new c text
+pub data Left (alike : Bool) (old new : List ℕ) (c : Cursor) (text : List ℕ) : Type 0 where
+  first : c ≡ atPlaces 0 start start → text ≡ beginningsText alike old new → Left alike old new c text
+  second : c ≡ atPlaces 1 start start → text ≡ machineText (whyOf old) ++ (bookText true ++ (machineText (whyOf new) ++ beforeRest alike old new))
+      → Left alike old new c text
+  third : c ≡ atPlaces 2 start start → text ≡ bookText true ++ (machineText (whyOf new) ++ beforeRest alike old new) → Left alike old new c text
+  fourth : c ≡ atPlaces 3 start start → text ≡ machineText (whyOf new) ++ beforeRest alike old new → Left alike old new c text
+  before : c ≡ atPlaces 4 start start → text ≡ beforeRest alike old new → Left alike old new c text
   section : c .stage ≡ 5 → ValidSide old (c .old) → ValidSide new (c .new) → (c .paired ≡ true → c .old .left ≡ c .new .left)
-      → text ≡ sectionRest old new c → Left old new c text
-  group : (p q : Place) → Valid old p → Valid new q → c ≡ atPlaces 6 p q → text ≡ groupsRest old new p q → Left old new c text
-  over : c ≡ ended → text ≡ [] → Left old new c text
+      → text ≡ sectionRest alike old new c → Left alike old new c text
+  group : (p q : Place) → Valid old p → Valid new q → c ≡ atPlaces 6 p q → text ≡ groupsRest alike old new p q → Left alike old new c text
+  over : c ≡ ended → text ≡ [] → Left alike old new c text
 
 -- one step: its text, and what is left after it
-pub record Onwards (old new : List ℕ) (x : Stepping) (text : List ℕ) : Type 0 where
+pub record Onwards (alike : Bool) (old new : List ℕ) (x : Stepping) (text : List ℕ) : Type 0 where
   pub rest : List ℕ
   pub is : text ≡ x .text ++ rest
-  pub left : Left old new (x .cursor) rest
+  pub left : Left alike old new (x .cursor) rest
 
 -- ---- a cursor of these books takes the step of its stage
 
@@ -226,19 +233,20 @@ side-valid : (xs : List ℕ) (s : Side) → ValidSide xs s → sideIn xs s ≡ t
 side-valid xs s v =
     both-true (standsIn xs (s .place)) (standsIn xs (s .end)) (stands-valid xs (s .place) (v .place)) (stands-valid xs (s .end) (v .end))
 
-step-valid : (old new : List ℕ) (c : Cursor) → ValidSide old (c .old) → ValidSide new (c .new) → stepOf old new c ≡ stageStep old new c
+step-valid : (alike : Bool) (old new : List ℕ) (c : Cursor) → ValidSide old (c .old) → ValidSide new (c .new)
+    → stepOf alike old new c ≡ stageStep alike old new c
 unfolding stepOf
-step-valid old new c v w =
+step-valid alike old new c v w =
     let z : sideIn old (c .old) && sideIn new (c .new) ≡ true =
     both-true (sideIn old (c .old)) (sideIn new (c .new)) (side-valid old (c .old) v) (side-valid new (c .new) w) in
-    ap (λ (b : Bool). pick b (stageStep old new c) noStep) z
+    ap (λ (b : Bool). pick b (stageStep alike old new c) noStep) z
 
 idle-valid : (xs : List ℕ) (p : Place) → Valid xs p → ValidSide xs (idle p)
 idle-valid xs p v = record { place = v; end = v }
 
-step-places : (old new : List ℕ) (stage : ℕ) (p q : Place) → Valid old p → Valid new q
-    → stepOf old new (atPlaces stage p q) ≡ stageStep old new (atPlaces stage p q)
-step-places old new stage p q v w = step-valid old new (atPlaces stage p q) (idle-valid old p v) (idle-valid new q w)
+step-places : (alike : Bool) (old new : List ℕ) (stage : ℕ) (p q : Place) → Valid old p → Valid new q
+    → stepOf alike old new (atPlaces stage p q) ≡ stageStep alike old new (atPlaces stage p q)
+step-places alike old new stage p q v w = step-valid alike old new (atPlaces stage p q) (idle-valid old p v) (idle-valid new q w)
 
 -- ---- the records of a section
 
@@ -320,37 +328,39 @@ one-valid xs s v = record { place = valid-onward 1 xs (s .place) (v .place); end
 split : (a b c d e : List ℕ) → a ≡ b ++ c → a ++ (d ++ e) ≡ b ++ (c ++ (d ++ e))
 split a b c d e h = ap (λ (l : List ℕ). l ++ (d ++ e)) h ∙ append-assoc b c (d ++ e)
 
-at-five : (old new : List ℕ) (c : Cursor) → c .stage ≡ 5 → stageStep old new c ≡ sectionStep old new c
+at-five : (alike : Bool) (old new : List ℕ) (c : Cursor) → c .stage ≡ 5 → stageStep alike old new c ≡ sectionStep old new c
 unfolding stageStep
-at-five old new c e =
+at-five alike old new c e =
     let a : ltb (c .stage) 4 ≡ false = rw e refl in
     let b : eqb (c .stage) 4 ≡ false = rw e refl in
     let d : eqb (c .stage) 5 ≡ true = rw e refl in
     rw (a, b, d) refl
 
-module _ (old new : List ℕ) (c : Cursor) (text : List ℕ) (stage : c .stage ≡ 5) (v : ValidSide old (c .old)) (w : ValidSide new (c .new))
-    (even : c .paired ≡ true → c .old .left ≡ c .new .left) (is : text ≡ sectionRest old new c) where
+module _ (alike : Bool) (old new : List ℕ) (c : Cursor) (text : List ℕ) (stage : c .stage ≡ 5) (v : ValidSide old (c .old))
+    (w : ValidSide new (c .new))
+    (even : c .paired ≡ true → c .old .left ≡ c .new .left) (is : text ≡ sectionRest alike old new c) where
   abbrev tailHere : List ℕ
   tailHere = tailText (c .others) (subtotalAt old (c .old)) (subtotalAt new (c .new))
 
   abbrev restHere : List ℕ
-  restHere = groupsRest old new (c .old .end) (c .new .end)
+  restHere = groupsRest alike old new (c .old .end) (c .new .end)
 
-  tail-on : c .old .left ≡ 0 → c .new .left ≡ 0 → Onwards old new (tailStep old new c) text
+  tail-on : c .old .left ≡ 0 → c .new .left ≡ 0 → Onwards alike old new (tailStep old new c) text
   tail-on p q =
       record {
-        rest = groupsRest old new (c .old .end) (c .new .end);
-        is = is ∙ ap (λ (l : List ℕ). l ++ (tailText (c .others) (subtotalAt old (c .old)) (subtotalAt new (c .new)) ++ groupsRest old new (c .old .end) (c .new .end)))
+        rest = groupsRest alike old new (c .old .end) (c .new .end);
+        is = is ∙ ap (λ (l : List ℕ). l ++ (tailText (c .others) (subtotalAt old (c .old)) (subtotalAt new (c .new)) ++ groupsRest alike old new
+            (c .old .end) (c .new .end)))
             (told-none (c .paired) _ _ _ _ _ _ p q);
         left = group (c .old .end) (c .new .end) (v .end) (w .end) refl refl;
       }
 
-  new-on : c .old .left ≡ 0 → (c .new .left ≡ 0 → ⊥) → Onwards old new (newStep new c) text
+  new-on : c .old .left ≡ 0 → (c .new .left ≡ 0 → ⊥) → Onwards alike old new (newStep new c) text
   new-on p q =
       let f : c .paired ≡ false = by-test (c .paired) (λ t. absurd (q (sym (even t) ∙ p))) (λ t. t) in
       let d = newStep new c .cursor in
       record {
-        rest = sectionRest old new d;
+        rest = sectionRest alike old new d;
         is =
             is ∙ split (toldRest old new c) (newStep new c .text) (toldRest old new d) tailHere restHere
             (told-new (c .paired) (c .old .place .number) (c .new .place .number) (d .new .place .number) (c .old .left) (c .new .left)
@@ -362,11 +372,11 @@ module _ (old new : List ℕ) (c : Cursor) (text : List ℕ) (stage : c .stage �
       no-both : c .paired ≡ false → c .paired ≡ true → ⊥
       no-both f t = let z : _≡_ {A = ℕ} 0 1 = cc (f, t) in absurd (omega (arith, z))
 
-  old-on : (c .old .left ≡ 0 → ⊥) → c .paired ≡ false → Onwards old new (oldStep old c) text
+  old-on : (c .old .left ≡ 0 → ⊥) → c .paired ≡ false → Onwards alike old new (oldStep old c) text
   old-on q f =
       let d = oldStep old c .cursor in
       record {
-        rest = sectionRest old new d;
+        rest = sectionRest alike old new d;
         is =
             is ∙ split (toldRest old new c) (oldStep old c .text) (toldRest old new d) tailHere restHere
             (told-old (c .paired) (c .old .place .number) (d .old .place .number) (c .new .place .number) (c .old .left) (c .new .left)
@@ -378,11 +388,11 @@ module _ (old new : List ℕ) (c : Cursor) (text : List ℕ) (stage : c .stage �
       no-both : c .paired ≡ true → ⊥
       no-both t = let z : _≡_ {A = ℕ} 0 1 = cc (f, t) in absurd (omega (arith, z))
 
-  pair-on : (c .old .left ≡ 0 → ⊥) → c .paired ≡ true → Onwards old new (pairStep old new c) text
+  pair-on : (c .old .left ≡ 0 → ⊥) → c .paired ≡ true → Onwards alike old new (pairStep old new c) text
   pair-on q t =
       let d = pairStep old new c .cursor in
       record {
-        rest = sectionRest old new d;
+        rest = sectionRest alike old new d;
         is =
             is ∙ split (toldRest old new c) (pairStep old new c .text) (toldRest old new d) tailHere restHere
             (told-pair (c .paired) (c .old .place .number) (d .old .place .number) (c .new .place .number) (d .new .place .number) (c .old .left)
@@ -393,7 +403,7 @@ module _ (old new : List ℕ) (c : Cursor) (text : List ℕ) (stage : c .stage �
             section refl (one-valid old (c .old) v) (one-valid new (c .new) w) (λ z. ap (λ (n : ℕ). n - 1) (even z)) refl;
       }
 
-  section-on : Onwards old new (sectionStep old new c) text
+  section-on : Onwards alike old new (sectionStep old new c) text
   unfolding sectionStep
   section-on =
       by-test (eqb (c .old .left) 0)
@@ -401,16 +411,18 @@ module _ (old new : List ℕ) (c : Cursor) (text : List ℕ) (stage : c .stage �
       (λ q. rw (p, q) (tail-on (eqb-true _ _ p) (eqb-true _ _ q)))
       (λ q. rw (p, q) (new-on (eqb-true _ _ p) (eqb-false _ _ q))))
       (λ p. by-test (c .paired)
-      (λ t. rw p (subst (λ (b : Bool). Onwards old new (pick b (pairStep old new c) (oldStep old c)) text) (sym t) (pair-on (eqb-false _ _ p) t)))
-      (λ t. rw p (subst (λ (b : Bool). Onwards old new (pick b (pairStep old new c) (oldStep old c)) text) (sym t) (old-on (eqb-false _ _ p) t))))
+      (λ t. rw p (subst (λ (b : Bool). Onwards alike old new (pick b (pairStep old new c) (oldStep old c)) text) (sym t)
+      (pair-on (eqb-false _ _ p) t)))
+      (λ t. rw p (subst (λ (b : Bool). Onwards alike old new (pick b (pairStep old new c) (oldStep old c)) text) (sym t)
+      (old-on (eqb-false _ _ p) t))))
 
-  pub section-left : Onwards old new (stepOf old new c) text
+  pub section-left : Onwards alike old new (stepOf alike old new c) text
   section-left =
-      subst (λ (x : Stepping). Onwards old new x text) (sym (step-valid old new c v w ∙ at-five old new c stage)) section-on
+      subst (λ (x : Stepping). Onwards alike old new x text) (sym (step-valid alike old new c v w ∙ at-five alike old new c stage)) section-on
 
 -- ---- a section that is opened
 
-module _ (grouped : Bool) (old new : List ℕ) (p q : Place) (v : Valid old p) (w : Valid new q) where
+module _ (alike grouped : Bool) (old new : List ℕ) (p q : Place) (v : Valid old p) (w : Valid new q) where
   abbrev d : Cursor
   d = opened grouped old p new q
 
@@ -460,16 +472,17 @@ module _ (grouped : Bool) (old new : List ℕ) (p q : Place) (v : Valid old p) (
   opened-ends = (refl, refl)
 
   -- its beginning, then its rest; x is what follows it
-  opened-on : (under : Bool) (title headings x text : List ℕ) → x ≡ groupsRest old new (partEnd old p) (partEnd new q)
+  opened-on : (under : Bool) (title headings x text : List ℕ) → x ≡ groupsRest alike old new (partEnd old p) (partEnd new q)
       → text ≡ partsText title headings under grouped (p .number) (leftOf old p) (q .number) (leftOf new q) ++ x
-      → Onwards old new (record { text = openText under title headings old new d; cursor = d }) text
+      → Onwards alike old new (record { text = openText under title headings old new d; cursor = d }) text
   opened-on under title headings x text e is =
       let tail = tailText (d .others) (subtotalAt old (d .old)) (subtotalAt new (d .new)) in
       let o = openText under title headings old new d in
-      let g : x ≡ groupsRest old new (d .old .end) (d .new .end) =
-      e ∙ ap (λ (z : Place). groupsRest old new z (partEnd new q)) (sym (opened-ends .0)) ∙ ap (λ (z : Place). groupsRest old new (d .old .end) z) (sym (opened-ends .1)) in
+      let g : x ≡ groupsRest alike old new (d .old .end) (d .new .end) =
+      e ∙ ap (λ (z : Place). groupsRest alike old new z (partEnd new q)) (sym (opened-ends .0))
+      ∙ ap (λ (z : Place). groupsRest alike old new (d .old .end) z) (sym (opened-ends .1)) in
       record {
-        rest = sectionRest old new d;
+        rest = sectionRest alike old new d;
         is =
             is ∙ ap (λ (l : List ℕ). l ++ x) (opened-text under title headings)
             ∙ append-assoc o (toldRest old new d ++ tail) x
@@ -499,11 +512,11 @@ module _ (xs : List ℕ) (p : Place) (v : Valid xs p) where
   places-low = all-low (p .account) (recordsOf (drop (p .at) xs))
 
 -- what follows a section is what is left at its end
-follows : (old new : List ℕ) (k i j : ℕ) (es ns : List Entry) (a b : Place) → AllLow es → AllLow ns → length es + length ns ≤ k
+follows : (alike : Bool) (old new : List ℕ) (k i j : ℕ) (es ns : List Entry) (a b : Place) → AllLow es → AllLow ns → length es + length ns ≤ k
     → a .number ≡ i → leftOf old a ≡ es → b .number ≡ j → leftOf new b ≡ ns
-    → groupsFrom k i es j ns ++ lastText old new ≡ groupsRest old new a b
-follows old new k i j es ns a b l m h e f g n =
-    ap (λ (x : List ℕ). x ++ lastText old new) (enough k (length es + length ns) i j es ns l m h (omega arith))
+    → groupsFrom k i es j ns ++ lastText alike old new ≡ groupsRest alike old new a b
+follows alike old new k i j es ns a b l m h e f g n =
+    ap (λ (x : List ℕ). x ++ lastText alike old new) (enough k (length es + length ns) i j es ns l m h (omega arith))
     ∙ sym (rw (e, f, g, n) refl)
 
 none-subtotal : (es : List Entry) → subtotalOf false es ≡ []
@@ -519,7 +532,8 @@ new-alone : (i j : ℕ) (es ns : List Entry) → toldText false i (take 0 es) j 
 unfolding toldText alonesText
 new-alone i j es ns = refl
 
-module _ (old new : List ℕ) (p q : Place) (v : Valid old p) (w : Valid new q) (text : List ℕ) (is : text ≡ groupsRest old new p q) where
+module _ (alike : Bool) (old new : List ℕ) (p q : Place) (v : Valid old p) (w : Valid new q) (text : List ℕ)
+    (is : text ≡ groupsRest alike old new p q) where
   abbrev es : List Entry
   es = leftOf old p
 
@@ -548,7 +562,7 @@ module _ (old new : List ℕ) (p q : Place) (v : Valid old p) (w : Valid new q) 
     unfolding groupsFrom
     removed-is = let z = lesser (omega (arith, some-old)) in ap (λ (k : ℕ). groupsFrom k i es j ns) z ∙ rw t refl
 
-    removed-on : Onwards old new (removedStep old p q) text
+    removed-on : Onwards alike old new (removedStep old p q) text
     unfolding removedText
     removed-on =
         let c = removedStep old p q .cursor in
@@ -557,23 +571,25 @@ module _ (old new : List ℕ) (p q : Place) (v : Valid old p) (w : Valid new q) 
         let many : e .number - p .number ≡ groupSize es = let m = group-number old p v some-old in omega (arith, m) in
         let s = shorter es some-old in
         let f =
-        follows old new (n - 1) (i + groupSize es) j (afterGroup es) ns e q (low-after es (places-low old p v)) (places-low new q w) (omega (arith, s))
+        follows alike old new (n - 1) (i + groupSize es) j (afterGroup es) ns e q (low-after es (places-low old p v)) (places-low new q w)
+        (omega (arith, s))
         (group-number old p v some-old) (group-left old p v) refl refl in
         let alones = alonesText false i (take (groupSize es) es) in
         let tail = tailText 0 (subtotalOf true (afterGroup es)) [] in
         let g = groupsFrom (n - 1) (i + groupSize es) (afterGroup es) j ns in
         record {
-          rest = sectionRest old new c;
+          rest = sectionRest alike old new c;
           is =
-              is ∙ ap (λ (x : List ℕ). x ++ lastText old new) removed-is
-              ∙ append-assoc (title ++ (alones ++ tail)) g (lastText old new)
-              ∙ append-assoc title (alones ++ tail) (g ++ lastText old new)
-              ∙ ap (λ (x : List ℕ). title ++ x) (append-assoc alones tail (g ++ lastText old new))
+              is ∙ ap (λ (x : List ℕ). x ++ lastText alike old new) removed-is
+              ∙ append-assoc (title ++ (alones ++ tail)) g (lastText alike old new)
+              ∙ append-assoc title (alones ++ tail) (g ++ lastText alike old new)
+              ∙ ap (λ (x : List ℕ). title ++ x) (append-assoc alones tail (g ++ lastText alike old new))
               ∙ ap (λ (x : List ℕ). title ++ (alones ++ (tail ++ x))) f
-              ∙ ap (λ (x : List ℕ). title ++ (alones ++ (x ++ groupsRest old new e q)))
+              ∙ ap (λ (x : List ℕ). title ++ (alones ++ (x ++ groupsRest alike old new e q)))
               (ap (λ (l : List Entry). tailText 0 (subtotalOf true l) []) (sym (group-left old p v))
               ∙ ap (λ (l : List ℕ). tailText 0 (subtotalOf true (leftOf old e)) l) (sym (none-subtotal ns)))
-              ∙ ap (λ (x : List ℕ). title ++ (x ++ (tailText 0 (subtotalOf true (leftOf old e)) (subtotalOf false ns) ++ groupsRest old new e q)))
+              ∙ ap (λ (x : List ℕ). title ++ (x ++ (tailText 0 (subtotalOf true (leftOf old e)) (subtotalOf false ns)
+              ++ groupsRest alike old new e q)))
               (ap (λ (m : ℕ). alonesText false i (take m es)) (sym many) ∙ sym (old-alone i j (take (e .number - p .number) es) ns));
           left =
               section refl (record { place = v; end = group-valid old p v }) (record { place = w; end = w })
@@ -589,7 +605,7 @@ module _ (old new : List ℕ) (p q : Place) (v : Valid old p) (w : Valid new q) 
     unfolding groupsFrom
     added-is = let z = lesser (omega (arith, some-new)) in ap (λ (k : ℕ). groupsFrom k i es j ns) z ∙ rw (t, u) refl
 
-    added-on : Onwards old new (addedStep new p q) text
+    added-on : Onwards alike old new (addedStep new p q) text
     unfolding addedText
     added-on =
         let c = addedStep new p q .cursor in
@@ -598,23 +614,25 @@ module _ (old new : List ℕ) (p q : Place) (v : Valid old p) (w : Valid new q) 
         let many : e .number - q .number ≡ groupSize ns = let m = group-number new q w some-new in omega (arith, m) in
         let s = shorter ns some-new in
         let f =
-        follows old new (n - 1) i (j + groupSize ns) es (afterGroup ns) p e (places-low old p v) (low-after ns (places-low new q w)) (omega (arith, s))
+        follows alike old new (n - 1) i (j + groupSize ns) es (afterGroup ns) p e (places-low old p v) (low-after ns (places-low new q w))
+        (omega (arith, s))
         refl refl (group-number new q w some-new) (group-left new q w) in
         let alones = alonesText true j (take (groupSize ns) ns) in
         let tail = tailText 0 [] (subtotalOf true (afterGroup ns)) in
         let g = groupsFrom (n - 1) i es (j + groupSize ns) (afterGroup ns) in
         record {
-          rest = sectionRest old new c;
+          rest = sectionRest alike old new c;
           is =
-              is ∙ ap (λ (x : List ℕ). x ++ lastText old new) added-is
-              ∙ append-assoc (title ++ (alones ++ tail)) g (lastText old new)
-              ∙ append-assoc title (alones ++ tail) (g ++ lastText old new)
-              ∙ ap (λ (x : List ℕ). title ++ x) (append-assoc alones tail (g ++ lastText old new))
+              is ∙ ap (λ (x : List ℕ). x ++ lastText alike old new) added-is
+              ∙ append-assoc (title ++ (alones ++ tail)) g (lastText alike old new)
+              ∙ append-assoc title (alones ++ tail) (g ++ lastText alike old new)
+              ∙ ap (λ (x : List ℕ). title ++ x) (append-assoc alones tail (g ++ lastText alike old new))
               ∙ ap (λ (x : List ℕ). title ++ (alones ++ (tail ++ x))) f
-              ∙ ap (λ (x : List ℕ). title ++ (alones ++ (x ++ groupsRest old new p e)))
+              ∙ ap (λ (x : List ℕ). title ++ (alones ++ (x ++ groupsRest alike old new p e)))
               (ap (λ (l : List Entry). tailText 0 [] (subtotalOf true l)) (sym (group-left new q w))
               ∙ ap (λ (l : List ℕ). tailText 0 l (subtotalOf true (leftOf new e))) (sym (none-subtotal es)))
-              ∙ ap (λ (x : List ℕ). title ++ (x ++ (tailText 0 (subtotalOf false es) (subtotalOf true (leftOf new e)) ++ groupsRest old new p e)))
+              ∙ ap (λ (x : List ℕ). title ++ (x ++ (tailText 0 (subtotalOf false es) (subtotalOf true (leftOf new e))
+              ++ groupsRest alike old new p e)))
               (ap (λ (m : ℕ). alonesText true j (take m ns)) (sym many) ∙ sym (new-alone i j es (take (e .number - q .number) ns)));
           left =
               section refl (record { place = v; end = v }) (record { place = w; end = group-valid new q w })
@@ -628,11 +646,11 @@ module _ (old new : List ℕ) (p q : Place) (v : Valid old p) (w : Valid new q) 
     last-is zero x = refl
     last-is (suc m) x = rw (t, u, x) refl
 
-    last-on : eqb (groupAt es) noGroup ≡ true → Onwards old new (lastStep old new p q) text
+    last-on : eqb (groupAt es) noGroup ≡ true → Onwards alike old new (lastStep alike old new p q) text
     last-on x =
         record {
           rest = [];
-          is = is ∙ ap (λ (l : List ℕ). l ++ lastText old new) (last-is n x) ∙ sym (append-nil (totalText es ns ++ lastText old new));
+          is = is ∙ ap (λ (l : List ℕ). l ++ lastText alike old new) (last-is n x) ∙ sym (append-nil (totalText es ns ++ lastText alike old new));
           left = over refl refl;
         }
 
@@ -662,71 +680,78 @@ module _ (old new : List ℕ) (p q : Place) (v : Valid old p) (w : Valid new q) 
       both-parts =
           sym (rw (left-onward 1 old p v, left-onward 1 new q w, one-number old p v both-old, one-number new q w both-new) refl)
 
-      both-on : Onwards old new (bothStep old new p q) text
+      both-on : Onwards alike old new (bothStep old new p q) text
       unfolding bothStep
       both-on =
           let s = shorter es both-old in
           let r = shorter ns both-new in
           let f =
-          follows old new (n - 1) (i + groupSize es) (j + groupSize ns) (afterGroup es) (afterGroup ns) (partEnd old (onward 1 old p)) (partEnd new (onward 1 new q))
+          follows alike old new (n - 1) (i + groupSize es) (j + groupSize ns) (afterGroup es) (afterGroup ns) (partEnd old (onward 1 old p))
+          (partEnd new (onward 1 new q))
           (low-after es (places-low old p v)) (low-after ns (places-low new q w)) (omega (arith, s, r))
           (group-number old p v both-old) (group-left old p v) (group-number new q w both-new) (group-left new q w) in
           let parts =
           partsText (groupTitle (groupAt es) (ascii ":\n")) (firstPair i es j ns) (same (firstBytes es) (firstBytes ns)) true
           (onward 1 old p .number) (leftOf old (onward 1 old p)) (onward 1 new q .number) (leftOf new (onward 1 new q)) in
           let g = groupsFrom (n - 1) (i + groupSize es) (afterGroup es) (j + groupSize ns) (afterGroup ns) in
-          opened-on true old new (onward 1 old p) (onward 1 new q) (valid-onward 1 old p v) (valid-onward 1 new q w)
-          (same (firstBytes es) (firstBytes ns)) (groupTitle (groupAt es) (ascii ":\n")) (firstPair i es j ns) (g ++ lastText old new) text f
-          (is ∙ ap (λ (l : List ℕ). l ++ lastText old new) (both-is ∙ ap (λ (l : List ℕ). l ++ g) both-parts)
-          ∙ append-assoc parts g (lastText old new))
+          opened-on alike true old new (onward 1 old p) (onward 1 new q) (valid-onward 1 old p v) (valid-onward 1 new q w)
+          (same (firstBytes es) (firstBytes ns)) (groupTitle (groupAt es) (ascii ":\n")) (firstPair i es j ns) (g ++ lastText alike old new) text f
+          (is ∙ ap (λ (l : List ℕ). l ++ lastText alike old new) (both-is ∙ ap (λ (l : List ℕ). l ++ g) both-parts)
+          ∙ append-assoc parts g (lastText alike old new))
 
-  group-on : Onwards old new (groupStep old new p q) text
+  group-on : Onwards alike old new (groupStep alike old new p q) text
   unfolding groupStep
   group-on =
       by-test (ltb (groupAt es) (groupAt ns)) (λ t. rw t (removed-on t))
       (λ t. by-test (ltb (groupAt ns) (groupAt es)) (λ u. rw (t, u) (added-on t u))
       (λ u. by-test (eqb (groupAt es) noGroup) (λ x. rw (t, u, x) (last-on t u x)) (λ x. rw (t, u, x) (both-on t u x))))
 
-  at-six : stageStep old new (atPlaces 6 p q) ≡ groupStep old new p q
+  at-six : stageStep alike old new (atPlaces 6 p q) ≡ groupStep alike old new p q
   unfolding stageStep
   at-six = refl
 
-  pub group-step : Onwards old new (stepOf old new (atPlaces 6 p q)) text
-  group-step = subst (λ (x : Stepping). Onwards old new x text) (sym (step-places old new 6 p q v w ∙ at-six)) group-on
+  pub group-step : Onwards alike old new (stepOf alike old new (atPlaces 6 p q)) text
+  group-step = subst (λ (x : Stepping). Onwards alike old new x text) (sym (step-places alike old new 6 p q v w ∙ at-six)) group-on
 
 -- ---- the other stages
 
-module _ (old new : List ℕ) where
-  at-stage : (stage : ℕ) → stepOf old new (atPlaces stage start start) ≡ stageStep old new (atPlaces stage start start)
-  at-stage stage = step-places old new stage start start (valid-start old) (valid-start new)
+module _ (alike : Bool) (old new : List ℕ) where
+  at-stage : (stage : ℕ) → stepOf alike old new (atPlaces stage start start) ≡ stageStep alike old new (atPlaces stage start start)
+  at-stage stage = step-places alike old new stage start start (valid-start old) (valid-start new)
 
-  first-on : (text : List ℕ) → text ≡ compareText old new → Onwards old new (stepOf old new (atPlaces 0 start start)) text
-  unfolding stageStep verdictText compareText
+  first-on : (text : List ℕ) → text ≡ beginningsText alike old new → Onwards alike old new (stepOf alike old new (atPlaces 0 start start)) text
+  unfolding stageStep verdictText beginningsText
   first-on text e =
-      subst (λ (x : Stepping). Onwards old new x text) (sym (at-stage 0))
-      (record { rest = machineText (whyOf old) ++ (bookText true ++ (machineText (whyOf new) ++ beforeRest old new)); is = e; left = second refl refl })
+      subst (λ (x : Stepping). Onwards alike old new x text) (sym (at-stage 0))
+      (record {
+        rest = machineText (whyOf old) ++ (bookText true ++
+            (machineText (whyOf new) ++ beforeRest alike old new));
+        is = e;
+        left = second refl refl;
+      })
 
-  second-on : (text : List ℕ) → text ≡ machineText (whyOf old) ++ (bookText true ++ (machineText (whyOf new) ++ beforeRest old new))
-      → Onwards old new (stepOf old new (atPlaces 1 start start)) text
+  second-on : (text : List ℕ) → text ≡ machineText (whyOf old) ++ (bookText true ++ (machineText (whyOf new) ++ beforeRest alike old new))
+      → Onwards alike old new (stepOf alike old new (atPlaces 1 start start)) text
   unfolding stageStep verdictText
   second-on text e =
-      subst (λ (x : Stepping). Onwards old new x text) (sym (at-stage 1))
-      (record { rest = bookText true ++ (machineText (whyOf new) ++ beforeRest old new); is = e; left = third refl refl })
+      subst (λ (x : Stepping). Onwards alike old new x text) (sym (at-stage 1))
+      (record { rest = bookText true ++ (machineText (whyOf new) ++ beforeRest alike old new); is = e; left = third refl refl })
 
-  third-on : (text : List ℕ) → text ≡ bookText true ++ (machineText (whyOf new) ++ beforeRest old new)
-      → Onwards old new (stepOf old new (atPlaces 2 start start)) text
+  third-on : (text : List ℕ) → text ≡ bookText true ++ (machineText (whyOf new) ++ beforeRest alike old new)
+      → Onwards alike old new (stepOf alike old new (atPlaces 2 start start)) text
   unfolding stageStep verdictText
   third-on text e =
-      subst (λ (x : Stepping). Onwards old new x text) (sym (at-stage 2))
-      (record { rest = machineText (whyOf new) ++ beforeRest old new; is = e; left = fourth refl refl })
+      subst (λ (x : Stepping). Onwards alike old new x text) (sym (at-stage 2))
+      (record { rest = machineText (whyOf new) ++ beforeRest alike old new; is = e; left = fourth refl refl })
 
-  fourth-on : (text : List ℕ) → text ≡ machineText (whyOf new) ++ beforeRest old new → Onwards old new (stepOf old new (atPlaces 3 start start)) text
+  fourth-on : (text : List ℕ) → text ≡ machineText (whyOf new) ++ beforeRest alike old new
+      → Onwards alike old new (stepOf alike old new (atPlaces 3 start start)) text
   unfolding stageStep verdictText
   fourth-on text e =
-      subst (λ (x : Stepping). Onwards old new x text) (sym (at-stage 3))
-      (record { rest = beforeRest old new; is = e; left = before refl refl })
+      subst (λ (x : Stepping). Onwards alike old new x text) (sym (at-stage 3))
+      (record { rest = beforeRest alike old new; is = e; left = before refl refl })
 
-  before-on : (text : List ℕ) → text ≡ beforeRest old new → Onwards old new (stepOf old new (atPlaces 4 start start)) text
+  before-on : (text : List ℕ) → text ≡ beforeRest alike old new → Onwards alike old new (stepOf alike old new (atPlaces 4 start start)) text
   unfolding stageStep beforeStep beforeText
   before-on text e =
       let es = entriesOf old in
@@ -735,31 +760,33 @@ module _ (old new : List ℕ) where
       let b : partEnd new start .number ≡ length (partOf ns) = let m = end-number new start (valid-start new) in omega (arith, m) in
       let l = low-end es (places-low old start (valid-start old)) in
       let m = low-end ns (places-low new start (valid-start new)) in
-      subst (λ (x : Stepping). Onwards old new x text) (sym (at-stage 4))
-      (opened-on false old new start start (valid-start old) (valid-start new) true (ascii "before the groups:\n") [] _ text
-      (follows old new (length (afterPart es) + length (afterPart ns)) (length (partOf es)) (length (partOf ns)) (afterPart es) (afterPart ns) (partEnd old start)
+      subst (λ (x : Stepping). Onwards alike old new x text) (sym (at-stage 4))
+      (opened-on alike false old new start start (valid-start old) (valid-start new) true (ascii "before the groups:\n") [] _ text
+      (follows alike old new (length (afterPart es) + length (afterPart ns)) (length (partOf es)) (length (partOf ns)) (afterPart es) (afterPart ns)
+      (partEnd old start)
       (partEnd new start) l m (omega arith) a (end-left old start (valid-start old)) b (end-left new start (valid-start new))) e)
     where
       low-end : (es : List Entry) → AllLow es → AllLow (afterPart es)
       low-end es l = subst AllLow (after-drop es) (low-drop (length (partOf es)) es l)
 
-  over-on : (text : List ℕ) → text ≡ [] → Onwards old new (stepOf old new ended) text
+  over-on : (text : List ℕ) → text ≡ [] → Onwards alike old new (stepOf alike old new ended) text
   unfolding stageStep
   over-on text e =
-      subst (λ (x : Stepping). Onwards old new x text) (sym (at-stage 7)) (record { rest = []; is = e; left = over refl refl })
+      subst (λ (x : Stepping). Onwards alike old new x text) (sym (at-stage 7)) (record { rest = []; is = e; left = over refl refl })
 
-  step-on : (c : Cursor) (text : List ℕ) → Left old new c text → Onwards old new (stepOf old new c) text
-  step-on c text (first e t) = subst (λ (x : Cursor). Onwards old new (stepOf old new x) text) (sym e) (first-on text t)
-  step-on c text (second e t) = subst (λ (x : Cursor). Onwards old new (stepOf old new x) text) (sym e) (second-on text t)
-  step-on c text (third e t) = subst (λ (x : Cursor). Onwards old new (stepOf old new x) text) (sym e) (third-on text t)
-  step-on c text (fourth e t) = subst (λ (x : Cursor). Onwards old new (stepOf old new x) text) (sym e) (fourth-on text t)
-  step-on c text (before e t) = subst (λ (x : Cursor). Onwards old new (stepOf old new x) text) (sym e) (before-on text t)
-  step-on c text (section s v w h t) = section-left old new c text s v w h t
-  step-on c text (group p q v w e t) = subst (λ (x : Cursor). Onwards old new (stepOf old new x) text) (sym e) (group-step old new p q v w text t)
-  step-on c text (over e t) = subst (λ (x : Cursor). Onwards old new (stepOf old new x) text) (sym e) (over-on text t)
+  step-on : (c : Cursor) (text : List ℕ) → Left alike old new c text → Onwards alike old new (stepOf alike old new c) text
+  step-on c text (first e t) = subst (λ (x : Cursor). Onwards alike old new (stepOf alike old new x) text) (sym e) (first-on text t)
+  step-on c text (second e t) = subst (λ (x : Cursor). Onwards alike old new (stepOf alike old new x) text) (sym e) (second-on text t)
+  step-on c text (third e t) = subst (λ (x : Cursor). Onwards alike old new (stepOf alike old new x) text) (sym e) (third-on text t)
+  step-on c text (fourth e t) = subst (λ (x : Cursor). Onwards alike old new (stepOf alike old new x) text) (sym e) (fourth-on text t)
+  step-on c text (before e t) = subst (λ (x : Cursor). Onwards alike old new (stepOf alike old new x) text) (sym e) (before-on text t)
+  step-on c text (section s v w h t) = section-left alike old new c text s v w h t
+  step-on c text (group p q v w e t) = subst (λ (x : Cursor). Onwards alike old new (stepOf alike old new x) text) (sym e)
+      (group-step alike old new p q v w text t)
+  step-on c text (over e t) = subst (λ (x : Cursor). Onwards alike old new (stepOf alike old new x) text) (sym e) (over-on text t)
 
   -- at the end nothing is left
-  none-left : (c : Cursor) (text : List ℕ) → Left old new c text → 7 ≤ c .stage → [] ≡ text
+  none-left : (c : Cursor) (text : List ℕ) → Left alike old new c text → 7 ≤ c .stage → [] ≡ text
   none-left c text (first e t) h = let s = ap (λ (x : Cursor). x .stage) e in absurd (omega (arith, s, h))
   none-left c text (second e t) h = let s = ap (λ (x : Cursor). x .stage) e in absurd (omega (arith, s, h))
   none-left c text (third e t) h = let s = ap (λ (x : Cursor). x .stage) e in absurd (omega (arith, s, h))
@@ -769,13 +796,14 @@ module _ (old new : List ℕ) where
   none-left c text (group p q v w e t) h = let s = ap (λ (x : Cursor). x .stage) e in absurd (omega (arith, s, h))
   none-left c text (over e t) h = sym t
 
-  steps-left : (k : ℕ) (c : Cursor) (text : List ℕ) → Left old new c text → 7 ≤ cursorAfter k old new c .stage → textIn k old new c ≡ text
+  steps-left : (k : ℕ) (c : Cursor) (text : List ℕ) → Left alike old new c text → 7 ≤ cursorAfter k alike old new c .stage
+      → textIn k alike old new c ≡ text
   unfolding textIn cursorAfter
   steps-left zero c text l h = none-left c text l h
   steps-left (suc k) c text l h =
       let o = step-on c text l in
-      ap (λ (x : List ℕ). stepOf old new c .text ++ x) (steps-left k (stepOf old new c .cursor) (o .rest) (o .left) h) ∙ sym (o .is)
+      ap (λ (x : List ℕ). stepOf alike old new c .text ++ x) (steps-left k (stepOf alike old new c .cursor) (o .rest) (o .left) h) ∙ sym (o .is)
 
   -- Where the steps have come to their end, however many they were, their pieces, one after the other, are what is said of the two books.
-  pub compared-in-parts : (k : ℕ) → 7 ≤ cursorAfter k old new beginning .stage → textIn k old new beginning ≡ compareText old new
-  compared-in-parts k h = steps-left k beginning (compareText old new) (first refl refl) h
+  pub compared-in-parts : (k : ℕ) → 7 ≤ cursorAfter k alike old new beginning .stage → textIn k alike old new beginning ≡ beginningsText alike old new
+  compared-in-parts k h = steps-left k beginning (beginningsText alike old new) (first refl refl) h

@@ -59,7 +59,7 @@ firstSame (e ∷ es) [] = 0
 firstSame (e ∷ es) (n ∷ ns) = pick (same (e .bytes) (n .bytes)) (suc (firstSame es ns)) 0
 
 -- once a pair has differed the count stays
-stays : (u : Counts) (es ns : List Entry) → u .leading < u .pairs → runsFrom u es ns .leading ≡ u .leading
+pub stays : (u : Counts) (es ns : List Entry) → u .leading < u .pairs → runsFrom u es ns .leading ≡ u .leading
 unfolding runsFrom
 stays u [] ns h = refl
 stays u (e ∷ es) [] h = refl

@@ -1,0 +1,10 @@
+pub mod Truths
+pub mod Silent
+pub mod Whole
+pub mod Fates
+pub mod Counted
+pub mod InAnotherOrder
+pub mod SectionFates
+pub mod Unsaid
+pub mod SumFates
+pub mod Beginnings
