@@ -7,11 +7,11 @@ mod model;
 mod tests;
 
 use makers::{
-    cases, damages, desk, dice, doubts, farms, pairs, rows, sets, texts, trial, whole_books,
+    cases, damages, desk, dice, doubts, farms, grams, pairs, rows, sets, texts, trial, whole_books,
 };
 use model::{
-    compare, covered, feed, kinds, lister, page, programs, records, salvage, sheets, state, table,
-    typed, why,
+    compare, covered, feed, kilograms, kinds, lister, page, programs, records, salvage, sheets,
+    state, table, typed, why,
 };
 use std::io::{self, BufRead, BufWriter, Read, Write};
 
@@ -45,6 +45,8 @@ const USAGE: &str = "usage:
   second edges FOLDER                writes books whose sums cross what eight bytes hold
   second page FILE|-                 the member's page of a book, as page prints it
   second farm SEED INDEX             a farm's book by chance, of several groups
+  second kilograms                   reads grams, a number a line, prints and says what kilograms does
+  second grams SEED INDEX            a text of grams by chance
   second kinds                       the table of kinds for machines, without its help
   second doubts                      how many doubtful books reach each end of each field's range
 ";
@@ -78,6 +80,7 @@ fn answered(words: &[&str]) -> Result<(), String> {
         ["records", file] => tell_file(records::records, file),
         ["table", ..] => many_books(&words[1..]),
         ["page", file] => tell_file(page::page, file),
+        ["kilograms"] => tell(kilograms::kilograms),
         ["kinds"] => write_bytes(kinds::table().as_bytes()),
         _ => made(words),
     }
@@ -94,6 +97,7 @@ fn made(words: &[&str]) -> Result<(), String> {
         ["damaged", seed, index] => by_chance(damages::damaged, seed, index),
         ["book", seed, index] => by_chance(whole_books::book, seed, index),
         ["farm", seed, index] => by_chance(farms::farm, seed, index),
+        ["grams", seed, index] => by_chance(grams::grams, seed, index),
         ["doubtful", seed, index] => by_chance(doubts::doubtful, seed, index),
         ["doubts"] => write_all(std::iter::once(format!("{}\n", doubts::enough()))),
         ["lines", seed, index] => by_chance(rows::lines, seed, index),

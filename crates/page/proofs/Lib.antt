@@ -4,6 +4,4 @@ pub mod Gathers
 mod Knowns
 pub mod Pages
 pub mod Promises
-pub mod AddsUp
-pub mod SourcesAdd
 pub mod OneAnswer

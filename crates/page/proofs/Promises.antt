@@ -98,10 +98,10 @@ rows-after sc from grazed u a (r ∷ rs) = rows-step sc from grazed a r rs u (λ
 
 -- a place in a book
 module _ (sc : Scale) (xs : List ℕ) (p : Place) where
-  abbrev pub rest : List ℕ
+  abbrev rest : List ℕ
   rest = drop (p .at) xs
 
-  abbrev pub found : Next
+  abbrev found : Next
   found = nextOf (p .account) rest
 
   -- what is still to be printed there
@@ -124,7 +124,7 @@ module _ (sc : Scale) (xs : List ℕ) (p : Place) where
         neither false false e = sym e
 
     module _ (o : goesOn p xs ≡ true) where
-      pub still : eqb (found .size) 0 || eqb (found .account .stage) 3 ≡ false
+      still : eqb (found .size) 0 || eqb (found .account .stage) 3 ≡ false
       still = both (eqb (found .size) 0) (eqb (found .account .stage) 3) (sym goes-is ∙ o)
         where
           both : (b c : Bool) → not b && not c ≡ true → b || c ≡ false
@@ -132,10 +132,10 @@ module _ (sc : Scale) (xs : List ℕ) (p : Place) where
           both false true e = sym e
           both false false e = refl
 
-      pub stand : Stands (p .account) rest found
+      stand : Stands (p .account) rest found
       stand = next-stands p xs found refl still
 
-      pub place-is : placeAfter p xs ≡ movedBy p (kindAt p xs) (found .account) (found .size)
+      place-is : placeAfter p xs ≡ movedBy p (kindAt p xs) (found .account) (found .size)
       place-is = rw o refl
 
       -- its row, and then those of the place after it
@@ -149,10 +149,10 @@ module _ (sc : Scale) (xs : List ℕ) (p : Place) where
           rw (o, ← drop-drop (found .size) (p .at) xs)
           (rw k at (step ∙ rows-after sc _ _ _ (found .account) (recordsOf (drop (found .size) rest))))
 
-      pub range-next : AccountInRange (placeAfter p xs .account)
+      range-next : AccountInRange (placeAfter p xs .account)
       range-next = rw (place-is, stand .account) (in-range-judge (p .account) (take (found .size) rest) range (stand .early))
 
-      pub inside-next : placeAfter p xs .at ≤ length xs
+      inside-next : placeAfter p xs .at ≤ length xs
       inside-next = rw place-is (next-inside p xs found refl still inside)
 
       nearer : p .at + 6 ≤ placeAfter p xs .at

@@ -5,7 +5,8 @@ use mathlib.Core.List.{_++_}
 use borrow.Author.Tests.{lt-ltb, le-ltb}
 use native.Mathlib.Omega.{arith}
 use Rattle.printing.specs.Decimal.{decimal}
-use Rattle.page.specs.Text.{thinSpace, lastThree, threesBy}
+use Rattle.printing.specs.Ascii.{thinSpace}
+use Rattle.page.specs.Text.{lastThree, threesBy}
 
 pub threes-none : (most n : ℕ) → most ≡ 0 → threesBy most n ≡ decimal n
 unfolding threesBy

@@ -32,7 +32,7 @@ abbrev pub unitOf : ℕ → ℕ
 unitOf way = pick (eqb way 0) 1 ((way + 999) / 1000)
 
 -- the scale of a cascade that rises to a peak and then goes, with its last row, up or down to its end: its lowest step is the first or the last one,
--- its highest the peak or the last one
+-- its highest the peak or the last one, as page_sums shows of both tables
 unfoldable pub scaleOf : ℕ → ℕ → Scale
 scaleOf peak end = record { lo = lesser noStep end; unit = unitOf (greater peak end - lesser noStep end) }
 

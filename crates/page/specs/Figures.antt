@@ -161,6 +161,10 @@ ofFarm s = s .sources .energy .seen || (s .sources .soil .seen || s .sources .ti
 abbrev pub groupScale : Survey → Scale
 groupScale s = scaleOf (s .groups) (plus8 (s .groups) (s .co2))
 
+-- the scale of the sources: they rise, and tillage, the last, may take up
+abbrev pub sourceScale : Survey → Scale
+sourceScale s = scaleOf (s .sources .soil .to) (s .sources .tillage .to)
+
 -- for the contracts of the functions that sum: no sum is above that of the account
 pub record SumIn (s : Sum) (f : Figures) : Type 0 where
   pub ch4 : s .ch4 ≤ f .ch4

@@ -17,9 +17,9 @@ use Rattle.page.specs.declared.Source.{Source}
 use Rattle.page.specs.declared.Sources.{Sources}
 use Rattle.page.specs.declared.Survey.{Survey}
 use Rattle.page.specs.Text.{below, kilograms, figureText, cellText}
-use Rattle.page.specs.Bars.{plus8, scaleOf, barText}
+use Rattle.page.specs.Bars.{plus8, barText}
 use Rattle.page.specs.Style.{styleText}
-use Rattle.page.specs.Figures.{ofFarm, groupScale}
+use Rattle.page.specs.Figures.{ofFarm, groupScale, sourceScale}
 
 -- ---- the head
 
@@ -224,8 +224,7 @@ sourcesFoot s =
 -- the table of the sources
 unfoldable pub sourcesText : Survey → List ℕ
 sourcesText s =
-    let sc = scaleOf (s .sources .soil .to) (s .sources .tillage .to) in
-    animalsText sc (s .sources) ++ (landText sc (s .sources) ++ sourcesFoot s)
+    animalsText (sourceScale s) (s .sources) ++ (landText (sourceScale s) (s .sources) ++ sourcesFoot s)
 
 -- ---- the gases
 

@@ -3,15 +3,13 @@
 use Prim.Native.Nat.{ℕ, zero, suc}
 use mathlib.Core.Path.{_≡_}
 use mathlib.Core.List.{List, [], _∷_, _++_}
-use lib.ListN.{getD}
 use Rattle.grams.specs.Units.{noCo2, co2Word}
-use Rattle.account.specs.declared.Heading.{Heading}
 use Rattle.line_bytes.specs.Lines.{subtotalKind, lineBytes}
 use Rattle.page.specs.declared.Group.{Group}
 use Rattle.page.specs.declared.Place.{Place}
 use Rattle.page.specs.declared.Scale.{Scale}
 use Rattle.page.specs.declared.Survey.{Survey}
-use Rattle.page.specs.Page.{noPlace, placeAfter, rowAt}
+use Rattle.page.specs.Page.{placeAfter, rowAt}
 
 -- ---- in parts
 
@@ -20,16 +18,7 @@ unfoldable pub rowsBy : ℕ → Scale → Place → List ℕ → List ℕ
 rowsBy zero sc p xs = []
 rowsBy (suc n) sc p xs = rowAt sc p xs ++ rowsBy n sc (placeAfter p xs) xs
 
--- the place after so many calls
-unfoldable pub placeBy : ℕ → List ℕ → Place
-placeBy zero xs = noPlace
-placeBy (suc n) xs = placeAfter (placeBy n xs) xs
-
 -- ---- the groups
-
--- the heading that a heading record's values make
-abbrev pub headingOf : List ℕ → Heading
-headingOf v = record { group = getD v 0 0; class = getD v 1 0; head = getD v 2 0 }
 
 -- the subtotal line of a group with the figures of its row
 abbrev pub subtotalOf : Group → List ℕ

@@ -1,23 +1,12 @@
 -- The small texts of the member's page: kilograms to the gram, with thin spaces and a real minus sign; a cell of a table.
 -- Assumes nothing.
-use Prim.Native.Nat.{ℕ, zero, suc, _+_, _-_, _/_, _%_, _^_}
+use Prim.Native.Nat.{ℕ, zero, suc, _-_, _/_, _%_, _^_}
 use mathlib.Core.List.{List, [], _∷_, _++_}
 use mathlib.Core.Bool.{Bool}
 use lib.Dec.{ltb, leb, eqb}
 use Rattle.base.specs.Choice.{pick}
-use Rattle.printing.specs.Ascii.{ascii}
+use Rattle.printing.specs.Ascii.{ascii, thinSpace, minusSign}
 use Rattle.printing.specs.Decimal.{digit, decimal}
-
--- of a character of UTF-8 the bytes after the first bear their highest bit
-abbrev pub further : ℕ → ℕ
-further n = 2 ^ 7 + n
-
--- a thin space that does not break, U+202F, and the minus sign, U+2212
-abbrev pub thinSpace : List ℕ
-thinSpace = 226 ∷ further 0 ∷ further 47 ∷ []
-
-abbrev pub minusSign : List ℕ
-minusSign = 226 ∷ further 8 ∷ further 18 ∷ []
 
 -- the last three digits of n, zeros among them
 abbrev pub lastThree : ℕ → List ℕ

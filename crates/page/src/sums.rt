@@ -259,7 +259,7 @@ fn name_of(a: Account, book: &[u8]) -> Named
             year: 0,
         };
     }
-    let v = codec::farm::read(book, 4);
+    let v = values::farm::read(book, 4);
     Named {
         known: true,
         farm: v[0],

@@ -8,6 +8,7 @@ pub mod desk;
 pub mod dice;
 pub mod doubts;
 pub mod farms;
+pub mod grams;
 pub mod grazings;
 pub mod halves;
 pub mod pairs;

@@ -9,6 +9,7 @@ pub mod figures;
 pub mod grazing;
 pub mod hints;
 pub mod judge;
+pub mod kilograms;
 pub mod kind;
 pub mod kinds;
 pub mod lister;

@@ -9,6 +9,7 @@ const SEMICOLONS: &str =
     "cells are separated by commas, and here are semicolons: save it as CSV with commas";
 const LINE_FEED: &str =
     "the row ends in a line feed alone: save it as CSV with CRLF, the line ends of Windows";
+const NO_END: &str = "the last row has no line end: each row ends in CRLF, the last one too";
 const NUMBER: &str =
     "expected a whole number without leading zeros (co2 may have a minus sign), then a comma";
 const NOTHING: &str = "expected nothing before the end of the row: only a row of kind 8 has a co2e";
@@ -54,6 +55,8 @@ fn in_header(text: &[u8]) -> String {
         SEMICOLONS.to_string()
     } else if text.strip_prefix(names().as_bytes()).is_some_and(|rest| rest.starts_with(b"\n")) {
         LINE_FEED.to_string()
+    } else if text == names().as_bytes() {
+        NO_END.to_string()
     } else {
         format!("the first row has to be {}", names())
     }
@@ -99,6 +102,8 @@ fn in_cell(cell: &[u8], column: usize, kind: u8, rest: &[u8]) -> &'static str {
         NUMBER
     } else if right && rest.get(size) == Some(&b'\n') {
         LINE_FEED
+    } else if right && rest.len() == size {
+        NO_END
     } else if total {
         TOTAL
     } else {

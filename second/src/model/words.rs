@@ -23,8 +23,8 @@ pub fn sentence(code: u8) -> &'static str {
         3 => "no such kind of record: kinds are 1 to 10",
         5 => "the book has 4096 records, and no more go in",
         6 => concat!(
-            "out of its place: a book begins with its one farm record; ",
-            "enteric, cattle and grazing stand under a heading of class 1 to 3, pig under one of class 4"
+            "out of its place: the one farm record is first; ",
+            "enteric, cattle and grazing need a milking, dry or heifer heading, pig a pig heading"
         ),
         8 => "the group number must be above that of the heading before",
         9 => "more than 366 days of this kind under the heading",
@@ -35,10 +35,10 @@ pub fn sentence(code: u8) -> &'static str {
         11 => "more nitrogen in milk and gain than in the feed",
         12 => "the close counts other records than there are before it; left out, the count is filled in",
         21 => concat!(
-            "a number is outside its field: kind is 3 to 10 or 16, group up to 65535, ",
-            "a figure up to 18446744073709551615, co2 and co2e -9223372036854775808 to 9223372036854775807"
+            "a number is outside its field: kind 3 to 10 or 16, group to 65535, ",
+            "a figure to 18446744073709551615, co2 and co2e -9223372036854775808 to 9223372036854775807"
         ),
-        23 => "the bytes are no run of whole lines, as the herd desk gives them: a book is none",
+        23 => "the bytes are no run of whole lines, as the herd desk gives them: for a book use bin/sheet",
         _ => panic!("the number {code} is given to no typed line, sheet or lines"),
     }
 }

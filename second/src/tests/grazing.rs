@@ -210,8 +210,8 @@ fn grazing_as_it_is_typed() {
     for line in ["grazing 3 1 600 50", "GRAZING Ontario 1 600 50.0", "10 3 cows 600 50.00"] {
         assert_eq!(record_typed(1, line), record);
     }
-    let place = "refused 6: out of its place: a book begins with its one farm record; \
-        enteric, cattle and grazing stand under a heading of class 1 to 3, pig under one of class 4";
+    let place = "refused 6: out of its place: the one farm record is first; \
+        enteric, cattle and grazing need a milking, dry or heifer heading, pig a pig heading";
     let fractions = "refused 10: fraction: 99.99 and 0.02 make 100.01, and 100.00 are the most";
     for (line, words) in [
         ("grazing 3 1 600\n", "refused 4: grazing takes 4 values, and 3 are here; expected region, column, live weight, fraction"),

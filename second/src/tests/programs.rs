@@ -27,7 +27,7 @@ fn the_sample_is_typed_as_its_records_are() {
 fn bytes_behind_the_close_are_told_by_retype_alone() {
     let book = [sample(), vec![0]].concat();
     let told = retyped(&book);
-    assert_eq!((told.said.as_str(), told.right), ("bytes stand behind the close\n", false));
+    assert_eq!((told.said.as_str(), told.right), ("bytes stand after the close\n", false));
     assert!(listed(&book).right);
 }
 

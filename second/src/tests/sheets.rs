@@ -21,7 +21,7 @@ fn a_line_to_text_to_a_line() {
     let (bytes, words, right) = unsheeted(text.as_bytes());
     assert_eq!((bytes.len(), words.as_str(), right), (54 + 62, "2 lines\n", true));
     assert_eq!(sheeted(&bytes).0, text.into_bytes());
-    let none = "the bytes are no run of whole lines, as the herd desk gives them: a book is none\nrefused 23\n";
+    let none = "the bytes are no run of whole lines, as the herd desk gives them: for a book use bin/sheet\nrefused 23\n";
     assert_eq!(sheeted(&bytes[..53]).1, none);
     assert_eq!(sheeted(&[]), (HEADER.as_bytes().to_vec(), "0 lines\n".to_string(), true));
 }
@@ -66,8 +66,8 @@ fn numbers_outside_their_fields() {
 fn a_sentence_stands_before_a_refusal() {
     let form = "row 1: the first row has to be kind,group,ch4,n2o,co2,excreted,land,grazing,co2e\nrefused 20 row 1\n";
     assert_eq!(unsheeted(b"").1, form);
-    let field = "row 2: a number is outside its field: kind is 3 to 10 or 16, group up to 65535, \
-        a figure up to 18446744073709551615, co2 and co2e -9223372036854775808 to 9223372036854775807\n\
+    let field = "row 2: a number is outside its field: kind 3 to 10 or 16, group to 65535, \
+        a figure to 18446744073709551615, co2 and co2e -9223372036854775808 to 9223372036854775807\n\
         refused 21 row 2\n";
     assert_eq!(unsheeted(format!("{HEADER}3,65536,0,0,0,0,0,0,\r\n").as_bytes()).1, field);
 }
@@ -89,9 +89,8 @@ fn faults_of_the_first_row() {
     assert!(of_header(&names.replace(',', ";"))
         .starts_with("cells are separated by commas, and here are semicolons: "));
     assert!(of_header(&format!("{names}\n")).starts_with("the row ends in a line feed alone: "));
-    for other in
-        [names.to_string(), format!("{names}\r"), "kind\n;".to_string(), format!("{names} \n")]
-    {
+    assert!(of_header(names).starts_with("the last row has no line end: "));
+    for other in [format!("{names}\r"), "kind\n;".to_string(), format!("{names} \n")] {
         assert_eq!(of_header(&other), format!("the first row has to be {names}"));
     }
 }
@@ -128,6 +127,7 @@ fn faults_of_a_column() {
 fn faults_of_the_last_column() {
     let total = "expected a whole number without leading zeros, perhaps with a minus sign, then the end of the row";
     let nothing = "expected nothing before the end of the row: only a row of kind 8 has a co2e";
+    let no_end = "the last row has no line end: each row ends in CRLF, the last one too";
     for (row, cell, words) in [
         ("8,0,0,0,0,0,0,0,\r\n", "", total),
         ("8,0,0,0,0,0,0,0,-0\n", "-0", total),
@@ -135,6 +135,11 @@ fn faults_of_the_last_column() {
         ("3,0,0,0,0,0,0,0,5\r\n", "5", nothing),
         ("264,0,0,0,0,0,0,0,5\n", "5", nothing),
         ("3,0,0,0,0,0,0,0,\r", "", nothing),
+        ("3,0,0,0,0,0,0,0,", "", no_end),
+        ("3,0,0,0,0,0,0,0,5", "5", nothing),
+        ("8,0,0,0,0,0,0,0,-5", "-5", no_end),
+        ("8,0,0,0,0,0,0,0,", "", total),
+        ("8,0,0,0,0,0,0,0,-0", "-0", total),
     ] {
         assert_eq!(of_row(row), format!("co2e: \"{cell}\": {words}"), "{row:?}");
     }

@@ -45,13 +45,22 @@ fn whatever_comes_after_it_makes_it_early() {
         ("soil", "refused 4: soil takes 1 value, and 0 are here; expected area"),
         ("soil x", "not read: soil, area: \"x\" is no number; expected 0 to 100000.00 ha"),
         ("99", "refused 3: no such kind of record: kinds are 1 to 10"),
-        ("farm 7 2010 1", "refused 6: out of its place: a book begins with its one farm record; \
-            enteric, cattle and grazing stand under a heading of class 1 to 3, pig under one of class 4"),
-        ("close x", "not read: close, records before it: \"x\" is no whole number; expected 0 to 65535"),
+        (
+            "farm 7 2010 1",
+            "refused 6: out of its place: the one farm record is first; \
+            enteric, cattle and grazing need a milking, dry or heifer heading, pig a pig heading",
+        ),
+        (
+            "close x",
+            "not read: close, records before it: \"x\" is no whole number; expected 0 to 65535",
+        ),
         ("close", "close withheld: line 3 failed, and a book with a failed line is not closed"),
         ("close 1 2", "close withheld: line 3 failed, and a book with a failed line is not closed"),
     ] {
-        assert_eq!(remarks(&format!("close\n{line}\n")), early(3, 4) + &format!("line 4: {words}\n"));
+        assert_eq!(
+            remarks(&format!("close\n{line}\n")),
+            early(3, 4) + &format!("line 4: {words}\n")
+        );
     }
     let long = "line 4: not read: the line is too long: at most 1023 bytes before its #\n";
     assert_eq!(remarks(&format!("close\n{}\n", " ".repeat(1_024))), early(3, 4) + long);
@@ -124,8 +133,8 @@ fn a_book_with_a_failed_line_is_not_closed() {
 
 #[test]
 fn before_the_farm_record_a_close_is_refused() {
-    let six = "refused 6: out of its place: a book begins with its one farm record; \
-        enteric, cattle and grazing stand under a heading of class 1 to 3, pig under one of class 4\n";
+    let six = "refused 6: out of its place: the one farm record is first; \
+        enteric, cattle and grazing need a milking, dry or heifer heading, pig a pig heading\n";
     for close in ["close", "close 0", "close 5"] {
         assert_eq!(messages(&format!("{close}\n")), format!("line 1: {six}"));
     }

@@ -135,8 +135,8 @@ fn each_refusal_has_its_words() {
     let cattle = |shares: &str, gain: u64| format!("cattle 1 0 0 0 0 {gain} {shares}\n");
     let cases = [
         ("11 1\n".to_string(), "3: no such kind of record: kinds are 1 to 10"),
-        ("farm 7 2010 1\n".to_string(), "6: out of its place: a book begins with its one farm record; \
-             enteric, cattle and grazing stand under a heading of class 1 to 3, pig under one of class 4"),
+        ("farm 7 2010 1\n".to_string(), "6: out of its place: the one farm record is first; \
+             enteric, cattle and grazing need a milking, dry or heifer heading, pig a pig heading"),
         ("enteric 0 2 3\n".to_string(), "7 field 1: days: \"0\" is out of its range; expected 1 to 366"),
         ("enteric 367 2 3\n".to_string(), "7 field 1: days: \"367\" is out of its range; expected 1 to 366"),
         ("energy 9 2 3\n".to_string(), "7 field 1: source: \"9\" is out of its range; expected 1 to 8 (the documents give no names)"),

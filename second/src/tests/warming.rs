@@ -369,8 +369,8 @@ fn farm_records_in_a_damaged_book() {
         [no_version, short, farm_2(0, 1), kept.clone(), farm_1(1), farm_2(21, 310), rest].concat();
     let told = tell(&damaged);
     assert_eq!(told.book, book(kept));
-    let place = "out of its place: a book begins with its one farm record; \
-        enteric, cattle and grazing stand under a heading of class 1 to 3, pig under one of class 4";
+    let place = "out of its place: the one farm record is first; \
+        enteric, cattle and grazing need a milking, dry or heifer heading, pig a pig heading";
     let wanted = format!(
         "record 0: dropped 2: the version is not 1, nor 2 of a farm record
 record 1: dropped 4: a wrong length or count of values

@@ -159,8 +159,8 @@ fn sums_are_said_as_people_say_them() {
 /// The group is that of the heading before, for the kinds that stand under one.
 #[test]
 fn records_out_of_their_place() {
-    let six = "out of its place: a book begins with its one farm record; \
-        enteric, cattle and grazing stand under a heading of class 1 to 3, pig under one of class 4";
+    let six = "out of its place: the one farm record is first; \
+        enteric, cattle and grazing need a milking, dry or heifer heading, pig a pig heading";
     let enteric = record_of(3, &[1, 1, 1]);
     let alone = why(&[record_of(1, &[7, 2010, 1]), enteric.clone()].concat()).0;
     assert_eq!(alone, format!("refused 6 record 1 bytes 11 to 22\nrecord 1 (enteric): {six}\n"));

@@ -9,7 +9,8 @@ use borrow.Fn.Kinds.{In}
 use borrow.Fn.PlainCycle.{Measures, is, falls, and}
 use Rattle.printing.specs.Decimal.{decimal}
 use Rattle.printing.proofs.Sayings.{_⟫_}
-use Rattle.page.specs.Text.{thinSpace, lastThree, threesBy}
+use Rattle.printing.specs.Ascii.{thinSpace}
+use Rattle.page.specs.Text.{lastThree, threesBy}
 use Rattle.page.proofs.Texts.{threes-none, threes-small, threes-more}
 use Rattle.page.proofs.text.say_threes.Reads as say-threes
 use Rattle.page.proofs.text.say_threes.Kinds as say-threes-kinds

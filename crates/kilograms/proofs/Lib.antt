@@ -1,0 +1,4 @@
+mod Threes
+mod Tests
+pub mod Exact
+pub mod OneAnswer

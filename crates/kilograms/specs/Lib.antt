@@ -1,0 +1,3 @@
+pub mod Kilograms
+pub mod Lines
+pub mod Exact

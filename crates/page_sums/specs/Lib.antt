@@ -1,0 +1,5 @@
+pub mod Tables
+pub mod AddsUp
+pub mod InScale
+pub mod Headings
+pub mod Buffers
