@@ -177,7 +177,7 @@ numbersOf a =
     ++ (usedNumbers (a .used) ++ (subtotalNumbers (a .subtotal) ++ (listed (a .sums) ++ refusalNumbers (a .refusal)))))
 
 -- the account of the numbers v, of which those of one and of two bytes are cut; any cut, so that one list serves `accountOf`, for the contract of
--- account::numbers, and the proof of the way back, which cuts nothing
+-- account_numbers, and the proof of the way back, which cuts nothing
 abbrev pub accountBy : (ℕ → ℕ → ℕ) → List ℕ → Account
 accountBy cut v =
     record {

@@ -1,6 +1,5 @@
 // The account that a book's records have made so far. What a record does to it is said in specs/Judge and carried out by rules.
 pub mod line;
-pub mod numbers;
 mod range;
 pub mod sort;
 
@@ -81,7 +80,7 @@ pub struct Refusal {
     pub field: u8,
 }
 
-// A state but for its held bytes. Here, in src/numbers and in specs/Account alone it is written out field by field.
+// A state but for its held bytes. Here, in specs/Account and in account_numbers alone it is written out field by field.
 pub struct Account {
     pub stage: u8,
     pub records: u16,

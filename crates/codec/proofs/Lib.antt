@@ -2,7 +2,6 @@ pub mod BigEndian
 pub mod Stores
 pub mod Values
 pub mod Within
-mod AllIn
 pub mod Rows
 pub mod EachKind
 pub mod Round

@@ -1,5 +1,5 @@
 -- One answer of each public function, with the buffer at the end where one is lent (base, specs/Answers). Here of the numbers and of what records
--- and lines begin with; of a kind and of the size of a row below their own modules. All but bytes8 ask that the bytes lie inside the slice.
+-- and lines begin with; of the size of a row below its own module. All but bytes8 ask that the bytes lie inside the slice.
 -- Assumes nothing.
 use mathlib.Core.Path.{refl, sym, _∙_}
 use denote.Ref.{now}

@@ -1,5 +1,4 @@
 // The kinds by name, and the bytes of a record of each row: a kind, or after them the farm record of version 2.
-use crate::LAST_ROW;
 ghost use mathlib.Core.Path.{_≡_};
 ghost use Prim.Native.Nat.{_+_, _≤_};
 ghost use Rattle.codec.specs.Table.{lastRow, lengthOf};
@@ -25,8 +24,10 @@ pub const TILLAGE: u64 = 9;
 
 pub const GRAZING: u64 = 10;
 
-// The row of the farm record of version 2.
-pub const FARM_FACTORS: u64 = LAST_ROW;
+// The last of them, and after it the row of the farm record of version 2.
+pub const LAST: u64 = GRAZING;
+
+pub const FARM_FACTORS: u64 = LAST + 1;
 
 // How many bytes a record of the row has, the two of its length among them. Not from a table in the code: the reader asks for each record, and
 // a constant array would be stored anew each time; of a `match` the compiler makes a table. The proof holds it to specs/Table.

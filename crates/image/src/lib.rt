@@ -17,7 +17,7 @@ ghost use Rattle.image.specs.Image.{imageSize};
 ghost use Rattle.image.specs.Calls.{callOn, calledOf, answerCode, imageAfter, noImage, started};
 
 // The one length of an image: 27 held bytes, one of their count, and the account's numbers.
-pub const SIZE: usize = 28 + account::numbers::BYTES;
+pub const SIZE: usize = 28 + account_numbers::BYTES;
 
 // What a call hands back beside the image: the bytes taken and written, and the answer.
 pub struct Called {

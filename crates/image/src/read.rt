@@ -1,8 +1,8 @@
 // The state that an image tells.
 use crate::numbers::number;
-use account::numbers::NUMBERS;
-use account::numbers::account_of;
-use account::numbers::width;
+use account_numbers::NUMBERS;
+use account_numbers::account_of;
+use account_numbers::width;
 use book::State;
 ghost use mathlib.Core.Path.{_≡_};
 ghost use Prim.Native.Nat.{_+_, _≤_};

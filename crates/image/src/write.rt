@@ -1,17 +1,17 @@
 // The image of a state: a store for each number.
 use crate::numbers::put;
 use account::Account;
-use account::numbers::HEADING;
-use account::numbers::REFUSAL;
-use account::numbers::SUBTOTAL;
-use account::numbers::SUMS;
-use account::numbers::USED;
-use account::numbers::of_heading;
-use account::numbers::of_refusal;
-use account::numbers::of_start;
-use account::numbers::of_subtotal;
-use account::numbers::of_used;
-use account::numbers::width;
+use account_numbers::HEADING;
+use account_numbers::REFUSAL;
+use account_numbers::SUBTOTAL;
+use account_numbers::SUMS;
+use account_numbers::USED;
+use account_numbers::of_heading;
+use account_numbers::of_refusal;
+use account_numbers::of_start;
+use account_numbers::of_subtotal;
+use account_numbers::of_used;
+use account_numbers::width;
 use book::State;
 ghost use mathlib.Core.Path.{_≡_};
 ghost use mathlib.Core.List.{[], _∷_};

@@ -10,7 +10,8 @@ use Rattle.book.specs.Run.{run, Outcome}
 use Rattle.book.specs.Way.{Part, way, Ended}
 use Rattle.promises.proofs.RuleThree.{way-is-run}
 use Rattle.promises.proofs.StaysInRange.{new-in-range}
-use Rattle.lister.specs.Listing.{endText, textOf, listingFrom, listingOf, printed}
+use Rattle.last_word.specs.LastWord.{endText}
+use Rattle.lister.specs.Listing.{textOf, listingFrom, listingOf, printed}
 use Rattle.in_parts.proofs.Rows.{rows-in-parts}
 
 -- A series of calls from a state in range that is at its end prints what is printed for the uncut run.

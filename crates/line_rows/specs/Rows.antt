@@ -83,4 +83,4 @@ abbrev pub sheetForm : List ℕ
 sheetForm =
     ascii "first the row "
     ++ (columnNames
-    ++ ascii ", then rows of nine columns, digits without leading zeros, the last empty but on kind 8; CRLF behind each")
+    ++ ascii ", then rows of nine columns, no leading zeros, the last empty but on kind 8; CRLF after each")

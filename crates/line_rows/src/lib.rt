@@ -155,7 +155,7 @@ pub fn say_form(out: &mut [u8], at: usize) -> usize
     say(
         out,
         names,
-        b", then rows of nine columns, digits without leading zeros, the last empty but on kind 8; CRLF behind each",
+        b", then rows of nine columns, no leading zeros, the last empty but on kind 8; CRLF after each",
     )
 }
 

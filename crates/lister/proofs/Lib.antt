@@ -1,4 +1,3 @@
 pub mod Lines
-pub mod Telling
 pub mod Hinted
 pub mod OneAnswer

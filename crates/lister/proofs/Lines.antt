@@ -1,9 +1,9 @@
--- Laws of what is printed: the last word, the lines' room, and one call over a part.
+-- Laws of what is printed: the lines' room, what stands before the rows, and one call over a part.
 use Prim.Native.Nat.{ℕ, _*_, _≤_, _<_}
 use mathlib.Core.Path.{_≡_, ap, subst}
-use mathlib.Core.List.{List, [], _∷_, _++_}
+use mathlib.Core.List.{List, []}
 use native.Mathlib.Omega.{arith}
-use borrow.Author.Tests.{ltb-true, ltb-false, le-leb, lt-leb, eq-eqb, ne-eqb}
+use borrow.Author.Tests.{ltb-true, ltb-false, le-leb, lt-leb}
 use lib.ListN.{length, take, drop}
 use lib.Seq.{take-append-seam}
 use lib.Dec.{ltb}
@@ -11,29 +11,12 @@ use Rattle.base.proofs.Tests.{of-choice}
 use Rattle.line_rows.specs.declared.Form.{Form}
 use Rattle.line_rows.specs.declared.Form.the-variants.{Listing, Sheet}
 use Rattle.line_rows.specs.Rows.{rowMost, rowsText, header}
-use Rattle.account.specs.declared.Account.{Account}
 use Rattle.book.specs.declared.State.{State}
 use Rattle.book.specs.declared.Fed.{Fed}
 use Rattle.book.specs.Call.{call, fedOf, linesLaid}
-use Rattle.printing.specs.Decimal.{numbersLine, Put}
+use Rattle.printing.specs.Decimal.{Put}
 use Rattle.lister.specs.declared.Listed.{Listed}
-use Rattle.lister.specs.Listing.{closedWord, unfinishedWord, refusedWord, endText, lineRoom, headText, Lists}
-
--- ---- the last word
-
-module _ (a : Account) where
-  pub end-closed : a .stage ≡ 2 → endText a ≡ closedWord
-  unfolding endText
-  end-closed e = rw (eq-eqb _ _ e)
-
-  module _ (other : a .stage ≡ 2 → ⊥) where
-    pub end-unfinished : (a .stage ≡ 3 → ⊥) → endText a ≡ unfinishedWord
-    unfolding endText
-    end-unfinished n = rw (ne-eqb _ _ other, ne-eqb _ _ n)
-
-    pub end-refused : a .stage ≡ 3 → endText a ≡ refusedWord ++ numbersLine (a .refusal .code ∷ a .refusal .accepted ∷ a .refusal .field ∷ [])
-    unfolding endText
-    end-refused e = rw (ne-eqb _ _ other, eq-eqb _ _ e)
+use Rattle.lister.specs.Listing.{lineRoom, headText, Lists}
 
 -- ---- the lines' room
 

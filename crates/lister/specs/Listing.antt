@@ -4,16 +4,14 @@
 use Prim.Native.Nat.{ℕ, _/_}
 use mathlib.Core.Path.{_≡_}
 use mathlib.Core.List.{List, [], _∷_, _++_}
-use mathlib.Core.Bool.{Bool, _&&_}
 use lib.ListN.{take, drop}
-use lib.Dec.{ltb, leb, eqb}
+use lib.Dec.{ltb, leb}
 use Rattle.base.specs.Choice.{pick}
 use Rattle.line_rows.specs.declared.Form.{Form}
 use Rattle.line_rows.specs.declared.Form.the-variants.{Listing}
 use Rattle.line_rows.specs.Rows.{lineRow, rowMost, rowsText, header}
-use Rattle.printing.specs.Ascii.{ascii}
-use Rattle.printing.specs.Decimal.{numbersLine, Put}
-use Rattle.account.specs.declared.Account.{Account}
+use Rattle.printing.specs.Decimal.{Put}
+use Rattle.last_word.specs.LastWord.{endText}
 use Rattle.book.specs.declared.State.{State}
 use Rattle.book.specs.State.{noRecordYet}
 use Rattle.book.specs.Run.{run}
@@ -24,23 +22,6 @@ use Rattle.lister.specs.declared.Listed.{Listed}
 -- a text line per line record, as the lister prints them
 abbrev pub linesText : List ℕ → List ℕ
 linesText xs = rowsText Listing xs
-
--- the words of the last line
-abbrev pub closedWord : List ℕ
-closedWord = ascii "closed\n"
-
-abbrev pub unfinishedWord : List ℕ
-unfinishedWord = ascii "unfinished\n"
-
-abbrev pub refusedWord : List ℕ
-refusedWord = ascii "refused "
-
--- the last word, by the stage of the account reached
-unfoldable pub endText : Account → List ℕ
-endText a =
-    pick (eqb (a .stage) 2) closedWord
-    (pick (eqb (a .stage) 3) (refusedWord ++ numbersLine (a .refusal .code ∷ a .refusal .accepted ∷ a .refusal .field ∷ []))
-    unfinishedWord)
 
 -- ---- a whole book
 
@@ -77,14 +58,6 @@ lineRoom n = pick (ltb n 65536) (n / 4) 16384
 -- what stands before the rows, where the buffer has room for a row
 abbrev pub headText : Form → ℕ → List ℕ
 headText form room = pick (leb rowMost room) (header form) []
-
--- more of the input is wanted while the book is open
-abbrev pub goesOn : Account → Bool
-goesOn a = ltb (a .stage) 2
-
--- the last word, where everything was read and written and the buffer has room for any
-abbrev pub lastText : Account → Bool → Bool → ℕ → List ℕ
-lastText a read written room = pick ((read && written) && leb 72 room) (endText a) []
 
 -- r is what a call gives, with the rows of its lines at the front of the buffer
 pub record Lists (form : Form) (c : Call) (out out′ : List ℕ) (r : Listed) : Type 0 where

@@ -2,5 +2,5 @@
 use line_rows::Form;
 
 fn main() {
-    pump::run(Form::Listing);
+    lister::pump::run(Form::Listing);
 }

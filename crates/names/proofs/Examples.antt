@@ -23,8 +23,6 @@ use Rattle.names.specs.Names.{
   decimalsTable,
   valueText,
   className,
-  sentenceTable,
-  sentence,
   allPrinted,
   shown,
 }
@@ -71,16 +69,6 @@ values-shown : (valueText 3 1 34050 ≡ ascii "340.50") × (valueText 2 1 3 ≡ 
     × (unitText 3 1 ≡ ascii " MJ") × (unitText 5 5 ≡ ascii " per cent") × (unitText 5 6 ≡ [])
 unfolding pointed withoutLast lastDigits decimal digitsBy decimalsTable unitTable choiceTable nthPart nthWord leadingOf indexOf indexAfter
 values-shown = (refl, refl, refl, refl, refl, refl)
-
-numbers-told : (sentence 0 ≡ ascii "closed") × (sentence 8 ≡ ascii "the group number must be above that of the heading before")
-    × (sentence 2 ≡ ascii "the version is not 1, nor 2 of a farm record")
-    × (sentence 22 ≡ ascii "the book is closed already")
-    × (sentence 19 ≡ ascii "no such number")
-    × (sentence 23 ≡ ascii "the bytes are no run of whole lines, as the herd desk gives them: a book is none")
-    × (sentence 24 ≡ ascii "no such number")
-    × (sentence 1000 ≡ ascii "no such number")
-unfolding sentence sentenceTable nthPart indexOf indexAfter
-numbers-told = (refl, refl, refl, refl, refl, refl, refl, refl)
 
 -- the word of bytes 51, 7 and 200
 word-shown : shown (51 ∷ 7 ∷ 200 ∷ []) ≡ ascii "3??"

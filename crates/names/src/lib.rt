@@ -395,8 +395,8 @@ the version is not 1, nor 2 of a farm record
 no such kind of record: kinds are 1 to 10
 a wrong length or count of values
 the book has 4096 records, and no more go in
-out of its place: a book begins with its one farm record; enteric, cattle and grazing stand under a heading of class 1 to 3, \
-pig under one of class 4
+out of its place: the one farm record is first; enteric, cattle and grazing need a milking, dry or heifer heading, \
+pig a pig heading
 a value is out of its range
 the group number must be above that of the heading before
 more than 366 days of this kind under the heading
@@ -409,13 +409,13 @@ a number of the ration or the change is out of its range
 the changed value is out of its range
 no room
 the bytes end before the close
-bytes stand behind the close
+bytes stand after the close
 no such number
-not of a sheet's form
-a number is outside its field: kind is 3 to 10 or 16, group up to 65535, \
-a figure up to 18446744073709551615, co2 and co2e -9223372036854775808 to 9223372036854775807
+not a sheet
+a number is outside its field: kind 3 to 10 or 16, group to 65535, \
+a figure to 18446744073709551615, co2 and co2e -9223372036854775808 to 9223372036854775807
 the book is closed already
-the bytes are no run of whole lines, as the herd desk gives them: a book is none
+the bytes are no run of whole lines, as the herd desk gives them: for a book use bin/sheet
 no such number",
         24,
         code,

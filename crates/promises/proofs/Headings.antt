@@ -1,4 +1,4 @@
--- Headings: every line of kinds 3, 4 and 5 bears the group of the last heading record before it; the state's, where held bytes and run
+-- Headings: every line of a detail of the group bears the group of the last heading record before it; the state's, where held bytes and run
 -- complete none before it.
 -- Assumes nothing.
 use Prim.Native.Nat.{ℕ, zero, suc, _+_, _-_, _*_, _/_, _%_, _≤_, _<_}

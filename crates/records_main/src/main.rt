@@ -89,14 +89,14 @@ fn look_at(book: &[u8], read: bool) -> Given {
 // What is remarked to a person: a refusal's sentence, or a hint where the input is no book but a typed text, a sheet or nothing.
 fn remark(w: Work, given: Given) {
     let mut text = [0u8; 256];
-    let n = lister::say_remark(&mut text, w.account, given);
+    let n = last_word::say_remark(&mut text, w.account, given);
     report(&text[..n]);
 }
 
 // The last word. Where a read or a write failed there is none: the book was not seen whole, or its rows were not.
 fn end(w: Work, input: Input) {
     let mut text = [0u8; 96];
-    let n = lister::put_last(&mut text, w.account, input.good, w.written);
+    let n = last_word::put_last(&mut text, w.account, input.good, w.written);
     report(&text[..n]);
 }
 
@@ -108,7 +108,7 @@ fn answer(book: &[u8], input: Input)
     let last = run(start, book, &mut text);
     remark(last, look_at(book, input.good));
     end(last, input);
-    program::tell_status(lister::status(last.account, input.good, last.written));
+    program::tell_status(last_word::status(last.account, input.good, last.written));
 }
 
 fn main() {

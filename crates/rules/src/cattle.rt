@@ -37,7 +37,7 @@ pub fn weigh(a: Account, v: [u64; 9], room: usize) -> Judged
     ensures { λ j. ⌜ TellsIn room a (weigh a 4 v) j ⌝ }
 {
     let h = a.heading;
-    let bad = codec::cattle::first_bad(v);
+    let bad = values::cattle::first_bad(v);
     let placed = cattle_placed(h.class);
     // by itself: else the compiler carries the position through the test of every record
     if bad != 0 {

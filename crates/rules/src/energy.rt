@@ -16,7 +16,7 @@ pub fn weigh(a: Account, v: [u64; 3], room: usize) -> Judged
     requires { ⌜ AccountInRange a × (a .stage < 2) ⌝ }
     ensures { λ j. ⌜ TellsIn room a (weigh a 6 v) j ⌝ }
 {
-    let bad = codec::energy::first_bad(v);
+    let bad = values::energy::first_bad(v);
     let code = barred(a.records, begun(a.records), bad);
     if code != 0 {
         return stopped(a, code, bad);

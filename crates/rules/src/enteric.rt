@@ -18,7 +18,7 @@ pub fn weigh(a: Account, v: [u64; 3], room: usize) -> Judged
     ensures { λ j. ⌜ TellsIn room a (weigh a 3 v) j ⌝ }
 {
     let h = a.heading;
-    let bad = codec::enteric::first_bad(v);
+    let bad = values::enteric::first_bad(v);
     let code = barred(a.records, cattle_placed(h.class), bad);
     if code != 0 {
         return stopped(a, code, bad);

@@ -16,7 +16,7 @@ pub fn weigh(a: Account, v: [u64; 3], room: usize) -> Judged
     requires { ⌜ AccountInRange a × (a .stage < 2) ⌝ }
     ensures { λ j. ⌜ TellsIn room a (weigh a 1 v) j ⌝ }
 {
-    let bad = codec::farm::first_bad(v);
+    let bad = values::farm::first_bad(v);
     let code = barred(a.records, a.records == 0, bad);
     if code != 0 {
         return stopped(a, code, bad);
@@ -36,7 +36,7 @@ pub fn weigh_factors(a: Account, v: [u64; 4], room: usize) -> Judged
     requires { ⌜ AccountInRange a × (a .stage < 2) ⌝ }
     ensures { λ j. ⌜ TellsIn room a (weigh a lastRow v) j ⌝ }
 {
-    let bad = codec::farm_factors::first_bad(v);
+    let bad = values::farm_factors::first_bad(v);
     let code = barred(a.records, a.records == 0, bad);
     if code != 0 {
         return stopped(a, code, bad);

@@ -18,7 +18,7 @@ pub fn weigh(a: Account, v: [u64; 4], room: usize) -> Judged
     ensures { λ j. ⌜ TellsIn room a (weigh a 10 v) j ⌝ }
 {
     let h = a.heading;
-    let bad = codec::grazing::first_bad(v);
+    let bad = values::grazing::first_bad(v);
     let code = barred(a.records, cattle_placed(h.class), bad);
     if code != 0 {
         return stopped(a, code, bad);

@@ -44,7 +44,7 @@ pub fn weigh(a: Account, v: [u64; 3], room: usize) -> Judged
     requires { ⌜ AccountInRange a × (a .stage < 2) ⌝ }
     ensures { λ j. ⌜ TellsIn room a (weigh a 2 v) j ⌝ }
 {
-    let bad = codec::heading::first_bad(v);
+    let bad = values::heading::first_bad(v);
     let code = barred(a.records, begun(a.records), bad);
     if code != 0 {
         return stopped(a, code, bad);

@@ -45,16 +45,16 @@ fn by_kind(a: Account, row: u64, r: &[u8], room: usize) -> Judged
     ensures { λ j. ⌜ TellsIn room a (judge a (now (r .entry))) j ⌝ }
 {
     match row {
-        FARM => farm::weigh(a, codec::farm::read(r, 4), room),
-        HEADING => heading::weigh(a, codec::heading::read(r, 4), room),
-        ENTERIC => enteric::weigh(a, codec::enteric::read(r, 4), room),
-        CATTLE => cattle::weigh(a, codec::cattle::read(r, 4), room),
-        PIG => pig::weigh(a, codec::pig::read(r, 4), room),
-        ENERGY => energy::weigh(a, codec::energy::read(r, 4), room),
-        SOIL => soil::weigh(a, codec::soil::read(r, 4), room),
-        CLOSE => close::weigh(a, codec::close::read(r, 4), room),
-        TILLAGE => tillage::weigh(a, codec::tillage::read(r, 4), room),
-        GRAZING => grazing::weigh(a, codec::grazing::read(r, 4), room),
+        FARM => farm::weigh(a, values::farm::read(r, 4), room),
+        HEADING => heading::weigh(a, values::heading::read(r, 4), room),
+        ENTERIC => enteric::weigh(a, values::enteric::read(r, 4), room),
+        CATTLE => cattle::weigh(a, values::cattle::read(r, 4), room),
+        PIG => pig::weigh(a, values::pig::read(r, 4), room),
+        ENERGY => energy::weigh(a, values::energy::read(r, 4), room),
+        SOIL => soil::weigh(a, values::soil::read(r, 4), room),
+        CLOSE => close::weigh(a, values::close::read(r, 4), room),
+        TILLAGE => tillage::weigh(a, values::tillage::read(r, 4), room),
+        GRAZING => grazing::weigh(a, values::grazing::read(r, 4), room),
         _ => wrong(a, 3, 0),
     }
 }
@@ -72,7 +72,7 @@ fn by_version(a: Account, r: &[u8], room: usize) -> Judged
     if r.len() != bytes_of(FARM_FACTORS) {
         return wrong(a, 4, 0);
     }
-    farm::weigh_factors(a, codec::farm_factors::read(r, 4), room)
+    farm::weigh_factors(a, values::farm_factors::read(r, 4), room)
 }
 
 // What the whole record r does: its version, its kind and its length are looked at here, its values in the kind's file.

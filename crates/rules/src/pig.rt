@@ -48,7 +48,7 @@ pub fn weigh(a: Account, v: [u64; 12], room: usize) -> Judged
     ensures { λ j. ⌜ TellsIn room a (weigh a 5 v) j ⌝ }
 {
     let h = a.heading;
-    let bad = codec::pig::first_bad(v);
+    let bad = values::pig::first_bad(v);
     let code = barred(a.records, pig_placed(h.class), bad);
     if code != 0 {
         return stopped(a, code, bad);

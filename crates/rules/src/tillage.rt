@@ -16,7 +16,7 @@ pub fn weigh(a: Account, v: [u64; 5], room: usize) -> Judged
     requires { ⌜ AccountInRange a × (a .stage < 2) ⌝ }
     ensures { λ j. ⌜ TellsIn room a (weigh a 9 v) j ⌝ }
 {
-    let bad = codec::tillage::first_bad(v);
+    let bad = values::tillage::first_bad(v);
     let code = barred(a.records, begun(a.records), bad);
     if code != 0 {
         return stopped(a, code, bad);

@@ -8,12 +8,12 @@ use mathlib.Core.Logic.{⊎-elim}
 use native.Mathlib.Omega.{arith}
 use native.Mathlib.Nat.{add-zero}
 use native.Mathlib.Numerals.{add-one}
-use borrow.Author.Tests.{eq-eqb, ne-eqb}
+use borrow.Author.Tests.{eq-eqb, ne-eqb, eqb-true}
 use lib.Dec.{eqb}
-use lib.ListN.{length, getD, take, drop, drop-of-length-le, length-take}
+use lib.ListN.{length, getD, take, drop, drop-of-length-le, length-take, length-drop}
 use lib.Seq.{drop-cons, getD-drop, take-all, take-take}
 use Rattle.base.specs.Choice.{pick}
-use Rattle.base.proofs.Tests.{lt-or-ge}
+use Rattle.base.proofs.Tests.{lt-or-ge, same-test}
 use Rattle.line_rows.specs.declared.Form.the-variants.{Sheet}
 use Rattle.line_rows.specs.Rows.{columnNames, header}
 use Rattle.printing.specs.Decimal.{Put}
@@ -97,6 +97,18 @@ feed-same {text} {m} {k} {b} o e =
     let there : getD (m .rest) 0 0 ≡ b =
     ap (λ (s : List ℕ). getD s 0 0) (sym (o .rest)) ∙ getD-drop (k .end) text 0 0 ∙ ap (λ (i : ℕ). getD text i 0) (add-zero (k .end)) ∙ sym e in
     rw (o .good, there) refl
+
+-- ---- no line end after what is right
+
+pub end-same : {text : List ℕ} {m : Cell} {k : Read} → IsRead text m k
+    → (k .good && eqb (k .end) (length text)) ≡ (m .good && eqb (length (m .rest)) 0)
+end-same {text} {m} {k} o =
+    let l : length (m .rest) ≡ length text - k .end = ap length (sym (o .rest)) ∙ length-drop (k .end) text in
+    let e : eqb (k .end) (length text) ≡ eqb (length (m .rest)) 0 =
+    same-test (eqb (k .end) (length text)) (eqb (length (m .rest)) 0)
+    (λ t. let z = eqb-true (k .end) (length text) t in eq-eqb (length (m .rest)) 0 (omega (arith, l, z)))
+    (λ t. let z = eqb-true (length (m .rest)) 0 t in let i = o .inside in eq-eqb (k .end) (length text) (omega (arith, l, z, i))) in
+    rw (o .good, e) refl
 
 -- ---- the column that differs first
 

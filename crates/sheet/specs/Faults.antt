@@ -12,7 +12,7 @@ use Rattle.printing.specs.Decimal.{decimal}
 use Rattle.names.specs.Names.{shown}
 use Rattle.sheet.specs.declared.rows.Column.{Column}
 use Rattle.sheet.specs.declared.faults.Fault.{Fault}
-use Rattle.sheet.specs.declared.faults.Fault.the-variants.{Mark, Quotes, Semicolons, FeedAlone, Header, Number, Total, NoTotal}
+use Rattle.sheet.specs.declared.faults.Fault.the-variants.{Mark, Quotes, Semicolons, FeedAlone, NoEnd, Header, Number, Total, NoTotal}
 use Rattle.sheet.specs.Numbers.{first}
 use Rattle.sheet.specs.Rows.{empty, columns, columnCount, startsWith, readCell, readColumn, kindIn}
 
@@ -42,17 +42,21 @@ has b (x ∷ s) = eqb x b || has b s
 
 -- ---- what is wrong
 
--- of the first row, with which s begins: a byte order mark, quotes, semicolons, the right names with a line feed alone; else it is no header
+-- of the first row, with which s begins: a byte order mark, quotes, semicolons, the right names with a line feed alone or with no line end; else it
+-- is no header
 unfoldable pub firstFault : List ℕ → Fault
 firstFault s =
     pick (startsWith (239 ∷ 187 ∷ 191 ∷ []) s) Mark
     (pick (has 34 (partAt false s)) Quotes
     (pick (has 59 (partAt false s)) Semicolons
-    (pick (startsWith columnNames s && eqb (getD s (length columnNames) 0) 10) FeedAlone Header)))
+    (pick (startsWith columnNames s && eqb (getD s (length columnNames) 0) 10) FeedAlone
+    (pick (startsWith columnNames s && eqb (length s) (length columnNames)) NoEnd Header))))
 
--- of a cell of the last column, with which s begins: a line feed alone after what is right; else it is empty, or a number
+-- of a cell of the last column, with which s begins: a line feed alone after what is right, or no line end; else it is empty, or a number
 unfoldable pub lastFault : Column → List ℕ → Fault
-lastFault c s = pick (readCell c s .good && eqb (first (readCell c s .rest)) 10) FeedAlone (pick (eqb (c .width) 0) NoTotal Total)
+lastFault c s =
+    pick (readCell c s .good && eqb (first (readCell c s .rest)) 10) FeedAlone
+    (pick (readCell c s .good && eqb (length (readCell c s .rest)) 0) NoEnd (pick (eqb (c .width) 0) NoTotal Total))
 
 -- of a cell of the column c, with which s begins: quotes, semicolons; else by the column
 unfoldable pub cellFault : Column → List ℕ → Fault
@@ -67,6 +71,7 @@ words Mark = ascii "a byte order mark stands before the sheet: save it as CSV wi
 words Quotes = ascii "cells have no quotes, and here are some: save it as CSV without quotes"
 words Semicolons = ascii "cells are separated by commas, and here are semicolons: save it as CSV with commas"
 words FeedAlone = ascii "the row ends in a line feed alone: save it as CSV with CRLF, the line ends of Windows"
+words NoEnd = ascii "the last row has no line end: each row ends in CRLF, the last one too"
 words Header = ascii "the first row has to be " ++ columnNames
 words Number = ascii "expected a whole number without leading zeros (co2 may have a minus sign), then a comma"
 words Total = ascii "expected a whole number without leading zeros, perhaps with a minus sign, then the end of the row"

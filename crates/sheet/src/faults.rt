@@ -35,6 +35,7 @@ pub enum Fault {
     Quotes,
     Semicolons,
     FeedAlone,
+    NoEnd,
     Header,
     Number,
     Total,
@@ -125,8 +126,12 @@ fn first_fault(text: &[u8]) -> Fault
     }
     let mut head = [0u8; ROW_MOST];
     let n = put_header(&mut head, 0, Form::Sheet) - 2;
-    if starts(text, 0, first_of(&head, n)) & (byte(text, n) == b'\n') {
+    let named = starts(text, 0, first_of(&head, n));
+    if named & (byte(text, n) == b'\n') {
         return Fault::FeedAlone;
+    }
+    if named & (text.len() == n) {
+        return Fault::NoEnd;
     }
     Fault::Header
 }
@@ -139,6 +144,9 @@ fn last_fault(text: &[u8], c: Column) -> Fault
     let k = read_cell(text, 0, c);
     if k.good & (byte(text, k.end) == b'\n') {
         return Fault::FeedAlone;
+    }
+    if k.good & (k.end == text.len()) {
+        return Fault::NoEnd;
     }
     if c.width == 0 {
         return Fault::NoTotal;
@@ -226,6 +234,11 @@ fn say_words(out: &mut [u8], at: usize, fault: Fault) -> usize
             out,
             at,
             b"the row ends in a line feed alone: save it as CSV with CRLF, the line ends of Windows",
+        ),
+        Fault::NoEnd => say(
+            out,
+            at,
+            b"the last row has no line end: each row ends in CRLF, the last one too",
         ),
         Fault::Header => say_header(out, at),
         Fault::Number => say(

@@ -2,5 +2,5 @@
 use line_rows::Form;
 
 fn main() {
-    pump::run(Form::Sheet);
+    lister::pump::run(Form::Sheet);
 }

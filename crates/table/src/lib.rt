@@ -56,7 +56,7 @@ fn farm_values(book: &[u8]) -> [u64; 3]
     if book.len() < FARM_BYTES {
         return [0u64; 3];
     }
-    codec::farm::read(book, 4)
+    values::farm::read(book, 4)
 }
 
 // The numbers of an account's total line.

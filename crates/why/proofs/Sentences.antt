@@ -10,7 +10,7 @@ use Rattle.typed_words.specs.Words.{nthPart}
 use Rattle.printing.specs.Ascii.{ascii}
 use Rattle.printing.specs.Decimal.{digitsBy, decimal, lastDigits, withoutLast, pointed}
 use Rattle.account.specs.Sorts.{sortOf}
-use Rattle.names.specs.Names.{kindTable, fieldTable, decimalsTable, decimalsAt, unitTable, unitText}
+use Rattle.names.specs.Names.{kindTable, fieldTable, decimalsTable, decimalsAt, unitTable, unitText, sentenceTable, sentence}
 use Rattle.why.specs.declared.Reason.{Reason}
 use Rattle.why.specs.Remarks.{whereText, subjectTable, comparedText, reasonText, lackText, closedText}
 
@@ -89,3 +89,14 @@ units12 (suc n) = unitText n 12 ++ units12 n
 whole-numbers : (decimals12 13 ≡ replicate 13 0) × (units12 13 ≡ [])
 unfolding decimals12 units12 decimalsTable unitTable nthPart indexOf indexAfter
 whole-numbers = (refl, refl)
+
+-- the sentences of the numbers stand where the numbers say
+numbers-told : (sentence 0 ≡ ascii "closed") × (sentence 8 ≡ ascii "the group number must be above that of the heading before")
+    × (sentence 2 ≡ ascii "the version is not 1, nor 2 of a farm record")
+    × (sentence 22 ≡ ascii "the book is closed already")
+    × (sentence 19 ≡ ascii "no such number")
+    × (sentence 23 ≡ ascii "the bytes are no run of whole lines, as the herd desk gives them: for a book use bin/sheet")
+    × (sentence 24 ≡ ascii "no such number")
+    × (sentence 1000 ≡ ascii "no such number")
+unfolding sentence sentenceTable nthPart indexOf indexAfter
+numbers-told = (refl, refl, refl, refl, refl, refl, refl, refl)

@@ -42,6 +42,19 @@ feed c =
     both-same (rw (f .first-of2 .ensures ∙ names-at p) at (c .before .starts2 .ensures))
     (c .byte .ensures ∙ ap (λ (k : ℕ). getD text k 0) n)
 
+-- the right names, and no more
+stop : (c : tie.After-byte)
+    → let f = c .before .before in
+    let s = c .before .before .before .before .before .before .before in
+    let text = s .before .before .before .before .before .before .before .before .before .before .args .text .now in
+    (c .before .starts2 .result && eqb (length text) (f .before .before .before .put-header .result - 2))
+    ≡ (startsWith columnNames text && eqb (length text) (length columnNames))
+stop c =
+    let f = c .before .before in
+    let p = f .before .before .before .put-header .ensures in
+    let n : f .before .before .before .put-header .result - 2 ≡ length columnNames = omega (arith, names-end p) in
+    rw (rw (f .first-of2 .ensures ∙ names-at p) at (c .before .starts2 .ensures), n) refl
+
 pub first-fault-spec : {M : Type 1} → statement M
 unfolding firstFault
 first-fault-spec =
@@ -79,12 +92,26 @@ first-fault-spec =
       sym (feed (c .before)) ∙ c .if4 .taken,
     ) refl)
     (λ c.
-    let s = c .before .before .before .before .before .before .before .before in
+    let b = c .before .before in
+    let s = b .before .before .before .before .before .before .before in
     let q = s .before .before in
     let m = q .before .before .before .before in
     rw (
       sym (m .before .starts .ensures) ∙ m .if1 .left,
       sym (quotes (q .before)) ∙ q .if2 .left,
       sym (semicolons (s .before)) ∙ s .if3 .left,
-      sym (feed (c .before)) ∙ c .if4 .left,
+      sym (feed b) ∙ c .before .if4 .left,
+      sym (stop b) ∙ c .if5 .taken,
+    ) refl)
+    (λ c.
+    let b = c .before .before in
+    let s = b .before .before .before .before .before .before .before in
+    let q = s .before .before in
+    let m = q .before .before .before .before in
+    rw (
+      sym (m .before .starts .ensures) ∙ m .if1 .left,
+      sym (quotes (q .before)) ∙ q .if2 .left,
+      sym (semicolons (s .before)) ∙ s .if3 .left,
+      sym (feed b) ∙ c .before .if4 .left,
+      sym (stop b) ∙ c .if5 .left,
     ) refl))

@@ -3,7 +3,7 @@ use mathlib.Core.Path.{refl, sym, _∙_}
 use native.Mathlib.Omega.{arith}
 use borrow.Author.Tests.{eq-eqb, ne-eqb}
 use Rattle.sheet.specs.Faults.{lastFault}
-use Rattle.sheet.proofs.Places.{feed-same}
+use Rattle.sheet.proofs.Places.{feed-same, end-same}
 use Rattle.sheet.proofs.faults.last_fault.Statement.{statement}
 use Rattle.sheet.proofs.faults.last_fault.Tie as tie
 
@@ -16,8 +16,24 @@ last-fault-spec =
     (λ c κs. tt)
     (λ c. rw (sym (feed-same (c .before .before .before .read-cell .ensures) (c .before .before .byte .ensures)) ∙ c .if1 .taken) refl)
     (λ c.
-    let b = c .before .before .before .before in
-    rw (sym (feed-same (b .before .read-cell .ensures) (b .byte .ensures)) ∙ c .before .before .if1 .left, eq-eqb _ 0 (c .if2 .taken)) refl)
+    let e = c .before .before .before in
+    rw (
+      sym (feed-same (e .before .before .before .read-cell .ensures) (e .before .before .byte .ensures)) ∙ e .if1 .left,
+      sym (end-same (e .before .before .before .read-cell .ensures)) ∙ c .if2 .taken,
+    ) refl)
     (λ c.
-    let b = c .before .before .before .before in
-    rw (sym (feed-same (b .before .read-cell .ensures) (b .byte .ensures)) ∙ c .before .before .if1 .left, ne-eqb _ 0 (c .if2 .left)) refl))
+    let f = c .before .before in
+    let e = f .before .before .before in
+    rw (
+      sym (feed-same (e .before .before .before .read-cell .ensures) (e .before .before .byte .ensures)) ∙ e .if1 .left,
+      sym (end-same (e .before .before .before .read-cell .ensures)) ∙ f .if2 .left,
+      eq-eqb _ 0 (c .if3 .taken),
+    ) refl)
+    (λ c.
+    let f = c .before .before in
+    let e = f .before .before .before in
+    rw (
+      sym (feed-same (e .before .before .before .read-cell .ensures) (e .before .before .byte .ensures)) ∙ e .if1 .left,
+      sym (end-same (e .before .before .before .read-cell .ensures)) ∙ f .if2 .left,
+      ne-eqb _ 0 (c .if3 .left),
+    ) refl))

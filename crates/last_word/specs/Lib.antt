@@ -1,0 +1,2 @@
+pub mod LastWord
+pub mod Remarks
