@@ -6,11 +6,14 @@ import { check, checkView, drawCheck } from "./check.js";
 import { compareView, dropOnCompare } from "./compareview.js";
 import { savedLines } from "./draft.js";
 import { chosenFiles, encodedLines, linesFrom, readFiles } from "./files.js";
+import { printFigures } from "./figures.js";
 import { fillTable, fileName, table, titleOf } from "./judge.js";
 import { claim, fetchKept, openStore } from "./kept.js";
+import { lookAt } from "./list.js";
 import { replaceDraft } from "./opening.js";
 import { addBooks, drawPage, pageView } from "./pageview.js";
 import { prepared } from "./proved.js";
+import { offerSend } from "./send.js";
 import { draw, now, onDraw } from "./state.js";
 import { estimate, startWhatif, whatifView } from "./whatif.js";
 
@@ -52,21 +55,33 @@ function dropped(event) {
 }
 
 function stateWords() {
-    const { rows, closed } = now.read;
-    return `${rows.length} records, ${closed ? "closed" : "not closed"}, ${now.saved ? "saved on this device" : "not saved"}`;
+    const { count, closed } = now.read;
+    return `${count} records, ${closed ? "closed" : "not closed"}, ${now.saved ? "saved on this device" : "not saved"}`;
+}
+
+let offered = null; // the draft whose book and text the links save
+
+// The files that the links save: made when the change is shown, or when a link is pressed before that.
+function offerFiles() {
+    const { draft, read: { rows, book } } = now;
+    if (offered === draft) {
+        return;
+    }
+    offered = draft;
+    give(links.book, fileName(rows, "book"), rows.length > 0 ? book : null, "application/octet-stream");
+    give(links.text, fileName(rows, "txt"), draft.lines.length > 0 || draft.begun !== null
+        ? encodedLines(savedLines(draft, table.kinds, table.places)) : null, "text/plain");
 }
 
 function drawAlways() {
-    const { rows, book, closed } = now.read;
+    const { rows, closed } = now.read;
     byId("name").textContent = titleOf(rows) || "Farm book";
     document.title = titleOf(rows) || "Farm book";
     byId("state").replaceChildren(icon(now.saved ? "ok" : "odd"), el("span", {}, stateWords()));
     byId("trouble").hidden = now.trouble === "" && now.mine;
     byId("trouble").textContent = now.trouble || (now.mine ? "" : SECOND);
     const some = rows.length > 0;
-    give(links.book, fileName(rows, "book"), some ? book : null, "application/octet-stream");
-    give(links.text, fileName(rows, "txt"), now.draft.lines.length > 0 || now.draft.begun !== null
-        ? encodedLines(savedLines(now.draft, table.kinds, table.places)) : null, "text/plain");
+    setTimeout(offerFiles, 0);
     const close = button("Close the book", () => { now.mode = "close"; now.correcting = null; location.hash = "#book"; draw(); });
     byId("ends").replaceChildren(button("New book", () => replaceDraft([], ""), { disabled: !now.mine }),
         ...(some && !closed && now.mode !== "close" && now.mine ? [close] : []));
@@ -86,10 +101,16 @@ async function showView() {
 }
 
 function frame() {
+    for (const link of Object.values(links)) {
+        link.addEventListener("click", offerFiles, { capture: true });
+    }
     byId("acts").append(button("Open", async () => openFiles(await chosenFiles())), links.book, links.text);
+    offerSend();
     byId("main").replaceChildren(el("p", { id: "trouble", role: "alert", class: "trouble", hidden: true }),
         el("div", { class: "views" }, bookView(), pageView(), checkView(), compareView(), whatifView()));
     onDraw(drawAlways);
+    onDraw(printFigures);
+    onDraw(lookAt);
     addEventListener("hashchange", showView);
     addEventListener("dragover", (event) => event.preventDefault());
     addEventListener("drop", dropped);
@@ -98,12 +119,12 @@ function frame() {
 
 // The window that has the draft reads it anew: another one may have changed it before.
 async function mine() {
-    now.mine = true;
     try {
         taken(await fetchKept(now.store));
     } catch {
         now.store.database = null;
     }
+    now.mine = true;
     const lasts = now.store.database !== null;
     Object.assign(now, { saved: lasts, trouble: lasts ? "" : PRIVATE });
     settle();
@@ -112,7 +133,7 @@ async function mine() {
 
 async function start() {
     const store = openStore();
-    await prepared("kinds", "writer", "records", "retype");
+    await prepared("kinds", "writer", "records", "retype", "kilograms");
     fillTable();
     now.store = await store;
     taken(await fetchKept(now.store).catch(() => null));

@@ -1,6 +1,7 @@
 // The heading that records go under, large and never out of sight, and the groups to choose from.
 import { button, byId, el, gases } from "./dom.js";
-import { groupNow, groupsNow, settle } from "./change.js";
+import { groupNow, settle } from "./change.js";
+import { table } from "./judge.js";
 import { draw, now } from "./state.js";
 
 const STRIP = 6; // more groups than these are a list
@@ -32,8 +33,10 @@ function soFar() {
     return [...days, ...said.gives.map((text) => el("span", { class: "gas" }, gases(text)))];
 }
 
+// The next record is one of the group's, so of a kind that it has.
 export function choose(number) {
-    Object.assign(now, { chosen: number, mode: "record", correcting: null, fresh: null, look: true });
+    const kind = table.places.own.includes(now.kind) ? "" : now.kind;
+    Object.assign(now, { chosen: number, kind, mode: "record", correcting: null, fresh: null, look: "here" });
     settle();
     draw();
 }
@@ -60,7 +63,7 @@ export function drawBand() {
     byId("band").classList.toggle("begin", lines !== null);
     byId("heading").textContent = title;
     byId("sofar").replaceChildren(...(lines ?? soFar()));
-    const groups = groupsNow();
+    const { groups } = now.read;
     const free = now.mine && !now.read.closed && now.read.rows.length > 0;
     byId("groups").replaceChildren(...groupChoice(groups, waits),
         ...(free ? [button(["New ", el("br"), "group"], begin, { "aria-label": "New group", "aria-pressed": String(now.mode === "heading") })] : []));

@@ -60,13 +60,14 @@ function keyed(event) {
 
 export function bookView() {
     addEventListener("keydown", keyed);
-    onDraw(() => { drawBand(); drawList(); drawEntry(); });
+    // The form first: where its field has the focus the browser lays the page out at once, and the list is still as it was.
+    onDraw(() => { drawEntry(); drawBand(); drawList(); });
     return el("section", { class: "view", id: "view-book", "aria-label": "Book" },
         el("div", { class: "band", id: "band" }, el("div", {}, el("h2", { id: "heading" }), el("p", { id: "sofar" })),
             el("div", { class: "groups", id: "groups", role: "group", "aria-label": "Group to enter under" })),
         el("div", { class: "body" },
             el("div", { class: "list scroll", tabindex: "-1" },
                 el("p", { class: "lead" }, "The book as it is read back, figures in kg. Touch a record to correct it."),
-                el("table", { id: "records", "aria-label": "Records of the book" })),
+                el("table", { id: "records", role: "table", "aria-label": "Records of the book" })),
             el("form", { class: "form", id: "form", novalidate: true, autocomplete: "off", onsubmit: submitted, oninput: typedNow })));
 }

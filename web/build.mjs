@@ -94,16 +94,26 @@ function script(order) {
 
 const hash = (text) => `'sha256-${createHash("sha256").update(text).digest("base64")}'`;
 
+// A program as it stands in the page.
+function programOf(name) {
+    const bytes = readFileSync(join(wasm, `${name}.wasm`));
+    const small = Buffer.from(deflated(bytes));
+    if (!inflateRawSync(small).equals(bytes)) {
+        fail(`${name}.wasm does not come back as it was`);
+    }
+    return `<script type="text/plain" id="program-${name}">${small.toString("base64")}</script>`;
+}
+
+// All programs; of a page that was built before they are taken as they stand there.
+function programsOf() {
+    if (wasm.endsWith(".html")) {
+        return readFileSync(wasm, "utf8").split("\n").filter((line) => line.startsWith('<script type="text/plain" id="program-'));
+    }
+    return readFileSync(join(here, "programs.txt"), "utf8").replace(/#.*/g, "").split("\n").map((line) => line.trim()).filter(Boolean).map(programOf);
+}
+
 function main() {
-    const names = readFileSync(join(here, "programs.txt"), "utf8").replace(/#.*/g, "").split("\n").map((line) => line.trim()).filter(Boolean);
-    const programs = names.map((name) => {
-        const bytes = readFileSync(join(wasm, `${name}.wasm`));
-        const small = Buffer.from(deflated(bytes));
-        if (!inflateRawSync(small).equals(bytes)) {
-            fail(`${name}.wasm does not come back as it was`);
-        }
-        return `<script type="text/plain" id="program-${name}">${small.toString("base64")}</script>`;
-    });
+    const programs = programsOf();
     const tables = readdirSync(join(here, "tables")).sort().map((name) => {
         const text = JSON.stringify(JSON.parse(read(join("tables", name)))).replace(/</g, "\\u003c");
         return `<script type="application/json" id="table-${name.replace(/\.json$/, "")}">${text}</script>`;

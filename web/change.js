@@ -1,6 +1,6 @@
 // Changes of the draft: judged as a whole by the proved programs, kept, and only then shown.
 import { begun, changed, draftOf, emptyDraft, headingsOf, placeOf, undone } from "./draft.js";
-import { betterBy, headingWords, readText, table } from "./judge.js";
+import { betterBy, readText, table } from "./judge.js";
 import { keep, OtherWindow } from "./kept.js";
 import { draw, now } from "./state.js";
 import { wordsOf } from "./typed.js";
@@ -34,24 +34,33 @@ export async function apply(draft, then = {}) {
     }
     const start = performance.now();
     const read = readText(draft.lines);
+    const judged = performance.now();
     now.busy = true;
     const [saved, trouble] = await kept(draft);
     now.busy = false;
+    const held = performance.now();
     Object.assign(now, { saved, trouble });
     if (now.mine) {
         Object.assign(now, { draft, read, fresh: null, correcting: null }, then);
         settle();
     }
     draw();
-    now.ms = performance.now() - start;
-    document.getElementById("state").dataset.ms = now.ms.toFixed(1);
+    measured({ start, judged, held, end: performance.now() });
     return now.mine;
+}
+
+// What the change took, in milliseconds: all of it, and of that the programs and the keeping; and how many changes there were, for whoever waits for
+// the next one.
+function measured({ start, judged, held, end }) {
+    now.changes += 1;
+    Object.assign(document.getElementById("state").dataset, { ms: (end - start).toFixed(1), judging: (judged - start).toFixed(1),
+        keeping: (held - judged).toFixed(1), change: now.changes });
 }
 
 // What the form is for follows from the draft, where nothing else was asked for.
 export function settle() {
     const { read, draft } = now;
-    const groups = groupsNow();
+    const { groups } = read;
     if (!groups.some(({ number }) => number === now.chosen)) {
         now.chosen = groups.at(-1)?.number ?? null;
     }
@@ -68,10 +77,7 @@ export function settle() {
     }
 }
 
-export const groupsNow = () => now.read.rows.filter((row) => row.name === table.places.heading)
-    .map((row) => ({ ...headingWords(row.typed), record: row.record }));
-
-export const groupNow = () => groupsNow().find(({ number }) => number === now.chosen) ?? null;
+export const groupNow = () => now.read.groups.find(({ number }) => number === now.chosen) ?? null;
 
 // The kinds that may go in now: those of the chosen group's class, then the farm's own.
 export const kindsNow = () => [...(table.places.classes.get(groupNow()?.class) ?? []), ...table.places.own];
@@ -114,7 +120,7 @@ export const undo = () => apply(undone(now.draft), { mode: now.draft.begun !== n
 // Another draft in place of this one, as one that begins; nothing of the one before is kept.
 export function replaced(lines) {
     now.typed.clear();
-    return apply({ ...emptyDraft(), lines }, { mode: lines.length === 0 ? "farm" : "record", chosen: null, kind: "", form: 0 });
+    return apply({ ...emptyDraft(), lines }, { mode: lines.length === 0 ? "farm" : "record", chosen: null, kind: "", form: 0, look: "failed" });
 }
 
 export function taken(keptDraft) {

@@ -36,7 +36,7 @@ function failedLines(item) {
     const messages = item.said?.messages ?? [];
     return messages.length === 0 ? null : el("table", {}, el("thead", {},
         el("tr", {}, ["Line", "What was typed", "Why it is not in the book"].map((word) => el("th", {}, word)))),
-        el("tbody", {}, messages.map(({ from, words }) => el("tr", {}, el("td", {}, String(from + 1)), el("td", {}, item.lines[from].trim()),
+        el("tbody", {}, messages.map(({ line, from, words }) => el("tr", {}, el("td", {}, line), el("td", {}, item.lines[from].trim()),
             el("td", {}, words)))));
 }
 
@@ -95,7 +95,7 @@ export function check(item) {
 
 export function drawCheck() {
     const item = now.checked ?? (now.read.rows.length > 0 ? draftItem() : null);
-    byId("check-name").replaceChildren(item ? item.name : "No book", ...(item?.bytes ? [el("small", {}, ` ${item.bytes.length} bytes`)] : []));
+    byId("check-name").textContent = item ? item.name : "No book";
     byId("check-parts").replaceChildren(...(item ? [left(item), ...(item.state === "refused" ? [right(item)] : [])] : []));
 }
 

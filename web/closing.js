@@ -38,7 +38,7 @@ export function drawClose() {
                 : el("p", {}, "The book has no group."),
             el("div", { id: "lacks" }),
             waits ? el("p", { class: "note wrong" }, icon("no"),
-                ` ${now.read.failed} lines are not in the book. A book with a failed line is not closed: mend them first.`) : "",
+                ` Lines are not in the book: ${now.read.said.verdict.lost}. A book with a failed line is not closed: mend them first.`) : "",
             el("p", { class: "soft" }, "A closed book takes no more records, and has a member's page. “Open again” takes the close away.")),
         el("div", { class: "gives" }, el("div", { id: "remarks", "aria-live": "polite" }), el("div", { class: "buttons" },
             button("Go on entering", () => { now.mode = "record"; draw(); }),
@@ -59,7 +59,7 @@ export function drawClosed() {
     byId("form").replaceChildren(
         el("div", { class: "scroll" }, el("h2", {}, "The book is closed"),
             el("table", { class: "eff total" }, el("tbody", {}, total.map(({ name, kg }) => el("tr", {},
-                el("th", { scope: "row" }, gases(COLUMNS[name])), el("td", {}, `${kg} kg`))))),
+                el("th", { scope: "row" }, gases(COLUMNS[name])), el("td", {}, kg, " kg"))))),
             el("p", {}, "Save the book for the office. The member's page is ready: see Page."),
             el("div", { class: "aid" }, links, el("a", { class: "button", href: "#page" }, "See the page"))),
         el("div", { class: "gives" }, el("div", { id: "remarks", "aria-live": "polite" }), el("div", { class: "buttons" },

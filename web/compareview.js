@@ -14,8 +14,7 @@ function told(item) {
     if (!item.bytes) {
         return `${item.name}: ${item.words}`;
     }
-    const state = { closed: "closed", refused: "refused, compared up to there", unfinished: "not closed" }[item.state];
-    return `${item.name}: ${state}, ${item.rows.length} records`;
+    return `${item.name}: ${item.why.people}${item.state === "refused" ? "; compared up to there" : ""}`;
 }
 
 async function pick(side, list) {
@@ -47,7 +46,7 @@ function drawCompared() {
     const columns = ["What differs", "", "Old", "New", "Difference"].map((word) => el("th", { scope: "col" }, word));
     byId("compared").replaceChildren(
         el("p", { class: "big" }, el("b", {}, words.at(-1) ?? "")),
-        ...heads.filter((line) => !line.endsWith(": accepted")).map((line) => el("p", { class: "note odd" }, icon("odd"), ` ${line}`)),
+        ...heads.filter((line) => !line.endsWith(": accepted")).map((line) => el("p", { class: "note" }, icon("open"), ` ${line}`)),
         ...words.slice(0, -1).map((line) => el("p", { class: "said" }, line)),
         ...(parts.length > 0 ? [el("table", { class: "diff" }, el("thead", {}, el("tr", {}, columns)), el("tbody", {}, rowsOfParts(parts)))] : []),
         el("p", { class: "soft" }, remarks), el("p", { class: "aid" }, link),

@@ -55,8 +55,9 @@ export function saving(words, attributes = {}) {
 }
 
 export function give(link, name, bytes, type) {
-    if (link.href) {
-        URL.revokeObjectURL(link.href);
+    const before = link.href;
+    if (before) {
+        setTimeout(() => URL.revokeObjectURL(before), 0);
     }
     if (bytes === null) {
         link.removeAttribute("href");

@@ -4,22 +4,19 @@ import { comparedOf } from "./comparison.js";
 import { table, triedClosed } from "./judge.js";
 import { decoded, isPrepared, proved } from "./proved.js";
 import { now } from "./state.js";
-import { spaced } from "./typed.js";
-
-const printed = (number) => number.replace(/^([+-]?)(\d+)/, (_, sign, digits) => `${sign === "-" ? "\u2212" : sign}${spaced(digits)}`);
 
 export function rowsOfParts(parts) {
     return parts.flatMap(({ section, title, side, rows }) => rows.map((row, at) => el("tr", { class: at === 0 ? "top1" : "" },
         el("th", { scope: "row" }, at === 0 ? [el("b", {}, title), el("small", {}, ` ${section}${side ? `, only in the ${side} book` : ""}`)] : ""),
         el("td", {}, gases(row.unit ? `${row.name}, ${row.unit}` : row.name)),
-        el("td", {}, printed(row.old)), el("td", {}, printed(row.now)), el("td", {}, printed(row.difference)))));
+        el("td", {}, row.old), el("td", {}, row.now), el("td", {}, row.difference))));
 }
 
 export function effectOf(book) {
     if (!isPrepared("compare")) {
         return [];
     }
-    const { output } = proved("compare", triedClosed(now.read.book), triedClosed(book));
+    const { output } = proved("compare", now.read.trial, triedClosed(book));
     const { parts, words } = comparedOf(decoded(output), table.kinds);
     if (parts.length === 0) {
         return words.at(-1)?.includes("differs") ? [el("p", { class: "soft" }, "Nothing is changed yet.")] : [];

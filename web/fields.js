@@ -38,7 +38,7 @@ function box(field, id, value) {
 
 // The words beside a field where nothing is wrong with it. The farm number has no end that helps anybody.
 export function hintOf(field, classWord, last) {
-    const range = field.choices.length > 0 ? "" : `${field.lowest.replace(/^0\.0+$/, "0")} to ${field.highest}`;
+    const range = field.choices.length > 0 ? "" : `${field.lowest} to ${field.highest}`;
     const unit = unitOf(field).length > 5 ? field.unit : "";
     return [`${range} ${unit}`.trim(), last ? `last ${last}` : usualFor(field, classWord)].filter(Boolean);
 }

@@ -4,6 +4,8 @@ import { encoded, proved } from "./proved.js";
 import { linesOf, textOfLines } from "./typed.js";
 
 const MOST = 4 * 1024 * 1024; // a book has about 100 KB at most, a text with long comments some hundred
+const BREATH = 50; // milliseconds after which the browser may draw, where many files are read
+const TOO_LARGE = "The file is too large for a book: one has less than 4 MB. It was not read.";
 
 const strict = new TextDecoder("utf-8", { fatal: true });
 const western = new TextDecoder("windows-1252");
@@ -82,9 +84,14 @@ const together = (first, second) => {
 
 // Parts of one book, in the order of their names: a part that ends inside a book goes on with the next file, where that is no book by itself and
 // `why` does not refuse the two together.
-export function itemsOf(files) {
+async function itemsOf(files) {
     const items = [];
+    let since = performance.now();
     for (const { name, bytes } of files) {
+        if (performance.now() - since > BREATH) {
+            await new Promise((resolve) => setTimeout(resolve, 0));
+            since = performance.now();
+        }
         const before = items.at(-1);
         const own = itemOf(name, bytes);
         if (before && before.state === "unfinished" && before.lines === null && own.rows.length === 0 && bytes.length > 0) {
@@ -103,8 +110,7 @@ export function itemsOf(files) {
 export async function readFiles(list) {
     const files = [...list].sort((a, b) => a.name.localeCompare(b.name, "en", { numeric: true }));
     const small = files.filter((file) => file.size <= MOST);
-    const large = files.filter((file) => file.size > MOST).map((file) => none(file.name,
-        `The file is too large for a book: ${Math.round(file.size / 1e6)} MB.`));
+    const large = files.filter((file) => file.size > MOST).map((file) => none(file.name, TOO_LARGE));
     const read = [];
     for (const file of small) {
         try {
@@ -113,7 +119,7 @@ export async function readFiles(list) {
             large.push(none(file.name, "The file could not be read."));
         }
     }
-    return [...itemsOf(read), ...large];
+    return [...await itemsOf(read), ...large];
 }
 
 // The lines of an item for the draft: a text as it was typed, a book as retype types it.

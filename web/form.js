@@ -4,7 +4,7 @@ import { added, corrected, fits, groupNow, heldBack, kindsNow, placeNow, removed
 import { effectOf } from "./effect.js";
 import { evaluate, refusedShort, rowOf } from "./evaluate.js";
 import { fieldRow, hintOf, sayAt, valueAt } from "./fields.js";
-import { figuresOf } from "./figures.js";
+import { figuresOf, printFigures } from "./figures.js";
 import { undoes } from "./draft.js";
 import { table } from "./judge.js";
 import { aidsFor } from "./offers.js";
@@ -30,17 +30,27 @@ function placed(line) {
     return now.mode === "correct" ? { at: now.correcting.at, count: 1 } : { at: placeNow(line), count: 0 };
 }
 
+let judgedLast = { read: null }; // Enter asks what the last key has asked already
+
 function judgeNow() {
     const { form } = current();
     const values = form.fields.map((field, at) => valueAt(at));
     fieldsNow().splice(0, Infinity, ...values);
     const probe = [form.name, ...values].join(" ");
-    const { at, count } = placed(probe);
+    const asked = [now.mode, now.correcting?.at, now.chosen, form.row, ...values].join("\n");
+    if (judgedLast.read !== now.read || judgedLast.asked !== asked) {
+        judgedLast = { read: now.read, asked, judged: judgedOf(form, values, placed(probe)) };
+    }
+    return judgedLast.judged;
+}
+
+function judgedOf(form, values, { at, count }) {
     const trial = (line) => tried(at, count, count ? reworded(now.draft.lines[at], line) : line);
     if (values.every((value) => !value)) {
         return { form, values, at, count, trial, complete: false, accepted: false, remarks: new Map(), onLine: [], others: [], line: form.name };
     }
-    return { form, values, at, count, trial, ...evaluate({ form, values, trial, at, fits: (after) => fits(after, count) }) };
+    const judged = evaluate({ form, values, trial, at, fits: (after) => fits(after, count) });
+    return { form, values, at, count, trial, ...judged, row: judged.accepted ? rowOf(judged.result, trial(judged.line), at) : null };
 }
 
 export const lastOf = (kind) => now.read.rows.findLast((row) => row.name === kind && (table.places.own.includes(kind) || row.group === now.chosen));
@@ -69,7 +79,7 @@ export function drawForm() {
                     icon("undo"), " Undo", el("small", {}, undoing ?? "nothing yet")),
                 el("button", { class: "main", id: "todo" }, todo(values))),
             el("div", { class: "keys" }, "Tab: next field. Enter: add. Esc: leave a correction. Ctrl+Z: undo.")));
-    showJudged();
+    drawJudged();
 }
 
 // Fields filled by a table or by a record before; all of them can be changed.
@@ -87,8 +97,13 @@ function remarkLine(words, wrong) {
 }
 
 export function showJudged() {
+    const judged = drawJudged();
+    printFigures();
+    return judged;
+}
+
+function drawJudged() {
     const judged = judgeNow();
-    judged.row = judged.accepted ? rowOf(judged.result, judged.trial(judged.line), judged.at) : null;
     judged.form.fields.forEach((field, at) => sayAt(at, judged.remarks.get(at)));
     const all = [...judged.remarks.values()];
     const held = now.mode === "heading" && now.draft.begun !== null && !judged.complete ? heldWords() : [];
@@ -125,7 +140,7 @@ function givesLine(judged) {
     const figures = figuresOf(judged.row);
     return figures.length === 0 ? el("p", { class: "soft" }, "All values are right.")
         : el("p", { class: "given" }, el("span", {}, "It gives"), el("b", {},
-            figures.map(({ label, kg }) => el("span", {}, gases(`${label} ${kg} kg `)))));
+            figures.map(({ label, kg }) => el("span", {}, gases(`${label} `), kg, " kg "))));
 }
 
 // Enter: the record goes in where the writer takes it; else its words stand beside the field, and nothing is entered. A heading that is refused
@@ -154,6 +169,6 @@ function entered(judged, record) {
     if (now.mode === "correct") {
         return corrected(at, reworded(now.draft.lines[at], line), `record ${now.correcting.record} corrected`, { mode: "record", fresh: record });
     }
-    const chosen = now.mode === "heading" ? { chosen: String(Number(judged.values[0])), kind: "" } : {};
+    const chosen = now.mode === "heading" ? { chosen: judged.row?.group ?? null, kind: "" } : {};
     return added(at, line, `record ${record} added`, { mode: "record", fresh: record, ...chosen });
 }

@@ -1,7 +1,5 @@
-// Holos' values (source document 002, tables A4-14 and A4-19 to A4-24) for the fields of a record. The tables are data (tables/); a value that a
-// table has is moved into its field, and its table's number goes with it.
-import { perCent } from "./typed.js";
-
+// Holos' values (source document 002, tables A4-14 and A4-19 to A4-24) for the fields of a record. The tables are data (tables/) in the units of the
+// fields; a value that a table has is moved into its field, and its table's number goes with it.
 const isLiquid = (handling, tables) => handling in tables["a4-23"].handlings;
 
 export const needsSeason = isLiquid;
@@ -39,17 +37,14 @@ export function pigValues(tables, chosen) {
     }
     const values = {
         feed: byProvince(tables["a4-21"], chosen), "VS excretion": byProvince(tables["a4-19"], chosen), ...tables["a4-20"].diets[chosen.diet],
-        ...handling, MCF: other ? other.as : found, protein: perCent(byProvince(tables["a4-24"], chosen)),
+        ...handling, MCF: other ? other.as : found, protein: byProvince(tables["a4-24"], chosen),
     };
     const from = ["A4-19", "A4-20", "A4-21", "A4-22", ...(liquid ? ["A4-23"] : []), "A4-24"];
     return { values, from, notes };
 }
 
-// Ym and protein of cattle, by diet, in per cent.
-export function dietValues(tables, diet) {
-    const found = tables["a4-14"].diets[diet];
-    return Object.fromEntries(Object.entries(found).map(([label, part]) => [label, perCent(part)]));
-}
+// Ym and protein of cattle, by diet.
+export const dietValues = (tables, diet) => tables["a4-14"].diets[diet];
 
 export const dietsOf = (tables) => Object.keys(tables["a4-14"].diets);
 

@@ -35,10 +35,20 @@ export function triedClosed(book, { close } = table.places) {
     return lines.length === 0 ? book : written([...lines, close]).book;
 }
 
+// The records by group, in the book's order; each group begins with its heading. What belongs to no group stands under "".
+function grouped(rows) {
+    const by = new Map();
+    for (const row of rows) {
+        by.get(row.group)?.push(row) ?? by.set(row.group, [row]);
+    }
+    const groups = [...by].filter(([number]) => number !== "").map(([, own]) => ({ ...headingWords(own[0].typed), rows: own }));
+    return { groups, loose: by.get("") ?? [] };
+}
+
 const bySubtotal = (subtotals) => new Map(subtotals.map((row) => [row.group, row]));
 
 // All that the page shows of a text. Where it is open and right, one run with a close after it gives the records and what the groups have so far; the
-// book itself is what stands there before the close. Else the text is written as it stands.
+// book itself is what stands there before the close, and the close's number is how many records it has. Else the text is written as it stands.
 export function readText(lines) {
     const { kinds, places } = table;
     const ends = kindOf(lines.findLast(hasWords) ?? "", kinds) === places.close;
@@ -46,33 +56,38 @@ export function readText(lines) {
     if (tried?.said.verdict.closed) {
         const { rows, subtotals } = recordsOf(tried.book);
         const close = rows.pop();
-        const book = tried.book.slice(0, Number(close.first));
-        return { lines, book, said: tried.said, written: tried.written - 1, failed: 0, rows, closed: false, together: bySubtotal(subtotals),
-            lineOf: lineFinder(lines, rows.length) };
+        return { lines, book: tried.book.slice(0, Number(close.first)), said: tried.said, written: rows.length, failed: 0, count: close.record,
+            rows, ...grouped(rows), closed: false, trial: tried.book, together: bySubtotal(subtotals), ...finders(lines, rows.length) };
     }
     const { book, said, ...counts } = written(lines);
     const { rows, subtotals } = recordsOf(book);
     const closed = said.verdict.closed;
-    return { lines, book, said, ...counts, rows, closed, together: bySubtotal(closed ? subtotals : recordsOf(triedClosed(book)).subtotals),
-        lineOf: lineFinder(lines, counts.written) };
+    const trial = closed || counts.failed === 0 ? book : triedClosed(book); // of a text without a failed line the close itself did not go in
+    return { lines, book, said, ...counts, count: said.verdict.count, rows, ...grouped(rows), closed, trial,
+        together: bySubtotal(trial === book ? subtotals : recordsOf(trial).subtotals), ...finders(lines, counts.written) };
 }
 
-// The line of a text that became a record. Where lines failed, the writer is asked: the first part of the text that writes so many records ends
-// there.
-function lineFinder(lines, count) {
-    const worded = lines.map((line, at) => at).filter((at) => hasWords(lines[at]));
-    if (count === worded.length) {
-        return (record) => worded[record];
-    }
-    return (record) => {
-        let [low, high] = [0, lines.length];
-        while (low < high) {
-            const middle = (low + high) >> 1;
-            const enough = written(lines.slice(0, middle)).written > record;
-            [low, high] = enough ? [low, middle] : [middle + 1, high];
-        }
-        return low - 1;
+// The line of a text that became a record, and the record of a line that is in the book, as a word. Where each line with a word is in the book they
+// go by their order; else the writer is asked.
+function finders(lines, count) {
+    let worded = null;
+    const inOrder = () => {
+        worded ??= lines.map((line, at) => at).filter((at) => hasWords(lines[at]));
+        return worded.length === count;
     };
+    return { lineOf: (record) => (inOrder() ? worded[record] : askedLine(lines, record)),
+        recordAt: (at) => String(inOrder() ? worded.indexOf(at) : written(lines.slice(0, at)).written) };
+}
+
+// The first part of the text that writes so many records ends with the line.
+function askedLine(lines, record) {
+    let [low, high] = [0, lines.length];
+    while (low < high) {
+        const middle = (low + high) >> 1;
+        const enough = written(lines.slice(0, middle)).written > record;
+        [low, high] = enough ? [low, middle] : [middle + 1, high];
+    }
+    return low - 1;
 }
 
 // Whether a change may go in: the records that it is for were written, and no other line fails for it.

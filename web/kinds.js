@@ -13,7 +13,8 @@ export function kindsOf(csv) {
             form = { row: row.row, name: row.name, fields: [] };
             kind.forms.push(form);
         }
-        form.fields.push({ ...row, decimals: Number(row.decimals), choices: row.choices ? row.choices.split("|") : [] });
+        const { label, unit, lowest, highest, usual, help } = row;
+        form.fields.push({ label, unit, lowest, highest, usual, help, choices: row.choices ? row.choices.split("|") : [] });
     }
     return kinds;
 }

@@ -38,7 +38,7 @@ export function drawLine() {
     const line = mending() ? now.draft.lines[now.correcting.at] : "";
     const leave = () => { now.mode = "record"; now.correcting = null; draw(); };
     byId("form").replaceChildren(
-        el("div", { class: "scroll" }, el("h2", {}, mending() ? `Mend line ${now.correcting.at + 1} of the text` : "Type a line"),
+        el("div", { class: "scroll" }, el("h2", {}, mending() ? `Mend line ${now.correcting.line} of the text` : "Type a line"),
             el("div", { class: "field whole" }, el("label", { for: "line" }, "line"),
                 el("span", { class: "box" }, el("input", { id: "line", value: line, autocomplete: "off", autocapitalize: "off",
                     spellcheck: "false" }))),
@@ -48,7 +48,7 @@ export function drawLine() {
         el("div", { class: "gives" }, el("div", { id: "remarks", "aria-live": "polite" }), el("div", { class: "buttons" },
             el("button", { type: "button", id: "undo", onclick: undo, disabled: undoes(now.draft) === null },
                 icon("undo"), " Undo", el("small", {}, undoes(now.draft) ?? "nothing yet")),
-            el("button", { class: "main", id: "todo" }, mending() ? `Correct line ${now.correcting.at + 1}` : "Add the line"))));
+            el("button", { class: "main", id: "todo" }, mending() ? `Correct line ${now.correcting.line}` : "Add the line"))));
     show();
 }
 
@@ -63,7 +63,7 @@ export async function submitLine() {
     }
     const record = rowOf(judged.result, tried(judged.at, judged.count, judged.line), judged.at)?.record ?? null;
     if (judged.count) {
-        await corrected(judged.at, judged.line, `line ${judged.at + 1} mended`, { mode: "record", fresh: record });
+        await corrected(judged.at, judged.line, "a line mended", { mode: "record", fresh: record });
     } else {
         await added(judged.at, judged.line, `record ${record} added`, { mode: "line", fresh: record });
     }

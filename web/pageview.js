@@ -28,8 +28,10 @@ function bookEntry(item, at) {
 }
 
 export async function addBooks(list) {
+    byId("page-busy").textContent = "Reading the files.";
     await prepared("why", "salvage", "retype", "sheet", "page");
     const items = await readFiles(list);
+    byId("page-busy").textContent = "";
     shown = itemsNow().length;
     now.books.push(...items);
     drawPage();
@@ -71,11 +73,9 @@ function shownBook(item) {
 
 export function drawPage() {
     const items = itemsNow();
-    const ready = items.filter((item) => item.state === "closed").length;
     shown = Math.max(0, Math.min(shown, items.length - 1));
     byId("page-books").replaceChildren(...items.map(bookEntry));
-    byId("page-all").textContent = ready === 1 ? "Save the 1 ready page" : `Save the ${ready} ready pages`;
-    byId("page-all").disabled = ready === 0;
+    byId("page-all").disabled = !items.some((item) => item.state === "closed");
     byId("page-shown").replaceChildren(...(items.length > 0 ? shownBook(items[shown])
         : [el("p", { class: "big" }, "No book is open. Open one, or several at once.")]));
 }
@@ -86,6 +86,7 @@ export function pageView() {
         el("aside", { class: "scroll" }, el("p", { class: "lead" },
             "The member's page of each book. Open or drop many books at once; parts of one book are put together."),
             button("Open books", async () => addBooks(await chosenFiles()), { class: "wide" }),
-            el("ul", { class: "books", id: "page-books" }), button("Save the ready pages", saveReady, { class: "main wide", id: "page-all" })),
+            el("p", { id: "page-busy", role: "status", class: "soft" }), el("ul", { class: "books", id: "page-books" }),
+            button("Save all ready pages", saveReady, { class: "main wide", id: "page-all" })),
         el("div", { class: "paper", id: "page-shown" }));
 }

@@ -4,7 +4,8 @@ const MESSAGE = /^lines? (\d+)(?: to (\d+))?: (.*)$/s;
 const GROUP = /^group (\d+) (\S+), (\d+) head: (.*)$/;
 const VERDICT = /^(closed|not closed): (\d+) written, (\d+) refused, (\d+) not read, (\d+) without heading, (\d+) unusual$/;
 
-// messages: lines that failed; unusual: values that went in; groups; more: what was not printed; verdict: the last line.
+// messages: lines that failed; unusual: values that went in; groups; more: what was not printed; verdict: the last line, with `count` how many were
+// written and `lost` how many were not, both as it is printed; numbers are for comparing alone.
 export function saidOf(remarks) {
     const said = { messages: [], unusual: [], groups: [], more: [], verdict: null };
     for (const text of remarks.split("\n").filter(Boolean)) {
@@ -13,13 +14,14 @@ export function saidOf(remarks) {
         const verdict = VERDICT.exec(text);
         if (message) {
             const [, from, to, words] = message;
-            const place = { from: Number(from) - 1, to: Number(to ?? from) - 1, words };
+            const place = { line: from, from: Number(from) - 1, to: Number(to ?? from) - 1, words };
             (words.startsWith("unusual: ") ? said.unusual : said.messages).push(place);
         } else if (group) {
             said.groups.push(groupOf(group, text));
         } else if (verdict) {
             const [written, refused, notRead, without, unusual] = verdict.slice(2).map(Number);
-            said.verdict = { closed: verdict[1] === "closed", written, failed: refused + notRead + without, unusual, text };
+            said.verdict = { closed: verdict[1] === "closed", count: verdict[2], written, failed: refused + notRead + without, unusual,
+                lost: text.slice(text.indexOf("written, ") + 9, text.lastIndexOf(", ")) };
         } else {
             said.more.push(text);
         }

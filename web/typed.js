@@ -37,18 +37,41 @@ export function reworded(line, words) {
     return comment < 0 ? words : `${words} ${line.slice(comment)}`;
 }
 
-// Rows of comma-separated text without quotes, each by the names of the first row.
+// Rows of comma-separated text without quotes, each with the names of the first row. A cell is looked for when it is asked for.
 export function rowsOf(text) {
-    const [names, ...rows] = linesOf(text).map((row) => row.split(","));
-    return rows.map((row) => rowBy(names, row));
+    const [names, ...rows] = linesOf(text);
+    const Row = shapeOf(names);
+    return rows.map((row) => new Row(row));
 }
 
-function rowBy(names, row) {
-    const found = {};
-    for (let at = 0; at < names.length; at += 1) {
-        found[names[at]] = row[at] ?? "";
+const shapes = new Map();
+
+function shapeOf(names) {
+    if (!shapes.has(names)) {
+        const Row = class {
+            constructor(line) {
+                this.line = line;
+            }
+        };
+        for (const [at, name] of names.split(",").entries()) {
+            Object.defineProperty(Row.prototype, name, { get() { return cellOf(this.line, at); } });
+        }
+        shapes.set(names, Row);
     }
-    return found;
+    return shapes.get(names);
+}
+
+function cellOf(line, at) {
+    let from = 0;
+    for (let before = 0; before < at; before += 1) {
+        const comma = line.indexOf(",", from);
+        if (comma < 0) {
+            return "";
+        }
+        from = comma + 1;
+    }
+    const end = line.indexOf(",", from);
+    return line.slice(from, end < 0 ? line.length : end);
 }
 
 // The one row that begins with a number, without reading the others.
@@ -56,21 +79,4 @@ export function rowWith(text, number) {
     const from = text.indexOf(`\n${number},`) + 1;
     const end = text.indexOf("\n", from);
     return from === 0 ? null : rowsOf(text.slice(0, text.indexOf("\n") + 1) + text.slice(from, end < 0 ? undefined : end + 1))[0];
-}
-
-// Grams as kilograms: the point moved in the printed digits, thin spaces between thousands. No number is computed.
-export function kilograms(grams) {
-    const sign = grams.startsWith("-") ? "\u2212" : "";
-    const digits = grams.replace("-", "").padStart(4, "0");
-    return `${sign}${spaced(digits.slice(0, -3))}.${digits.slice(-3)}`;
-}
-
-export const spaced = (digits) => digits.replace(/\B(?=(\d{3})+$)/g, "\u202f");
-
-// A part as per cent: the point two places on in the printed digits, as 0.175 is 17.5.
-export function perCent(part) {
-    const [whole, decimals = ""] = part.split(".");
-    const digits = decimals.padEnd(2, "0");
-    const left = (whole + digits.slice(0, 2)).replace(/^0+(?=\d)/, "");
-    return digits.length > 2 ? `${left}.${digits.slice(2)}` : left;
 }

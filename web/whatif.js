@@ -4,7 +4,7 @@ import { groupNow } from "./change.js";
 import { lastOf } from "./form.js";
 import { encoded, decoded, proved } from "./proved.js";
 import { now } from "./state.js";
-import { spaced, wordOf, wordsOf } from "./typed.js";
+import { wordOf, wordsOf } from "./typed.js";
 
 // whatif's names, the ends of its sliders and where they stand first. The ends are for the finger alone: the program judges what is typed.
 const FIELDS = [["GE", "MJ a head and day", 1, 650, 0.5, "340"], ["Ym", "per cent", 0.5, 20, 0.1, "6.5"], ["head", "animals", 1, 300, 1, "40"],
@@ -42,8 +42,6 @@ function fromGroup() {
     }
 }
 
-const thin = (number) => number.replace(/^(-?)(\d+)/, (_, sign, digits) => `${sign ? "\u2212" : ""}${spaced(digits)}`);
-
 export function estimate() {
     const line = [...FIELDS.map(([name]) => name), "X"].map((name) => wordOf(byId(slipId(name)).value) || "_");
     const { output, remarks } = proved("whatif", encoded([...line.slice(0, 4), change, line[4]].join(" ")));
@@ -55,12 +53,10 @@ export function estimate() {
             ` ${words.replace(/^line 1: /, "")}`)));
         return;
     }
-    const less = difference.startsWith("-");
-    const same = /^0\.0*$/.test(difference);
-    const most = less ? before : after;
-    const bar = (name, value) => [el("span", {}, name), el("meter", { min: "0", max: most, value, "aria-label": name }), el("b", {}, thin(value))];
-    byId("slip").replaceChildren(el("p", { class: "diffbig" }, less || same ? thin(difference) : `+${thin(difference)}`),
-        el("p", { class: "soft" }, gases(`kg CH4, ${same ? "the same as before" : less ? "less than before" : "more than before"}`)),
+    const most = difference.startsWith("-") ? before : after; // the end of both bars
+    const bar = (name, value) => [el("span", {}, name), el("meter", { min: "0", max: most, value, "aria-label": name }), el("b", {}, value)];
+    byId("slip").replaceChildren(el("p", { class: "diffbig" }, difference),
+        el("p", { class: "soft" }, "is the difference: after less before"),
         el("div", { class: "vs" }, bar("before", before), bar("after", after)),
         el("p", { class: "soft" }, `After: GE ${ge} MJ, Ym ${ym} %, ${head} head, ${days} days.`),
         el("p", {}, button("Keep this line", () => { keptSlips.push([`${change} ${line[4]}`, after, difference]); drawKept(); })));
@@ -69,8 +65,7 @@ export function estimate() {
 function drawKept() {
     byId("slips").replaceChildren(el("thead", {}, el("tr", {}, ["Kept to compare", "kg CH4", "difference"]
         .map((word) => el("th", { scope: "col" }, gases(word))))),
-        el("tbody", {}, keptSlips.map(([name, after, difference]) => el("tr", {}, el("td", {}, name), el("td", {}, thin(after)),
-            el("td", {}, thin(difference))))));
+        el("tbody", {}, keptSlips.map((slip) => el("tr", {}, slip.map((words) => el("td", {}, words))))));
 }
 
 function chooseChange(next) {

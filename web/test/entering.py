@@ -1,8 +1,6 @@
-"""What the adviser does: entering, correcting, closing; what is refused; what is kept."""
-import shutil
-import tempfile
-
-from page import Page, ROOT, SAMPLES, kinds, reference
+"""What the adviser does: entering, correcting, closing; what is refused; every figure that she sees."""
+from page import Page
+from reference import SAMPLES, figures, kinds, reference
 
 KINDS = kinds()
 
@@ -49,12 +47,27 @@ def enter(page, line):
 
 
 def enter_text(page, name):
+    """All lines of a text. Before the close the figures that are seen are those that the closed book has."""
+    book, _ = reference("writer", (SAMPLES / name).read_bytes())
     for line in lines_of(name):
         if words_of(line)[0] == "close":
+            seen, printed = seen_figures(page), figures(book)
+            assert seen == {place: printed.get(place) for place in seen} and any(owner.startswith("group") for owner, _ in seen), seen
             page.press("Close the book")
             page.changed(lambda: page.press("Close the book"))
         else:
             page.changed(lambda: page.press(enter(page, line)))
+
+
+SEEN = """const names = ["ch4", "n2o", "co2", "excreted", "land", "grazing", "co2e"];
+    return [...document.querySelectorAll("#records tr[data-record], #records tr[data-group]")].flatMap((row) =>
+        names.map((name, at) => [row.dataset.record ?? `group ${row.dataset.group}`, name, row.querySelector(`.f${at}`)?.lastChild?.data ?? ""]))
+        .filter(([, , words]) => words);"""
+
+
+def seen_figures(page):
+    """The figures of the list as they are drawn."""
+    return {(owner, name): words for owner, name, words in page.script(SEEN)}
 
 
 def entered(name):
@@ -69,6 +82,11 @@ def entered(name):
         typed = [line for line in reference("retype", book)[0].decode().split("\n") if line]
         rows = sorted((int(row.get_attribute("data-record")), row.get_attribute("data-typed")) for row in page.all("#records tr[data-record]"))
         assert rows == list(enumerate(typed)), "the list is another one than retype's"
+        printed = {place: words for place, words in figures(book).items() if not place[0].startswith("group")}
+        assert seen_figures(page) == printed, "a figure of the list is another one than that of bin/records and bin/kilograms"
+        total = [words for (owner, _), words in printed.items() if owner == str(count - 1)]
+        shown = page.script("return [...document.querySelectorAll('.total td')].map((each) => each.innerText.replace(' kg', ''))")
+        assert shown == total, f"the total is {total}, not {shown}"
         assert page.saved("Save the page") == reference("page", book)[0], "the page is another one than bin/page's"
         assert page.errors() == [], page.errors()
     finally:
@@ -101,8 +119,8 @@ def test_mistakes():
         for line in lines_of("mistakes.txt"):
             words = words_of(line)
             name = words[0].lower()
-            if name == "close" or (name == "farm" and lines):
-                continue
+            if name == "close" and expected(lines, " ".join(words)) is None:
+                continue  # it would close the book: in the form no close comes too early
             by_fields = fits_form(name, words[1:])
             if by_fields and name not in ("farm", "heading") and not page.buttons(name):
                 by_fields = False  # the form has no such kind under this heading
@@ -133,87 +151,3 @@ def test_mistakes():
         assert refused >= 14, refused
     finally:
         page.close()
-
-
-def test_heading():
-    """A heading that is refused: no ration can be entered until a heading is in; after a reload too. Undo gives it up."""
-    page = Page()
-    try:
-        for line in ("farm 7 2010 1", "heading 12 milking 40", "enteric 31 300 6.5"):
-            page.changed(lambda: page.press(enter(page, line)))
-        page.changed(lambda: page.press(enter(page, "heading 12 dry 9")))
-        for again in (False, True):
-            if again:
-                page.open()
-            assert page.text("#heading") == "New group, not begun yet"
-            assert not page.buttons("Add") and not page.buttons("enteric"), "a ration can be entered"
-            assert not page.button("Group 12").is_enabled(), "the group before can be chosen"
-            assert "refused 8" in page.text("#remarks"), page.text("#remarks")
-            assert b"heading 12 dry 9\n" in page.saved("Save the text")
-        page.changed(lambda: page.press("Undo"))
-        assert page.text("#heading") == "Group 12, milking, 40 head"
-        page.changed(lambda: page.press(enter(page, "heading 12 dry 9")))
-        page.fill("group", "13")
-        page.changed(lambda: page.press("Begin group 13"))
-        assert page.text("#heading") == "Group 13, dry, 9 head"
-        page.changed(lambda: page.press(enter(page, "enteric 31 200 6.5")))
-        assert page.shown()[-2:] == ["heading 13 dry 9", "enteric 31 200.00 6.50"], page.shown()
-    finally:
-        page.close()
-
-
-def test_correcting():
-    """A line in the middle is corrected, removed, and given back by Undo; unusual values go in; groups and farm's own records find their place."""
-    page = Page()
-    try:
-        for line in ("farm 7 2010 1", "heading 12 milking 40", "enteric 31 300 6.5", "energy 1 12,5 70000", "heading 9 dry 10",
-            "enteric 365 220 6.5"):
-            page.changed(lambda: page.press(enter(page, line)))
-        page.press("Group 12, milking")
-        page.changed(lambda: page.press(enter(page, "enteric 28 3 6,5")))
-        wanted = ["farm 7 2010 1", "heading 9 dry 10", "enteric 365 220.00 6.50", "heading 12 milking 40", "enteric 31 300.00 6.50",
-            "energy 1 12.5 70000", "enteric 28 3.00 6.50"]
-        order = lambda: [row for _, row in sorted((int(row.get_attribute("data-record")), row.get_attribute("data-typed"))
-            for row in page.all("#records tr[data-record]"))]
-        assert order() == wanted, order()
-        assert "unusual: enteric, GE 3.00 MJ" in page.text("#records")
-        page.one("#records tr[data-record='4']").click()
-        page.fill("GE", "400")
-        page.until(lambda: "will be" in page.text("#effect") or "record 4" in page.text("#effect") or page.text("#effect") == "", "no effect")
-        page.changed(lambda: page.press("Correct record 4"))
-        assert order()[4] == "enteric 31 400.00 6.50"
-        page.one("#records tr[data-record='3']").click()
-        page.changed(lambda: page.press("Remove group 12"))
-        assert order() == wanted[:3] + ["energy 1 12.5 70000"], order()
-        page.changed(lambda: page.press("Undo"))
-        page.changed(lambda: page.press("Undo"))
-        assert order() == wanted, order()
-        page.press("Group 12, milking")
-        page.one("#records tr[data-record='3']").click()
-        page.fill("class", "pig")
-        page.until(lambda: "refused 6" in page.text("#remarks"), "a heading may become pigs' with cattle's rations under it")
-        page.press("Correct record 3")
-        assert order() == wanted, order()
-    finally:
-        page.close()
-
-
-def test_killed():
-    """The browser is killed (SIGKILL) in the middle: the draft is there to the last added record, and Undo too."""
-    folder = tempfile.mkdtemp()
-    try:
-        page = Page(profile=f"{folder}/profile")
-        try:
-            for line in ("farm 7 2010 1", "heading 12 milking 40", "enteric 31 300 6.5"):
-                page.changed(lambda: page.press(enter(page, line)))
-            before = page.shown()
-            page.kill()
-            page = Page(profile=f"{folder}/profile")
-            assert page.shown() == before, page.shown()
-            assert page.state().startswith("3 records, not closed, saved on this device"), page.state()
-            page.changed(lambda: page.press("Undo"))
-            assert page.shown() == before[:-1]
-        finally:
-            page.close()
-    finally:
-        shutil.rmtree(folder, ignore_errors=True)

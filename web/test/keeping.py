@@ -1,17 +1,20 @@
-"""What is kept, and where: before it is shown, by one window, with and without room; what large books and strange words do."""
+"""What is kept, and where: before it is shown, by one window, with and without room."""
 import shutil
 import tempfile
-import time
 
 from entering import enter
-from page import PAGE, Page, ROOT, reference
+from page import PAGE, Page
 
 BEGIN = ("farm 7 2010 1", "heading 12 milking 40", "enteric 31 300 6.5")
 
-# The end of each transaction comes late, as on a slow disk.
-SLOW = """
+# The end of each transaction waits until the test lets it go, as on a slow disk.
+HELD = """
 const late = Object.getOwnPropertyDescriptor(IDBTransaction.prototype, "oncomplete");
-Object.defineProperty(IDBTransaction.prototype, "oncomplete", { set(handler) { late.set.call(this, () => setTimeout(handler, 1500)); } });
+window.ends = [];
+window.hold = false;
+window.letGo = () => { window.hold = false; window.ends.splice(0).forEach((end) => end()); };
+Object.defineProperty(IDBTransaction.prototype, "oncomplete", { set(handler) {
+    late.set.call(this, (event) => (window.hold ? window.ends.push(() => handler.call(this, event)) : handler.call(this, event))); } });
 """
 
 FULL = """
@@ -31,28 +34,43 @@ def begin(page, lines=BEGIN):
 
 
 def test_slow():
-    """A change is kept before it is shown: while the disk is slow, the record is not in the list."""
-    page = Page(script=SLOW)
+    """A change is kept before it is shown: while the disk has not answered, the record is not in the list, and no other change begins."""
+    page = Page(script=HELD)
     try:
-        for line in BEGIN[:2]:
-            begin(page, (line,))
-            time.sleep(1.8)
+        begin(page, BEGIN[:2])
         button = enter(page, BEGIN[2])
-        start = time.time()
+        page.script("window.hold = true")
         page.press(button)
-        time.sleep(0.5)
-        shown = page.shown()
-        if time.time() - start < 1.3:
-            assert len(shown) == 2, "the record is shown before it is kept"
-        page.until(lambda: len(page.shown()) == 3, "the record is not shown")
-        assert time.time() - start >= 1.5
-        page.press(enter(page, "enteric 28 300 6.5"))
+        page.until(lambda: page.script("return window.ends.length") == 1, "nothing is kept")
+        assert len(page.shown()) == 2, "the record is shown before it is kept"
         page.press("Undo")
-        page.until(lambda: len(page.shown()) == 4, "Undo in the meantime took a record away")
-        time.sleep(2)
-        assert len(page.shown()) == 4, "Undo in the meantime took a record away"
+        page.script("window.letGo()")
+        page.until(lambda: len(page.shown()) == 3, "the record is not shown")
+        assert page.text("#trouble") == "", page.text("#trouble")
+        begin(page, ("enteric 28 300 6.5",))
+        assert page.shown()[2:] == ["enteric 31 300.00 6.50", "enteric 28 300.00 6.50"], "Undo in the meantime took a record away"
     finally:
         page.close()
+
+
+def test_killed():
+    """The browser is killed (SIGKILL) in the middle: the draft is there to the last added record, and Undo too."""
+    folder = tempfile.mkdtemp()
+    try:
+        page = Page(profile=f"{folder}/profile")
+        try:
+            begin(page)
+            before = page.shown()
+            page.kill()
+            page = Page(profile=f"{folder}/profile")
+            assert page.shown() == before, page.shown()
+            assert page.state().startswith("3 records, not closed, saved on this device"), page.state()
+            page.changed(lambda: page.press("Undo"))
+            assert page.shown() == before[:-1]
+        finally:
+            page.close()
+    finally:
+        shutil.rmtree(folder, ignore_errors=True)
 
 
 def two_windows(page):
@@ -144,90 +162,5 @@ def test_private():
         assert "private window" in page.text("#band"), page.text("#band")
         begin(page)
         assert page.state().startswith("3 records, not closed"), page.state()
-    finally:
-        page.close()
-
-
-def largest():
-    """A text of 4,096 records, closed."""
-    lines = ["farm 7 2010 1"]
-    for group in range(1, 301):
-        lines += [f"heading {group} milking 40", *["enteric 30 300 6.5"] * 12]
-    return "\n".join([*lines, *["energy 1 12.5 70000"] * (4095 - len(lines)), "close", ""])
-
-
-def test_large():
-    """A book of 4,096 records opens, lists, is paged and takes a change; the times are printed."""
-    folder = tempfile.mkdtemp()
-    path = f"{folder}/large.txt"
-    with open(path, "w", encoding="ascii") as file:
-        file.write(largest())
-    page = Page()
-    try:
-        page.choose_files("Open", path)
-        page.until(lambda: page.state().startswith("4096 records, closed"), page.state(), 60)
-        assert page.one("#records").get_attribute("aria-rowcount") == "4096"
-        took = [float(page.one("#state").get_attribute("data-ms"))]
-        page.changed(lambda: page.press("Open again"))
-        took.append(float(page.one("#state").get_attribute("data-ms")))
-        page.changed(lambda: page.press(enter(page, "energy 2 12.5 70000")))
-        took.append(float(page.one("#state").get_attribute("data-ms")))
-        page.press("energy")
-        start = page.script("""const start = performance.now(); const field = document.getElementById("field-0"); field.value = "3";
-            field.dispatchEvent(new Event("input", { bubbles: true })); return performance.now() - start;""")
-        assert page.saved("Save the book") == reference("writer", largest().replace("close\n", "energy 2 12.5 70000\n").encode())[0]
-        page.open()
-        opened = float(page.one("#state").get_attribute("data-opened"))
-        page.press("Close the book")
-        page.changed(lambda: page.press("Close the book"))
-        page.view("page")
-        page.until(lambda: page.all("#frame"), "no page")
-        print(f"large: opening {took[0]:.0f} ms, a change {took[1]:.0f} and {took[2]:.0f} ms, a key {start:.0f} ms, "
-              f"the page anew {opened:.0f} ms; {PAGE.stat().st_size} bytes")
-    finally:
-        page.close()
-        shutil.rmtree(folder)
-
-
-def test_words():
-    """What a person typed is never put into the page as HTML."""
-    folder = tempfile.mkdtemp()
-    path = f"{folder}/strange.txt"
-    bad = "<img src=x onerror='document.title=1'><b id=injected>"
-    with open(path, "w", encoding="ascii") as file:
-        file.write(f"farm 7 2010 1\nheading 12 milking 40\nenteric 31 300 {bad}\n{bad}\nenteric 31 300 6.5 # {bad}\n")
-    page = Page()
-    try:
-        page.choose_files("Open", path)
-        page.until(lambda: page.state().startswith("2 records") or page.state().startswith("3 records"), page.state())
-        for view in ("book", "page", "check", "compare"):
-            page.view(view)
-            assert page.all("#injected") == [] and page.all("main img") == [], f"{view}: HTML was put in"
-        page.view("book")
-        assert bad in page.one("#records").get_attribute("textContent")
-    finally:
-        page.close()
-        shutil.rmtree(folder)
-
-
-def test_offline():
-    """The file from disk with the network off: it works, asks for nothing, and its policy stops whatever would."""
-    page = Page("--host-resolver-rules=MAP * ~NOTFOUND", load=False)
-    try:
-        page.command("Network.enable")
-        page.command("Network.emulateNetworkConditions", offline=True, latency=0, downloadThroughput=0, uploadThroughput=0)
-        page.open()
-        begin(page)
-        for view in ("page", "check", "compare", "whatif", "book"):
-            page.view(view)
-        asked = page.script("return performance.getEntriesByType('resource').map((each) => each.name)")
-        assert [each for each in asked if not each.startswith("blob:")] == [], asked
-        sent = [entry["message"] for entry in page.driver.get_log("performance")
-            if '"Network.requestWillBeSent"' in entry["message"] and '"http' in entry["message"].split('"request"')[-1][:400]]
-        assert [each for each in sent if '"url":"http' in each] == [], sent
-        stopped = page.driver.execute_async_script("""const done = arguments[0];
-            document.addEventListener("securitypolicyviolation", (event) => { window.stopped = event.violatedDirective; });
-            fetch("https://example.org/").then(() => done("sent"), (error) => done("stopped"));""")
-        assert stopped == "stopped" and page.script("return window.stopped") == "connect-src", "the policy does not stop a request"
     finally:
         page.close()

@@ -7,7 +7,8 @@ from selenium.webdriver.common.keys import Keys
 
 from entering import enter
 from keeping import begin
-from page import Page, SAMPLES
+from page import Page
+from reference import SAMPLES
 
 
 def opened(text):
@@ -33,6 +34,9 @@ def test_mending():
         for words in ('"6,5" is no number: use a point', '"drye" is none of milking', "without heading: the heading in line 5 was not written",
             "close withheld"):
             assert words in page.text("#records"), words
+        page.press("Close the book")
+        assert page.one("#todo").get_attribute("disabled"), "a book with a failed line can be closed"
+        page.press("Go on entering")
         page.press("Mend line 4")
         page.fill("line", "enteric 31 300 6.5x")
         page.press("Correct line 4")
@@ -101,8 +105,12 @@ def test_keyboard():
         page.until(lambda: page.buttons("Correct record 2"), "Enter on a record does not correct it")
         keys(Keys.ESCAPE)
         page.until(lambda: page.buttons("Add enteric"), "Escape does not leave the correction")
+        page.field("days").send_keys("3", Keys.CONTROL, "z")
+        page.field("days").clear()
+        page.changed(lambda: page.press(enter(page, "enteric 28 300 6.5")))
+        assert len(page.shown()) == 4, "Ctrl+Z in a field took a record away"
         page.changed(lambda: page.one("#undo").send_keys(Keys.CONTROL, "z"))
-        assert len(page.shown()) == 2, page.shown()
+        assert len(page.shown()) == 3, page.shown()
     finally:
         page.close()
 
@@ -112,7 +120,7 @@ def test_samples():
     page = opened((SAMPLES / "mistakes.txt").read_text())
     try:
         assert page.state().startswith("10 records, not closed"), page.state()
-        assert "20 lines are not in the book" in page.text("#records")
+        assert "Not in the book: 10 refused, 6 not read, 4 without heading" in page.text("#records")
         assert page.errors() == [], page.errors()
     finally:
         page.close()

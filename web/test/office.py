@@ -1,14 +1,12 @@
-"""What the office does: many books at once, Check, Compare, What if, the page; files of every kind; how the page looks and who can use it."""
+"""What the office does: many books at once, Check, Compare, What if, the page; files of every kind."""
 import pathlib
 import shutil
 import tempfile
 
 from entering import enter
 from keeping import begin
-from page import Page, ROOT, SAMPLES, reference
-
-PICTURES = ROOT / "target/pictures"
-VIEWS = ("book", "page", "check", "compare", "whatif")
+from page import Page
+from reference import SAMPLES, reference
 
 
 def folder_of(files):
@@ -32,7 +30,7 @@ def test_files():
         for path, words in ((SAMPLES / "damaged.book", "Refused at record 3"), (SAMPLES / "sample.csv", "This is a sheet"),
             (folder / "garbage.bin", "No book"),
                             (folder / "letter.txt", "no book and no text"), (folder / "empty.book", "The file is empty"), (folder / "huge.book",
-                                "too large for a book: 200 MB")):
+                                "too large for a book")):
             page.choose_files("Open", path)
             page.until(lambda: page.one("#view-check").is_displayed() and words in page.text("#view-check"),
                 f"{path.name}: {page.text('#view-check')}")
@@ -94,12 +92,15 @@ def test_books():
         words = [each.text for each in page.all(".books li")]
         assert [("page is ready" in each) for each in words] == [True, True, False, False, True], words
         assert "b.part1 + b.part2" in words[1] and "not closed: not for members" in words[2] and "refused at record 2: see Check" in words[3]
+        page.all(".books button")[2].click()
+        page.until(lambda: "Not for members" in page.one("#frame").get_attribute("srcdoc"), "the page of a book that is not closed")
+        assert not page.button("Save the page").get_attribute("href"), "the page of a book that is not closed can be saved"
         page.all(".books button")[0].click()
         assert page.saved("Save the sheet") == reference("sheet", sample)[0]
         assert page.saved("Save its text") == reference("retype", sample)[0]
-        page.press("Save the 3 ready pages")
-        page.until(lambda: len([each for each in page.downloads.iterdir() if each.suffix == ".html"]) == 3, "not three pages")
-        pages = {each.read_bytes() for each in page.downloads.iterdir() if each.suffix == ".html"}
+        page.press("Save all ready pages")
+        page.until(lambda: len([each for each in page.files_saved() if each.suffix == ".html"]) == 3, "not three pages")
+        pages = {each.read_bytes() for each in page.files_saved() if each.suffix == ".html"}
         assert pages == {reference("page", sample)[0], reference("page", reference("writer", (SAMPLES / "farm.txt").read_bytes())[0])[0]}
     finally:
         page.close()
@@ -155,52 +156,5 @@ def test_tables():
         page.fill("days", "31")
         page.changed(lambda: page.press("Add pig to group 50"))
         assert page.shown()[-1] == "pig 31 0.70 0.1446 1.000 0.020 22.00 1.000 0.00500 0.450 0.01000 0.000 0.00750", page.shown()[-1]
-    finally:
-        page.close()
-
-
-MEASURE = (pathlib.Path(__file__).parent / "measure.js").read_text()
-
-
-def test_looks():
-    """Pictures of each view at three widths, light and dark (target/pictures). Contrast 4.5 at least, targets of 44 points, a label for each field,
-    the heading in sight with the keypad up, nothing wider than the screen."""
-    page, wrong = Page(), []
-    try:
-        begin(page, ("farm 1174 2026 1", "heading 12 milking 64", "enteric 31 342 6.5", "enteric 28 342 6.5",
-            "cattle 31 20.80 16.40 29.40 3.38 40 15 85 0",
-                     "heading 20 dry 11", "heading 31 heifer 38", "heading 50 pig 240", "energy 1 9400 2730",
-                     "tillage mixedwood-plains medium intensive-to-no 6 42.5"))
-        page.press("Group 12, milking")
-        page.press("enteric")
-        page.fill_all([("days", []), ("GE", []), ("Ym", [])], ["31", "34.20", "65"])
-        for view in VIEWS:
-            page.view(view)
-            if view == "compare":
-                page.press("Take the draft as the old")
-                page.press("Take the draft as the new")
-            for width, height in ((390, 844), (1024, 768), (1440, 900)):
-                for dark in (False, True):
-                    page.size(width, height, dark)
-                    page.picture(PICTURES / f"{view}-{width}-{'dark' if dark else 'light'}.png")
-                    wrong += [f"{view} {width} {'dark' if dark else 'light'}: {each}" for each in page.script(MEASURE)]
-        page.view("book")
-        page.one("#field-2").click()
-        page.size(1024, 420)
-        page.script("document.activeElement.scrollIntoView({ block: 'nearest' })")  # as a browser does when the keypad comes up
-        page.picture(PICTURES / "book-keypad.png")
-        for name in ("#heading", "#field-2", "#field-2-say", "#todo"):
-            seen = page.script("""const each = document.querySelector(arguments[0]), box = each.getBoundingClientRect();
-                const at = (y) => each.contains(document.elementFromPoint(box.left + 8, y)); return at(box.top + 4) && at(box.bottom - 4);""", name)
-            wrong += [] if seen else [f"with the keypad up {name} is out of sight"]
-        page.size(1024, 768)
-        for kind in ("cattle", "grazing", "tillage"):
-            page.press(kind)
-            page.picture(PICTURES / f"form-{kind}.png")
-        page.press("New group")
-        page.picture(PICTURES / "form-heading.png")
-        page.press("Close the book")
-        page.picture(PICTURES / "form-close.png")
-        assert wrong == [], "; ".join(sorted(set(wrong))[:12])
     finally:
         page.close()

@@ -1,10 +1,9 @@
-"""The page in a real browser: Chromium by Selenium, both from Debian's packages."""
+"""The page in a real browser: Chromium by Selenium, both from Debian's packages. Each wait is for something to be so, none for a time."""
 import base64
 import os
 import pathlib
 import shutil
 import signal
-import subprocess
 import tempfile
 import time
 
@@ -12,21 +11,22 @@ from selenium import webdriver
 from selenium.common.exceptions import StaleElementReferenceException
 from selenium.webdriver.chrome.service import Service
 from selenium.webdriver.common.by import By
-from selenium.webdriver.support.ui import Select, WebDriverWait
+from selenium.webdriver.support.ui import Select
 
-ROOT = pathlib.Path(__file__).resolve().parents[2]
+from reference import ROOT, SAMPLES, kinds, reference  # pylint: disable=unused-import # for the tests
+
 PAGE = pathlib.Path(os.environ.get("PAGE", ROOT / "target/farmbook.html")).resolve()
-SAMPLES = ROOT / "samples"
+PATIENCE = int(os.environ.get("PATIENCE", "60"))  # seconds until a wait is given up: a loaded machine is no mistake of the page
 
+OPTIONS = ("--headless=new", "--no-sandbox", "--disable-gpu", "--disable-dev-shm-usage", "--no-first-run", "--disable-extensions",
+           "--disable-background-networking", "--disable-component-update", "--disable-sync", "--password-store=basic")
 
-def kinds():
-    """The fields of each kind, by the stored output of bin/kinds."""
-    found = {}
-    for row in (ROOT / "crates/kinds_main/stdout").read_bytes().decode().split("\r\n")[1:]:
-        if row:
-            number, _, _, name, _, label, _, _, _, _, choices = row.split(",")[:11]
-            found.setdefault((name, number), []).append((label, choices.split("|") if choices else []))
-    return found
+NAMED = """const name = (each) => (each.getAttribute("aria-label") ?? each.innerText).replace(/\\s+/g, " ").trim();
+    const all = [...document.querySelectorAll("button, a[role=button]")];
+    return all.filter((each) => each.checkVisibility() && name(each).startsWith(arguments[0]));"""
+
+FIELD = """const label = [...document.querySelectorAll("#form label[for]")].find((each) => each.innerText.trim() === arguments[0]);
+    return label ? document.getElementById(label.htmlFor) : null;"""
 
 
 class Page:
@@ -34,11 +34,11 @@ class Page:
         self.folder = tempfile.mkdtemp()
         self.profile = profile or f"{self.folder}/profile"
         chosen = webdriver.ChromeOptions()
-        for option in ("--headless=new", "--no-sandbox", "--disable-gpu", "--disable-dev-shm-usage", f"--user-data-dir={self.profile}", *options):
+        for option in (*OPTIONS, f"--user-data-dir={self.profile}", *options):
             chosen.add_argument(option)
         chosen.set_capability("goog:loggingPrefs", {"browser": "ALL", "performance": "ALL"})
         self.driver = webdriver.Chrome(service=Service("/usr/bin/chromedriver"), options=chosen)
-        self.driver.set_script_timeout(60)
+        self.driver.set_script_timeout(PATIENCE)
         self.downloads = pathlib.Path(self.folder) / "saved"
         self.downloads.mkdir()
         self.command("Browser.setDownloadBehavior", behavior="allow", downloadPath=str(self.downloads))
@@ -58,18 +58,21 @@ class Page:
 
     def open(self):
         self.driver.get(PAGE.as_uri())
-        self.until(lambda: self.one("#state").get_attribute("data-opened"), "the page did not open")
+        self.until(lambda: self.data("opened"), "the page did not open")
 
-    def until(self, test, words, seconds=20):
-        def met(_):
+    def until(self, test, words, seconds=PATIENCE):
+        """Waits until it is so; words, or what gives them, are for the one who reads that it never was."""
+        end = time.monotonic() + seconds
+        while True:
             try:
-                return test()
+                found = test()
             except Exception:  # what is drawn anew in this moment
-                return False
-        try:
-            return WebDriverWait(self.driver, seconds, poll_frequency=0.05).until(met)
-        except Exception:
-            raise AssertionError(words) from None
+                found = None
+            if found:
+                return found
+            if time.monotonic() > end:
+                raise AssertionError(words() if callable(words) else words)
+            time.sleep(0.02)
 
     def one(self, css):
         return self.driver.find_element(By.CSS_SELECTOR, css)
@@ -79,6 +82,10 @@ class Page:
 
     def script(self, text, *words):
         return self.driver.execute_script(text, *words)
+
+    def data(self, name):
+        """What the page says of its state beside the words: opened, change, ms, judging, keeping."""
+        return self.script("return document.getElementById('state')?.dataset[arguments[0]] ?? null", name)
 
     def text(self, css):
         return self.script("return (document.querySelector(arguments[0])?.innerText ?? '').trim()", css)
@@ -91,10 +98,7 @@ class Page:
 
     def buttons(self, name):
         """The buttons in sight whose accessible name is or begins with the words."""
-        return self.script("""
-            const name = (each) => (each.getAttribute("aria-label") ?? each.innerText).replace(/\\s+/g, " ").trim();
-            return [...document.querySelectorAll("button, a[role=button]")].filter((each) => each.checkVisibility()
-                && name(each).startsWith(arguments[0]));""", name)
+        return self.script(NAMED, name)
 
     def button(self, name):
         found = self.buttons(name)
@@ -104,12 +108,13 @@ class Page:
 
     def again(self, act):
         """What is drawn anew in this moment is looked for once more."""
-        for _ in range(5):
+        end = time.monotonic() + PATIENCE
+        while True:
             try:
                 return act()
             except StaleElementReferenceException:
-                time.sleep(0.1)
-        return act()
+                if time.monotonic() > end:
+                    raise
 
     def press(self, name):
         def act():
@@ -119,22 +124,24 @@ class Page:
         self.again(act)
 
     def field(self, label):
-        for each in self.all("#form label[for]"):
-            if each.text.strip() == label:
-                return self.one(f"#{each.get_attribute('for')}")
-        raise AssertionError(f"there is no field {label}")
+        found = self.script(FIELD, label)
+        if found is None:
+            raise AssertionError(f"there is no field {label}")
+        return found
 
     def fill(self, label, value):
         self.again(lambda: self.fill_once(label, value))
 
     def fill_once(self, label, value):
         field = self.field(label)
-        if field.tag_name == "select":
+        tag, kind, before = self.script("const each = arguments[0]; return [each.tagName, each.type, each.value]", field)
+        if tag == "SELECT":
             Select(field).select_by_visible_text(value)
-        elif field.get_attribute("type") == "radio":
-            self.script("arguments[0].click()", self.one(f"input[name={field.get_attribute('name')}][value={value}]"))
+        elif kind == "radio":
+            self.script("document.querySelector(`input[name=${arguments[0].name}][value=\"${arguments[1]}\"]`).click()", field, value)
         else:
-            field.clear()
+            if before:
+                field.clear()
             field.send_keys(value)
 
     def fill_all(self, fields, words):
@@ -142,11 +149,10 @@ class Page:
             self.fill(label, word)
 
     def changed(self, act):
-        """Does something, and waits until the draft that is shown is another one."""
-        mark = lambda: [self.state(), self.script("return document.getElementById('state').dataset.ms")]
-        before = mark()
+        """Does something, and waits until the page has shown one more change. Its words and its time may be those of the change before."""
+        before = int(self.data("change") or 0)
         act()
-        self.until(lambda: mark() != before, "nothing was changed")
+        self.until(lambda: int(self.data("change") or 0) > before, lambda: f"nothing was changed: {self.text('#remarks')} {self.text('#trouble')}")
 
     def view(self, name):
         self.one(f"nav a[href='#{name}']").click()
@@ -158,14 +164,17 @@ class Page:
         self.until(lambda: self.all("#files"), "no file was asked for")
         self.one("#files").send_keys("\n".join(str(path) for path in paths))
 
+    def files_saved(self):
+        """A file has its name when it is whole; before that it is hidden, or has an ending of the browser's."""
+        return [each for each in self.downloads.iterdir() if not each.name.startswith(".") and each.suffix not in (".crdownload", ".tmp")]
+
     def saved(self, name):
         """The bytes that a button saves, through the browser's own download."""
         for each in self.downloads.iterdir():
             each.unlink()
         self.press(name)
-        self.until(lambda: [each for each in self.downloads.iterdir() if not each.name.endswith((".crdownload", ".tmp"))], f"{name} saved nothing")
-        time.sleep(0.2)
-        return next(self.downloads.iterdir()).read_bytes()
+        self.until(self.files_saved, f"{name} saved nothing")
+        return self.files_saved()[0].read_bytes()
 
     def picture(self, path):
         path.parent.mkdir(parents=True, exist_ok=True)
@@ -183,13 +192,3 @@ class Page:
             self.driver.quit()
         finally:
             shutil.rmtree(self.folder, ignore_errors=True)
-
-
-def reference(name, data, *words):
-    """What the program of bin/ makes of the bytes; REFERENCE names a folder of programs that are run as they are."""
-    folder = os.environ.get("REFERENCE")
-    path = f"{folder}/{name}_main" if folder else str(ROOT / "bin" / name)
-    if not os.path.exists(path):
-        raise FileNotFoundError(f"{path} is not there")
-    done = subprocess.run([path, *words] if folder else [path, *(words or ["-"])], input=data, capture_output=True, check=False)
-    return done.stdout, done.stderr.decode()
