@@ -53,6 +53,8 @@ def read_tokens(text: str) -> list[tuple[str, Person]]:
 
 
 def _is_right(words: list[str]) -> bool:
+    if not words[0].isascii():  # a header has no other letters
+        return False
     if len(words) == 3:
         return words[1] in (ADVISER, OFFICE)
     return len(words) == 4 and words[1] == MEMBER and words[3].isascii() and words[3].isdigit() and str(int(words[3])) == words[3]

@@ -5,6 +5,7 @@ from __future__ import annotations
 import json
 import re
 import sys
+import time
 import traceback
 from collections.abc import Callable
 from typing import Any
@@ -12,11 +13,10 @@ from typing import Any
 from desk import access, app_page, pages, programs, uploads
 from desk.access import Person
 from desk.http import BYTES, CSV, HTML, JSON, TEXT, Refuse, Request, Response, send
-from desk.library import Facts, Library, may_read
+from desk.library import Facts, Library, may_read, standing
 from desk.store import Book, Store, Unavailable
 
 BOOK = re.compile(r"/books/([0-9a-f]{32})(?:/(book|page|sheet\.csv|why|compare/([0-9a-f]{32})))?", re.ASCII)
-SENDING = ("POST", "HEAD", "PATCH")
 CHALLENGE = ("WWW-Authenticate", 'Basic realm="farm book", charset="UTF-8"')
 
 
@@ -81,7 +81,8 @@ class Desk:
     def _of_book(self, request: Request, person: Person, book_id: str, what: str | None, other: str | None) -> Response:
         if what is None and request.method in ("HEAD", "PATCH"):
             _may(person.may_send, "send books")
-            return (uploads.how_far if request.method == "HEAD" else self._take)(request, self._book(book_id))
+            book = self._book(book_id)
+            return uploads.how_far(request, book) if request.method == "HEAD" else uploads.take(request, self._store, book)
         _only(request, *(("GET", "HEAD", "PATCH") if what is None else ("GET", "HEAD")))
         book = self._book(book_id)
         facts = self._library.of(book)
@@ -92,9 +93,6 @@ class Desk:
         if other is not None:
             return _printed(programs.compare(self._store.sent(self._book(other).id)[0], self._store.sent(book_id)[0]).output, TEXT)
         return self._shown(book, facts, what)
-
-    def _take(self, request: Request, book: Book) -> Response:
-        return uploads.take(request, self._store, book)
 
     def _book(self, book_id: str) -> Book:
         book = self._store.book(book_id)
@@ -111,18 +109,24 @@ class Desk:
             return _printed(sent, BYTES, f"farm-{facts.farm or 'unknown'}-{facts.year or 'unknown'}.book")
         if what == "why":
             return _printed(programs.on_book("why", sent).output, TEXT)
+        if what == "page":  # of a book that is not closed it says `Not for members`, and why
+            return _printed(programs.on_book("page", sent).output, HTML)._replace(status=200 if facts.closed else 409)
         if not facts.closed:
-            raise Refuse(409, f"the book is not closed ({facts.state}): it has no page and no sheet for members")
-        if what == "page":
-            return _printed(programs.on_book("page", sent).output, HTML)
+            raise Refuse(409, f"the book is not closed ({facts.state}): it has no sheet")
         return _printed(programs.on_book("sheet", sent).output, CSV, f"farm-{facts.farm}-{facts.year}.csv")
 
     def _overview(self, person: Person) -> Response:
-        return _printed(pages.overview(person, self._library.seen_by(person), pages.stamp()).encode(), HTML)
+        known = self._library.seen_by(person)
+        headings = self._library.headings(known) if person.may_read_all else {}
+        return _printed(pages.overview(person, known, headings, time.time()).encode(), HTML)
 
     def _table(self, person: Person) -> Response:
         _may(person.may_read_all, "read the table of all farms")
-        rows = programs.table([(book.id, self._store.sent(book.id)[0]) for book in self._store.books()])
+        known = self._library.seen_by(person)
+        stands = standing(known)
+        rows = programs.table([(book.id, self._store.sent(book.id)[0]) for book, _ in known if book.id in stands])
+        if not rows:
+            raise Refuse(404, "there is no book yet")
         return _printed("".join(",".join(row) + "\r\n" for row in rows).encode(), CSV, "table.csv")
 
 

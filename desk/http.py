@@ -7,20 +7,15 @@ from collections.abc import Callable
 from http import HTTPStatus
 from typing import Any, NamedTuple
 
-# The most bytes of one part.
-BODY_MOST = 1 << 20
+# The most bytes of one part, and of an answer's pieces.
+BODY_MOST, PIECE = 1 << 20, 1 << 14
 
 # No sign, no blank, no other script's digits; far below what a database's number holds.
 WHOLE_NUMBER = re.compile(r"0|[1-9][0-9]{0,14}", re.ASCII)
 
 POLICY = "default-src 'none'; style-src 'unsafe-inline'; img-src data:; form-action 'none'; frame-ancestors 'none'; base-uri 'none'"
-TEXT, HTML, CSV, JSON, BYTES = (
-    "text/plain; charset=utf-8",
-    "text/html; charset=utf-8",
-    "text/csv; charset=utf-8; header=present",
-    "application/json",
-    "application/octet-stream",
-)
+TEXT, HTML, CSV = "text/plain; charset=utf-8", "text/html; charset=utf-8", "text/csv; charset=utf-8; header=present"
+JSON, BYTES = "application/json", "application/octet-stream"
 
 
 class Response(NamedTuple):
@@ -68,24 +63,31 @@ class Request:
             raise Refuse(400, "Content-Length is no number")
         if length > BODY_MOST:
             raise Refuse(413, f"a part has at most {BODY_MOST} bytes: send it in smaller parts")
-        body = self._environ["wsgi.input"].read(length) if length else b""
+        try:
+            body = self._environ["wsgi.input"].read(length) if length else b""
+        except OSError as error:  # the client is too slow, or went away
+            raise Refuse(408, "the part did not come in time: nothing of it is taken") from error
         if len(body) != length:
             raise Refuse(400, "the part ended early: nothing of it is taken")
         return body
 
 
-def send(response: Response, method: str, start_response: Callable[..., Any]) -> list[bytes]:
-    """The answer, with the headers that every answer has."""
-    headers = [
-        ("Content-Type", response.kind),
-        ("Content-Length", str(len(response.body))),
+def headers_of(response: Response) -> list[tuple[str, str]]:
+    """Those that every answer has, and its own; an answer without a body has no content type."""
+    kind = [("Content-Type", response.kind), ("Content-Length", str(len(response.body)))]
+    return [
+        *(kind if response.status != HTTPStatus.NO_CONTENT else []),
         ("X-Content-Type-Options", "nosniff"),
         ("Content-Security-Policy", response.policy),
         ("Referrer-Policy", "no-referrer"),
+        ("Cross-Origin-Resource-Policy", "same-origin"),
         ("Cache-Control", "no-store"),
         *response.headers,
     ]
-    if response.status == HTTPStatus.NO_CONTENT:
-        headers = [header for header in headers if header[0] not in ("Content-Type", "Content-Length")]
-    start_response(f"{response.status} {HTTPStatus(response.status).phrase}", headers)
-    return [] if method == "HEAD" or response.status == HTTPStatus.NO_CONTENT else [response.body]
+
+
+def send(response: Response, method: str, start_response: Callable[..., Any]) -> list[bytes]:
+    """The answer, in pieces, so that a slow network has time for each."""
+    start_response(f"{response.status} {HTTPStatus(response.status).phrase}", headers_of(response))
+    body = b"" if method == "HEAD" or response.status == HTTPStatus.NO_CONTENT else response.body
+    return [body[at : at + PIECE] for at in range(0, len(body), PIECE)]

@@ -88,9 +88,13 @@ def postgresql(address: str) -> Dialect:
     return Dialect(connect, "BEGIN", " FOR UPDATE", "%s", {"real": "DOUBLE PRECISION", "bytes": "BYTEA"}, (psycopg2.Error,))
 
 
+def is_address(place: str) -> bool:
+    """Whether --store names an address of PostgreSQL; else it is a file."""
+    return place.startswith(("postgresql://", "postgres://"))
+
+
 def dialect_of(place: str) -> Dialect:
-    """By what --store names: an address of PostgreSQL, else a file."""
-    return postgresql(place) if place.startswith(("postgresql://", "postgres://")) else sqlite(place)
+    return postgresql(place) if is_address(place) else sqlite(place)
 
 
 class Store:
@@ -153,8 +157,9 @@ class Store:
             answer = farm.feed(part)
             if answer.code == farmbook.NO_IMAGE:
                 raise Unavailable("the image of this book is no state's: bin/desk --check says more")
-            if answer.taken:
-                ask("INSERT INTO parts (book, first, bytes, lines) VALUES (?, ?, ?, ?)", book_id, offset, part[: answer.taken], answer.lines)
+            if not answer.taken:  # after a close or a refusal, or an empty part: nothing is changed, and nothing was heard
+                return Taken(book, True, 0)
+            ask("INSERT INTO parts (book, first, bytes, lines) VALUES (?, ?, ?, ?)", book_id, offset, part[: answer.taken], answer.lines)
             after = book._replace(image=farm.image, code=answer.code, taken=offset + answer.taken, heard=time.time())
             ask("UPDATE books SET image = ?, code = ?, taken = ?, heard = ? WHERE id = ?", after.image, after.code, after.taken, after.heard, book_id)
         return Taken(after, True, answer.taken)

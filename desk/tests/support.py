@@ -97,6 +97,8 @@ class Answer:
 
     @property
     def offset(self) -> int:
+        if "Upload-Offset" not in self.headers:
+            raise ConnectionError(f"the answer {self.status} has no offset: it was cut, or should have one")
         return int(self.headers["Upload-Offset"])
 
 

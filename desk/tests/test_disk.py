@@ -28,7 +28,7 @@ int fdatasync(int file) { return slowly("fdatasync", file); }
 class Disk(unittest.TestCase):
     def test_an_answer_comes_after_the_disk(self) -> None:
         if shutil.which("cc") is None:
-            self.skipTest("the C compiler is not there: fsync is not slowed down")
+            self.fail("the C compiler is not there: fsync is not slowed down")
         with tempfile.TemporaryDirectory() as folder:
             source, library = Path(folder) / "slow.c", Path(folder) / "slow.so"
             source.write_text(SLOW)

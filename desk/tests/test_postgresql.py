@@ -68,7 +68,7 @@ def missing() -> str:
 class PostgreSql(unittest.TestCase):
     def setUp(self) -> None:
         if missing():
-            self.skipTest(f"{missing()} is not here: nothing was tried with PostgreSQL")
+            self.fail(f"{missing()} is not here: run .ci/setup postgresql")
         self.cluster = Cluster()
         self.addCleanup(self.cluster.close)
 

@@ -2,8 +2,10 @@
 
 import base64
 import json
+import socket
 import tempfile
 import unittest
+from unittest import mock
 
 from desk import access
 from desk.tests.support import SAMPLE, Server, Tablet
@@ -71,9 +73,29 @@ class Roles(unittest.TestCase):
         self.assertEqual(self.server.ask("GET", "/", Authorization="Basic ~~~").status, 401)
 
     def test_files_of_tokens(self) -> None:
-        for text in ("", "a\n", "a clerk b\n", "a member b\n", "a member b c\n", "a member b 07\n", "a adviser b 7\n", "a office b\na office c\n"):
+        wrong = ("", "a\n", "a clerk b\n", "a member b\n", "a member b c\n", "a member b 07\n", "a adviser b 7\n")
+        for text in (*wrong, "a office b\na office c\n", "\u00e4 office b\n"):
             with self.assertRaises(access.BadTokens, msg=text):
                 access.read_tokens(text)
+
+    def test_tokens_are_compared_in_constant_time(self) -> None:
+        people = access.read_tokens(TOKENS)
+        for given in ("anna-token", "max-token", "wrong", ""):
+            with mock.patch.object(access.hmac, "compare_digest", side_effect=lambda one, other: one == other) as compared:
+                found = access.person_of(people, f"Bearer {given}")
+            self.assertEqual(compared.call_count, len(people))  # all of them, found or not
+            self.assertEqual(found is None, not given.startswith(("anna", "max")))
+            with mock.patch.object(access.hmac, "compare_digest", return_value=False):
+                self.assertIsNone(access.person_of(people, f"Bearer {given}"))  # by nothing else
+
+    def test_no_token_is_logged(self) -> None:
+        for token in ("anna-token", "wrong-token"):
+            for path in ("/", "/nothing", self.closed.path + "/page"):
+                self.server.ask("GET", path, Authorization=f"Bearer {token}")
+            with socket.create_connection(("127.0.0.1", self.server.port), timeout=20) as line:
+                line.sendall(f"GET /?{token} HTTP/1.1 {token}\r\nAuthorization: Bearer {token}\r\n\r\n".encode())
+                line.recv(4096)
+        self.assertNotIn("token", self.server.said())
 
     def test_names_of_this_machine(self) -> None:
         for host in ("127.0.0.1", "127.0.0.1:8080", "localhost:1", "[::1]:80", "[::1]"):
