@@ -38,8 +38,10 @@ END
     cat <<END
   -h, --help  prints this; --version prints the version
 
-Exit status: 0 all right; 1 the input was refused, is unfinished or could not be
-read, or the output could not be written; 2 a wrong argument or no such file.
+Exit status 0: all right.
+Exit status 1: the input was refused, is unfinished or could not be read, or the
+output could not be written.
+Exit status 2: a wrong argument, or no such file.
 
 Example: $example
 END
@@ -118,9 +120,8 @@ build() {
         say "building, which takes some minutes the first time; each crate is reported when it is proved"
         [ -x "$program" ] || rm -f "$root/target/stamp/${name}_main" # rt does not make again what it made and somebody removed
         touch "$root/target/lock"
-        . "$here/jobs.sh"
         # rt runs the program on its stored input, and the descriptors of this script are none of that run's: a status or a second book
-        failed=$({ { (cd "$root" && rt check "${name}_main") </dev/null 2>&1 3>&- 5<&- 9>&- || echo failed >&3; } |
+        failed=$({ { "$here/prove.sh" "${name}_main" </dev/null 2>&1 3>&- 5<&- 9>&- || echo failed >&3; } |
             tee "$log" | places "$(needed | wc -l)"; } 3>&1 >&2)
         [ -z "$failed" ] || { tail -n 20 "$log" >&2; stop 1 "the build failed: $log has all of it"; }
         touch -r "$root/target/lock" "$program"

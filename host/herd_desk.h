@@ -30,7 +30,7 @@
 
    A closed or refused image gives its code again, takes nothing and writes nothing. However a book is cut into parts, and whatever
    the rooms are, the lines one after the other and the last code are those of herd_desk on the whole book, where herd_desk has room for
-   all lines; but where bytes stand behind the close the code is 0, and not 18.
+   all lines; but where bytes stand after the close the code is 0, and not 18.
 
    The layout, each number big-endian:
 
@@ -173,8 +173,8 @@ static inline const char *herd_desk_words(uint32_t code) {
     case HERD_DESK_NO_SUCH_KIND: return "no such kind of record: kinds are 1 to 10";
     case HERD_DESK_WRONG_LENGTH: return "a wrong length or count of values";
     case HERD_DESK_TOO_MANY_RECORDS: return "the book has 4096 records, and no more go in";
-    case HERD_DESK_OUT_OF_PLACE: return "out of its place: a book begins with its one farm record; "
-                                    "enteric, cattle and grazing stand under a heading of class 1 to 3, pig under one of class 4";
+    case HERD_DESK_OUT_OF_PLACE: return "out of its place: the one farm record is first; "
+                                    "enteric, cattle and grazing need a milking, dry or heifer heading, pig a pig heading";
     case HERD_DESK_OUT_OF_RANGE: return "a value is out of its range";
     case HERD_DESK_GROUP_NOT_ABOVE: return "the group number must be above that of the heading before";
     case HERD_DESK_TOO_MANY_DAYS: return "more than 366 days of this kind under the heading";
@@ -185,7 +185,7 @@ static inline const char *herd_desk_words(uint32_t code) {
     case HERD_DESK_NO_IMAGE: return "the image is no state's";
     case HERD_DESK_FULL: return "no room";
     case HERD_DESK_UNFINISHED: return "the bytes end before the close";
-    case HERD_DESK_MORE_BYTES: return "bytes stand behind the close";
+    case HERD_DESK_MORE_BYTES: return "bytes stand after the close";
     default: return "no such number";
     }
 }
