@@ -66,6 +66,8 @@ class Server:
         """As when the machine's plug is pulled from the program."""
         self.process.kill()
         self.process.wait()
+        if self.process.stdout is not None:
+            self.process.stdout.close()
 
     def close(self) -> None:
         self.kill()

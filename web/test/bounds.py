@@ -35,7 +35,7 @@ def test_large():
         assert page.one("#records").get_attribute("aria-rowcount") == "4096"
         took = [f"opened, {times(page)}"]
         page.changed(lambda: page.press("Open again"))
-        page.one("#records tr[data-record='4094'] button").click()
+        page.click("#records tr[data-record='4094'] button")
         page.changed(lambda: page.press("Remove record 4094"))
         for source in (2, 3, 4):
             page.changed(lambda: page.press(enter(page, f"energy {source} 12.5 70000")))

@@ -35,7 +35,7 @@ def with_keypad(page):
     """The keypad is up: the heading, the field, its remark and Add stay in sight."""
     wrong = []
     for width, height in ((1024, 420), (390, 480)):
-        page.one("#field-2").click()
+        page.click("#field-2")
         page.size(width, height)
         page.script("document.activeElement.scrollIntoView({ block: 'nearest' })")  # as a browser does when the keypad comes up
         page.picture(PICTURES / f"keypad-{width}.png")
@@ -59,13 +59,13 @@ def test_looks():
             page.press(kind)
             wrong += taken(page, f"form-{kind}")
         page.press("Group 50, pig")
-        page.one(".offer summary").click()
+        page.click(".offer summary")
         page.press("Fill in from A4-19")
         wrong += taken(page, "form-pig")
         page.press("New group")
         wrong += taken(page, "form-heading")
         page.press("Group 12, milking")
-        page.one("#records tr[data-record='2']").click()
+        page.click("#records tr[data-record='2']")
         page.fill("GE", "350")
         wrong += taken(page, "form-correct")
         page.press("Close the book")
@@ -85,9 +85,9 @@ def test_office_looks():
         page.view("page")
         page.choose_files("Open books", *(SAMPLES / name for name in ("damaged.book", "farm.txt", "mistakes.txt", "sample.csv")))
         page.until(lambda: len(page.all(".books li")) == 5, "the books are not listed")
-        page.all(".books button")[2].click()
+        page.click(".books button", 2)
         wrong = taken(page, "page")
-        page.all(".books button")[3].click()
+        page.click(".books button", 3)
         wrong += taken(page, "page-unfinished")
         page.view("compare")
         page.one("#old-file").send_keys(str(SAMPLES / "sample.book"))

@@ -92,10 +92,10 @@ def test_books():
         words = [each.text for each in page.all(".books li")]
         assert [("page is ready" in each) for each in words] == [True, True, False, False, True], words
         assert "b.part1 + b.part2" in words[1] and "not closed: not for members" in words[2] and "refused at record 2: see Check" in words[3]
-        page.all(".books button")[2].click()
+        page.click(".books button", 2)
         page.until(lambda: "Not for members" in page.one("#frame").get_attribute("srcdoc"), "the page of a book that is not closed")
         assert not page.button("Save the page").get_attribute("href"), "the page of a book that is not closed can be saved"
-        page.all(".books button")[0].click()
+        page.click(".books button", 0)
         assert page.saved("Save the sheet") == reference("sheet", sample)[0]
         assert page.saved("Save its text") == reference("retype", sample)[0]
         page.press("Save all ready pages")
@@ -150,7 +150,7 @@ def test_tables():
         page.press("Dairy lactation diet: Ym 6.5 (A4-14)")
         assert page.field("Ym").get_attribute("value") == "6.5"
         begin(page, ("heading 50 pig 100",))
-        page.one(".offer summary").click()
+        page.click(".offer summary")
         assert "A4-19" in page.text(".offer") and "A4-24" in page.text(".offer")
         page.press("Fill in from A4-19")
         page.fill("days", "31")

@@ -10,6 +10,7 @@ import time
 from selenium import webdriver
 from selenium.common.exceptions import StaleElementReferenceException
 from selenium.webdriver.chrome.service import Service
+from selenium.webdriver.common.action_chains import ActionChains
 from selenium.webdriver.common.by import By
 from selenium.webdriver.support.ui import Select
 
@@ -123,6 +124,13 @@ class Page:
             button.click()
         self.again(act)
 
+    def click(self, css, at=0):
+        self.again(lambda: self.all(css)[at].click())
+
+    def keys(self, *words):
+        """Goes to what has the focus, as from a keyboard."""
+        ActionChains(self.driver).send_keys(*words).perform()
+
     def field(self, label):
         found = self.script(FIELD, label)
         if found is None:
@@ -165,8 +173,9 @@ class Page:
         self.one("#files").send_keys("\n".join(str(path) for path in paths))
 
     def files_saved(self):
-        """A file has its name when it is whole; before that it is hidden, or has an ending of the browser's."""
-        return [each for each in self.downloads.iterdir() if not each.name.startswith(".") and each.suffix not in (".crdownload", ".tmp")]
+        """A file is whole when it has its name; before that it is hidden, or has an ending of the browser's, and its name may be held by an empty one."""
+        return [each for each in self.downloads.iterdir()
+                if not each.name.startswith(".") and each.suffix not in (".crdownload", ".tmp") and each.stat().st_size > 0]
 
     def saved(self, name):
         """The bytes that a button saves, through the browser's own download."""

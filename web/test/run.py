@@ -35,7 +35,7 @@ def tried(name):
         return "unable"
     except AssertionError as error:
         place, words = place_of(error)
-        print(f"{name}: failed: {error or place.line} ({words})", flush=True)
+        print(f"{name}: failed: {str(error) or place.line} ({words})", flush=True)
         return "failed"
     except Exception as error:  # the browser's own
         print(f"{name}: failed: {type(error).__name__}: {str(error).splitlines()[0] if str(error) else ''} ({place_of(error)[1]})", flush=True)

@@ -103,7 +103,7 @@ def test_desk_killed():
         page.command("Network.enable")
         page.command("Network.emulateNetworkConditions", **SLOW)
         page.press("Send")
-        for turn, least in enumerate((1, 20000, 40000)):
+        for turn, least in enumerate((1, 12000, 24000)):
             page.until(lambda: bytes_said(page) >= least, f"{least} bytes were never sent: {page.text('#sent')}", 60)
             server.kill()
             page.until(lambda: "the desk does not answer and is asked again" in page.text("#sent"), "that the desk is gone is not said")
@@ -227,7 +227,7 @@ def test_desk_overview():
                 page.size(width, height, dark)
                 page.picture(PICTURES / f"overview-{width}-{'dark' if dark else 'light'}.png")
                 assert page.script("return document.documentElement.scrollWidth <= innerWidth"), f"wider than {width}"
-        page.one("a[href$='/page']").click()
+        page.click("a[href$='/page']")
         page.until(lambda: page.text("h1") == "Farm 7, 2010", "the member's page did not open")
         authorized(page, "mia-token")
         visit(page, server, "/")
