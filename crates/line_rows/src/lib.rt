@@ -32,6 +32,7 @@ pub const ROW_MOST: usize = 4 * TOTAL_SIZE;
 
 // The names of the figures and of CO2e, here alone: a sheet's columns, and for people, a line each.
 pub const FIGURE_COLUMNS: [u8; 38] = *b"ch4,n2o,co2,excreted,land,grazing,co2e";
+
 pub const FIGURE_NAMES: [u8; 51] = *b"CH4
 N2O
 CO2
