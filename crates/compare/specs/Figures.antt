@@ -8,7 +8,7 @@ use lib.ListN.{length}
 use lib.Dec.{eqb, leb, ltb}
 use Rattle.base.specs.Choice.{pick}
 use Rattle.codec.specs.Codec.{valAt}
-use Rattle.line_rows.specs.Rows.{isSigned}
+use Rattle.line_rows.specs.Rows.{isSigned, figureNames}
 use Rattle.typed_words.specs.Words.{nthPart}
 use Rattle.printing.specs.Ascii.{ascii}
 use Rattle.printing.specs.Decimal.{pointed}
@@ -16,10 +16,7 @@ use Rattle.compare.specs.Records.{same}
 
 -- ---- one figure
 
--- their names, in a line's order
-unfoldable pub figureNames : List ℕ
-figureNames = ascii "CH4\nN2O\nCO2\nN excreted\nN for land\ngrazing CO2e\nCO2e"
-
+-- its name, in a line's order
 abbrev pub figureName : ℕ → List ℕ
 figureName f = nthPart 10 f figureNames
 

@@ -1,6 +1,7 @@
 // The figures of a line in kilograms, and sums that one book has or both.
 use crate::records::same;
 use codec::numbers::be64;
+use line_rows::FIGURE_NAMES;
 use line_rows::is_signed;
 use printing::say;
 use printing::say_pointed;
@@ -8,6 +9,7 @@ use typed_words::part;
 ghost use mathlib.Core.Path.{_≡_};
 ghost use Prim.Native.Nat.{_+_, _≤_};
 ghost use lib.ListN.{length};
+ghost use Rattle.line_bytes.specs.Lines.{figureCount};
 ghost use Rattle.printing.specs.Said.{Said};
 ghost use Rattle.compare.specs.Figures.{figureOf, figureName, kilograms, raised, changeText, namedText, nowText, singleText, figureText};
 ghost use Rattle.compare.specs.Figures.{figuresText, onlyText, twoSumsText, sumText};
@@ -17,7 +19,7 @@ const HALF: u64 = 9223372036854775808;
 
 // The word of figure f of a line, 0 where it has no such figure.
 fn figure(line: &[u8], f: usize) -> u64
-    requires { ⌜ f ≤ 6 ⌝ }
+    requires { ⌜ f ≤ figureCount ⌝ }
     ensures { λ r. ⌜ r ≡ figureOf (now (line .entry)) f ⌝ }
 {
     let at = 6 + 8 * f;
@@ -29,7 +31,7 @@ fn figure(line: &[u8], f: usize) -> u64
 
 // The word of grams in kilograms.
 fn say_kilograms(out: &mut [u8], at: usize, f: usize, w: u64) -> usize
-    requires { ⌜ (at ≤ length (now out)) × (f ≤ 6) ⌝ }
+    requires { ⌜ (at ≤ length (now out)) × (f ≤ figureCount) ⌝ }
     ensures { λ r. ⌜ Said (now (out .entry)) (now (out .exit)) at (kilograms f w) r ⌝ }
 {
     if is_signed(2 + f) & (HALF <= w) {
@@ -41,7 +43,7 @@ fn say_kilograms(out: &mut [u8], at: usize, f: usize, w: u64) -> usize
 
 // The number of a word, with 2^63 added where it has a sign.
 fn raised(f: usize, w: u64) -> u64
-    requires { ⌜ f ≤ 6 ⌝ }
+    requires { ⌜ f ≤ figureCount ⌝ }
     ensures { λ r. ⌜ r ≡ raised f w ⌝ }
 {
     if !is_signed(2 + f) {
@@ -52,7 +54,7 @@ fn raised(f: usize, w: u64) -> u64
 
 // The new less the old, with its sign.
 fn say_change(out: &mut [u8], at: usize, f: usize, x: u64, y: u64) -> usize
-    requires { ⌜ (at ≤ length (now out)) × (f ≤ 6) ⌝ }
+    requires { ⌜ (at ≤ length (now out)) × (f ≤ figureCount) ⌝ }
     ensures { λ r. ⌜ Said (now (out .entry)) (now (out .exit)) at (changeText f x y) r ⌝ }
 {
     let old = raised(f, x);
@@ -70,23 +72,13 @@ fn say_name(out: &mut [u8], at: usize, f: usize) -> usize
     requires { ⌜ at ≤ length (now out) ⌝ }
     ensures { λ r. ⌜ Said (now (out .entry)) (now (out .exit)) at (figureName f) r ⌝ }
 {
-    let names = part(
-        b"CH4
-N2O
-CO2
-N excreted
-N for land
-grazing CO2e
-CO2e",
-        b'\n',
-        f,
-    );
-    say(out, at, names)
+    let name = part(&FIGURE_NAMES, b'\n', f);
+    say(out, at, name)
 }
 
 // A figure with its name.
 fn say_named(out: &mut [u8], at: usize, f: usize, x: u64) -> usize
-    requires { ⌜ (at ≤ length (now out)) × (f ≤ 6) ⌝ }
+    requires { ⌜ (at ≤ length (now out)) × (f ≤ figureCount) ⌝ }
     ensures { λ r. ⌜ Said (now (out .entry)) (now (out .exit)) at (namedText f x) r ⌝ }
 {
     let blanks = say(out, at, b"  ");
@@ -98,7 +90,7 @@ fn say_named(out: &mut [u8], at: usize, f: usize, x: u64) -> usize
 
 // What it is now, and the difference.
 fn say_now(out: &mut [u8], at: usize, f: usize, x: u64, y: u64) -> usize
-    requires { ⌜ (at ≤ length (now out)) × (f ≤ 6) ⌝ }
+    requires { ⌜ (at ≤ length (now out)) × (f ≤ figureCount) ⌝ }
     ensures { λ r. ⌜ Said (now (out .entry)) (now (out .exit)) at (nowText f x y) r ⌝ }
 {
     let now = say(out, at, b", now ");
@@ -109,7 +101,7 @@ fn say_now(out: &mut [u8], at: usize, f: usize, x: u64, y: u64) -> usize
 
 // A figure alone, where it is not 0.
 fn say_single(out: &mut [u8], at: usize, f: usize, x: u64) -> usize
-    requires { ⌜ (at ≤ length (now out)) × (f ≤ 6) ⌝ }
+    requires { ⌜ (at ≤ length (now out)) × (f ≤ figureCount) ⌝ }
     ensures { λ r. ⌜ Said (now (out .entry)) (now (out .exit)) at (singleText f x) r ⌝ }
 {
     if x == 0 {
@@ -121,7 +113,7 @@ fn say_single(out: &mut [u8], at: usize, f: usize, x: u64) -> usize
 
 // A figure alone, or with what it is now, where there is something to tell.
 fn say_figure(out: &mut [u8], at: usize, alone: bool, f: usize, x: u64, y: u64) -> usize
-    requires { ⌜ (at ≤ length (now out)) × (f ≤ 6) ⌝ }
+    requires { ⌜ (at ≤ length (now out)) × (f ≤ figureCount) ⌝ }
     ensures { λ r. ⌜ Said (now (out .entry)) (now (out .exit)) at (figureText alone f x y) r ⌝ }
 {
     if alone {
@@ -144,7 +136,7 @@ pub(crate) fn say_figures(
     s: &[u8],
     t: &[u8],
 ) -> usize
-    requires { ⌜ (at ≤ length (now out)) × (n ≤ 7) ⌝ }
+    requires { ⌜ (at ≤ length (now out)) × (n ≤ figureCount + 1) ⌝ }
     ensures { λ r. ⌜ Said (now (out .entry)) (now (out .exit)) at (figuresText n alone (now (s .entry)) (now (t .entry))) r ⌝ }
 {
     let mut end = at;
@@ -158,7 +150,7 @@ pub(crate) fn say_figures(
 
 // A sum that only one book has.
 fn say_only(out: &mut [u8], at: usize, word: &[u8], n: usize, which: &[u8], s: &[u8]) -> usize
-    requires { ⌜ (at ≤ length (now out)) × (n ≤ 7) ⌝ }
+    requires { ⌜ (at ≤ length (now out)) × (n ≤ figureCount + 1) ⌝ }
     ensures { λ r. ⌜ Said (now (out .entry)) (now (out .exit)) at (onlyText (now (word .entry)) n (now (which .entry)) (now (s .entry))) r ⌝ }
 {
     let what = say(out, at, word);
@@ -168,7 +160,7 @@ fn say_only(out: &mut [u8], at: usize, word: &[u8], n: usize, which: &[u8], s: &
 
 // A sum that both books have.
 fn say_two_sums(out: &mut [u8], at: usize, word: &[u8], n: usize, s: &[u8], t: &[u8]) -> usize
-    requires { ⌜ (at ≤ length (now out)) × (n ≤ 7) ⌝ }
+    requires { ⌜ (at ≤ length (now out)) × (n ≤ figureCount + 1) ⌝ }
     ensures { λ r. ⌜ Said (now (out .entry)) (now (out .exit)) at (twoSumsText (now (word .entry)) n (now (s .entry)) (now (t .entry))) r ⌝ }
 {
     if same(s, t) {
@@ -181,7 +173,7 @@ fn say_two_sums(out: &mut [u8], at: usize, word: &[u8], n: usize, s: &[u8], t: &
 
 // A sum, by its line in the old book and in the new one.
 pub(crate) fn say_sum(out: &mut [u8], at: usize, word: &[u8], n: usize, s: &[u8], t: &[u8]) -> usize
-    requires { ⌜ (at ≤ length (now out)) × (n ≤ 7) ⌝ }
+    requires { ⌜ (at ≤ length (now out)) × (n ≤ figureCount + 1) ⌝ }
     ensures { λ r. ⌜ Said (now (out .entry)) (now (out .exit)) at (sumText (now (word .entry)) n (now (s .entry)) (now (t .entry))) r ⌝ }
 {
     if s.len() == 0 {

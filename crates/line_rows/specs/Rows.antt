@@ -69,9 +69,16 @@ rowsBy form (suc n) xs = pick (ltb (length xs) (frontSize xs)) [] (lineRow form 
 unfoldable pub rowsText : Form → List ℕ → List ℕ
 rowsText form xs = rowsBy form (suc (length xs)) xs
 
+-- the names of the figures and of CO2e: a sheet's columns, and for people, a line each
+abbrev pub figureColumns : List ℕ
+figureColumns = ascii "ch4,n2o,co2,excreted,land,grazing,co2e"
+
+unfoldable pub figureNames : List ℕ
+figureNames = ascii "CH4\nN2O\nCO2\nN excreted\nN for land\ngrazing CO2e\nCO2e"
+
 -- the names of a sheet's columns
 abbrev pub columnNames : List ℕ
-columnNames = ascii "kind,group,ch4,n2o,co2,excreted,land,grazing,co2e"
+columnNames = ascii "kind,group," ++ figureColumns
 
 -- what stands before the rows: of a sheet the names of its columns
 unfoldable pub header : Form → List ℕ

@@ -30,8 +30,16 @@ pub enum Form {
 // The most bytes of a row: no line's text has more than four for each of its bytes.
 pub const ROW_MOST: usize = 4 * TOTAL_SIZE;
 
-// The names of a sheet's columns, here alone.
-const COLUMN_NAMES: [u8; 49] = *b"kind,group,ch4,n2o,co2,excreted,land,grazing,co2e";
+// The names of the figures and of CO2e, here alone: a sheet's columns, and for people, a line each.
+pub const FIGURE_COLUMNS: [u8; 38] = *b"ch4,n2o,co2,excreted,land,grazing,co2e";
+
+pub const FIGURE_NAMES: [u8; 51] = *b"CH4
+N2O
+CO2
+N excreted
+N for land
+grazing CO2e
+CO2e";
 
 // CO2 and CO2e are signed.
 pub fn is_signed(column: usize) -> bool
@@ -139,7 +147,8 @@ pub fn put_header(out: &mut [u8], at: usize, form: Form) -> usize
     match form {
         Form::Listing => at,
         Form::Sheet => {
-            let end = put_text(out, at, &COLUMN_NAMES);
+            let figures = put_text(out, at, b"kind,group,");
+            let end = put_text(out, figures, &FIGURE_COLUMNS);
             put_text(out, end, b"\r\n")
         }
     }
@@ -151,10 +160,11 @@ pub fn say_form(out: &mut [u8], at: usize) -> usize
     ensures { λ r. ⌜ Said (now (out .entry)) (now (out .exit)) at sheetForm r ⌝ }
 {
     let first = say(out, at, b"first the row ");
-    let names = say(out, first, &COLUMN_NAMES);
+    let names = say(out, first, b"kind,group,");
+    let figures = say(out, names, &FIGURE_COLUMNS);
     say(
         out,
-        names,
+        figures,
         b", then rows of nine columns, no leading zeros, the last empty but on kind 8; CRLF after each",
     )
 }

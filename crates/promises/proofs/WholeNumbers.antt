@@ -18,7 +18,7 @@ use Rattle.codec.proofs.BigEndian.{valAt-be}
 use Rattle.codec.proofs.EachKind.{row-of-kind}
 use Rattle.codec.proofs.Round.{bytes-join}
 use Rattle.codec.proofs.Values.{bytes-length}
-use Rattle.line_bytes.specs.Lines.{totalFields, totalLength, lineSize, totalBytes}
+use Rattle.line_bytes.specs.Lines.{figureCount, totalFields, totalLength, lineSize, totalBytes}
 use Rattle.grams.specs.Farm.{FactorsMost, SumsIn, co2eOf}
 use Rattle.grams.specs.Units.{co2Grams, gramsCo2, co2Word}
 use Rattle.grams.specs.declared.farm.Factors.{Factors}
@@ -172,8 +172,8 @@ at-end : (f : Figures) (c : Co2) → co2Word c < bytesHold 8 → valAt (totalWit
 unfolding totalBytes totalFields bytesOf size
 at-end f c small =
     let front : List ℕ = totalLength ∷ 1 ∷ 8 ∷ 0 ∷ listed f in
-    let p : List ℕ = bytesOf (take 10 totalFields) front 0 in
-    let long : length p ≡ lineSize = bytes-length (take 10 totalFields) front 0 in
+    let p : List ℕ = bytesOf (take (4 + figureCount) totalFields) front 0 in
+    let long : length p ≡ lineSize = bytes-length (take (4 + figureCount) totalFields) front 0 in
     rw (bytes-join totalFields front (co2Word c ∷ []) (omega arith)) (rw long at (valAt-be 8 (co2Word c) p [] small))
 
 end-signed : (f : Figures) (c : Co2) → co2Word c < bytesHold 8 → lastSigned (totalWith f c) ≡ co2Grams c

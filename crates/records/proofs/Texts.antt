@@ -18,7 +18,7 @@ use Rattle.line_bytes.specs.Lines.{lineFields, totalFields, lineSize, subtotalK
 use Rattle.line_rows.specs.declared.Form.the-variants.{Sheet}
 use Rattle.line_rows.specs.Rows.{lineNumbers, columnsText}
 use Rattle.retype.proofs.Tables.{name-short}
-use Rattle.records.specs.Table.{subtotalSize, subtotalIn, ownIn, figuresText, groupIn, Row, rowText, subtotalRow, afterSubtotal, textOf}
+use Rattle.records.specs.Table.{subtotalSize, subtotalIn, ownIn, emptyText, figuresText, groupIn, Row, rowText, subtotalRow, afterSubtotal, textOf}
 
 -- a text by another name
 pub put-as : {xs zs s t : List ℕ} {at r : ℕ} → s ≡ t → Put xs zs at s r → Put xs zs at t r
@@ -27,7 +27,7 @@ put-as e p = rw (← e) p
 -- ---- the figures of a line
 
 module _ (line : List ℕ) where
-  pub figures-none : length line < frontSize line → figuresText line ≡ ascii ",,,,,,,\r\n"
+  pub figures-none : length line < frontSize line → figuresText line ≡ emptyText
   unfolding figuresText
   figures-none h = rw (lt-ltb _ _ h) refl
 

@@ -5,16 +5,16 @@
 use Prim.Native.Nat.{ℕ, suc, _+_, _-_, _*_}
 use mathlib.Core.List.{List, [], _∷_, _++_}
 use mathlib.Core.Bool.{false, _&&_}
-use lib.ListN.{length, getD, take, drop}
+use lib.ListN.{length, getD, take, drop, replicate}
 use lib.Dec.{leb, ltb, eqb}
 use Rattle.base.specs.Choice.{pick}
 use Rattle.printing.specs.Ascii.{ascii}
 use Rattle.printing.specs.Decimal.{decimal}
 use Rattle.names.specs.Names.{kindName}
 use Rattle.codec.specs.Codec.{valuesAt}
-use Rattle.line_bytes.specs.Lines.{lineFields, lineSize, subtotalKind, isTotal, frontSize}
+use Rattle.line_bytes.specs.Lines.{figureCount, lineFields, lineSize, subtotalKind, isTotal, frontSize}
 use Rattle.line_rows.specs.declared.Form.the-variants.{Sheet}
-use Rattle.line_rows.specs.Rows.{lineNumbers, columnsText, ending}
+use Rattle.line_rows.specs.Rows.{lineNumbers, columnsText, ending, figureColumns}
 use Rattle.account.specs.declared.Account.{Account}
 use Rattle.account.specs.Range.{accountInRange}
 use Rattle.account.specs.Sorts.{sortOf, bySort}
@@ -25,7 +25,7 @@ use Rattle.retype.specs.Book.{Retyping, typedBy, lineMost}
 
 -- the names of the columns
 abbrev pub header : List ℕ
-header = ascii "record,first,last,name,group,typed,ch4,n2o,co2,excreted,land,grazing,co2e\r\n"
+header = ascii "record,first,last,name,group,typed," ++ (figureColumns ++ ascii "\r\n")
 
 -- ---- the lines of a record
 
@@ -42,10 +42,14 @@ ownIn lines = drop (subtotalSize lines) lines
 
 -- ---- cells
 
--- the figures of a line as a sheet has them, from ch4 on; seven empty cells where there is no line
+-- an empty cell for each figure and for CO2e
+abbrev pub emptyText : List ℕ
+emptyText = replicate (figureCount + 1) 44 ++ ascii "\r\n"
+
+-- the figures of a line as a sheet has them, from ch4 on; empty cells where there is no line
 unfoldable pub figuresText : List ℕ → List ℕ
 figuresText line =
-    pick (ltb (length line) (frontSize line)) (ascii ",,,,,,,\r\n")
+    pick (ltb (length line) (frontSize line)) emptyText
     (columnsText Sheet 2 (drop 2 (lineNumbers line)) ++ ending Sheet (isTotal line))
 
 -- the group that a line bears, its fourth value; empty where there is no line
@@ -145,7 +149,7 @@ numberMost = 21
 
 -- the figures of a line, or the empty cells, and CRLF
 abbrev pub figuresMost : ℕ
-figuresMost = 7 * numberMost + 2
+figuresMost = (figureCount + 1) * numberMost + 2
 
 -- a subtotal's row: `,,,subtotal`, the group, a comma, the figures
 abbrev pub subtotalMost : ℕ

@@ -5,12 +5,14 @@ use account::sort::sort_of;
 use base::first_of;
 use base::rest_of;
 use codec::kinds::CLOSE;
+use line_bytes::FIGURES;
 use line_bytes::LINE_SIZE;
 use line_bytes::LINES_MOST;
 use line_bytes::SUBTOTAL;
 use line_bytes::detail_numbers;
 use line_bytes::front_size;
 use line_bytes::total_numbers;
+use line_rows::FIGURE_COLUMNS;
 use line_rows::is_signed;
 use names::say_kind;
 use printing::put_byte;
@@ -39,7 +41,7 @@ ghost use Rattle.line_rows.specs.Rows.{columnText, columnsText};
 ghost use Rattle.account.specs.Range.{AccountInRange};
 ghost use Rattle.walk.specs.Walk.{nextOf};
 ghost use Rattle.retype.specs.Book.{Retypes, lineMost};
-ghost use Rattle.records.specs.Table.{header, subtotalSize, ownIn, figuresText, groupIn, groupText, placeText};
+ghost use Rattle.records.specs.Table.{header, subtotalSize, ownIn, emptyText, figuresText, groupIn, groupText, placeText};
 ghost use Rattle.records.specs.Table.{rowText, subtotalRow, rowWith, ownRow, afterSubtotal, textOf};
 ghost use Rattle.records.specs.Accepted.{Describes};
 ghost use Rattle.records.specs.Table.{rowsBy, rowsAfter, numberMost, figuresMost, subtotalMost, ownMost, rowsMost};
@@ -47,7 +49,7 @@ ghost use Rattle.records.specs.Table.{rowsBy, rowsAfter, numberMost, fig
 // A number has at most 20 bytes, and a comma before it.
 const NUMBER_MOST: usize = 21;
 // The figures of a line, or the empty cells, and CRLF.
-const FIGURES_MOST: usize = 7 * NUMBER_MOST + 2;
+const FIGURES_MOST: usize = (FIGURES + 1) * NUMBER_MOST + 2;
 // A subtotal's row: `,,,subtotal`, the group, a comma, the figures.
 const SUBTOTAL_MOST: usize = 11 + NUMBER_MOST + 1 + FIGURES_MOST;
 // A record's own: three numbers, a name of 7 bytes with a comma on either side, the group, a comma, the typed line, the figures.
@@ -111,17 +113,28 @@ fn put_figures(out: &mut [u8], at: usize, line: &[u8]) -> usize
     }
 }
 
-// The same, or empty cells where no whole line is given.
+// An empty cell for each figure and for CO2e.
+fn put_none(out: &mut [u8], at: usize) -> usize
+    requires { ⌜ at + figuresMost ≤ length (now out) ⌝ }
+    ensures { λ r. ⌜ Put (now (out .entry)) (now (out .exit)) at emptyText r ⌝ }
+    ensures { λ r. ⌜ r ≤ at + figuresMost ⌝ }
+{
+    let commas = [b','; FIGURES + 1];
+    let end = put_text(out, at, &commas);
+    put_text(out, end, b"\r\n")
+}
+
+// The figures of a line, or empty cells where no whole line is given.
 fn put_line(out: &mut [u8], at: usize, line: &[u8]) -> usize
     requires { ⌜ at + figuresMost ≤ length (now out) ⌝ }
     ensures { λ r. ⌜ Put (now (out .entry)) (now (out .exit)) at (figuresText (now (line .entry))) r ⌝ }
     ensures { λ r. ⌜ r ≤ at + figuresMost ⌝ }
 {
     if line.len() < LINE_SIZE {
-        return put_text(out, at, b",,,,,,,\r\n");
+        return put_none(out, at);
     }
     if line.len() < front_size(line) {
-        return put_text(out, at, b",,,,,,,\r\n");
+        return put_none(out, at);
     }
     put_figures(out, at, line)
 }
@@ -357,9 +370,7 @@ pub fn rows(from: Account, at: usize, book: &[u8], out: &mut [u8]) -> Retyped
 pub fn say_header(out: &mut [u8]) -> usize
     ensures { λ r. ⌜ Said (now (out .entry)) (now (out .exit)) 0 header r ⌝ }
 {
-    say(
-        out,
-        0,
-        b"record,first,last,name,group,typed,ch4,n2o,co2,excreted,land,grazing,co2e\r\n",
-    )
+    let names = say(out, 0, b"record,first,last,name,group,typed,");
+    let end = say(out, names, &FIGURE_COLUMNS);
+    say(out, end, b"\r\n")
 }

@@ -15,10 +15,19 @@ requires c κs =
 requires-2 : tie.Need-put-text-requires-2
 unfolding header
 requires-2 c κs =
-    let names = c .before .before .before .before in
-    let first = names .before .before .before in
+    let kind = c .before .before .before .before in
+    let first = kind .before .before .before in
     let room = rw (first .enum-told2 .given .1) at (first .before .before .before .pre) in
-    omega (arith, room, names .put-text .ensures .next, put-length (names .put-text .ensures))
+    omega (arith, room, kind .put-text .ensures .next, put-length (kind .put-text .ensures))
+
+requires-3 : tie.Need-put-text-requires-3
+unfolding header
+requires-3 c κs =
+    let figures = c .before .before .before .before in
+    let kind = figures .before .before .before .before .before in
+    let first = kind .before .before .before in
+    let room = rw (first .enum-told2 .given .1) at (first .before .before .before .pre) in
+    omega (arith, room, kind .put-text .ensures .next, put-length (kind .put-text .ensures), figures .put-text2 .ensures .next)
 
 returns : tie.Need-returns
 unfolding header
@@ -28,8 +37,10 @@ returns-2 : tie.Need-returns-2
 unfolding header
 returns-2 c =
     let end = c .before .before in
-    let names = end .before .before .before .before .before in
-    rw (names .before .before .before .enum-told2 .given .1) (and-then (names .put-text .ensures) (end .put-text2 .ensures))
+    let figures = end .before .before .before .before .before in
+    let kind = figures .before .before .before .before .before in
+    rw (kind .before .before .before .enum-told2 .given .1)
+    (and-then (kind .put-text .ensures) (and-then (figures .put-text2 .ensures) (end .put-text3 .ensures)))
 
 pub put-header-spec : {M : Type 1} → statement M
 put-header-spec =
@@ -41,6 +52,8 @@ put-header-spec =
     requires
     (λ c. search needs)
     requires-2
+    (λ c. search needs)
+    requires-3
     returns
     (λ c. search needs)
     returns-2)

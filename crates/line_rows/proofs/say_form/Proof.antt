@@ -15,8 +15,11 @@ say-form-spec =
     (λ c. search needs)
     (λ c κs. search needs)
     (λ c. search needs)
+    (λ c κs. search needs)
+    (λ c. search needs)
     (λ c.
     let p1 = c .before .before in
     let p2 = p1 .before .before .before .before .before in
     let p3 = p2 .before .before .before .before .before in
-    p3 .say .ensures ⟫ p2 .say2 .ensures ⟫ p1 .say3 .ensures))
+    let p4 = p3 .before .before .before .before .before in
+    p4 .say .ensures ⟫ p3 .say2 .ensures ⟫ p2 .say3 .ensures ⟫ p1 .say4 .ensures))

@@ -10,28 +10,24 @@ pub put-line-spec : {M : Type 1} → statement M
 put-line-spec =
     tie.close
     (tie.spec
-    (λ c. search needs)
     (λ c κs. search needs)
     (λ c. search needs)
     (λ c.
-    let c2 = c .before .before in
-    let c5 = c2 .before .before .before in
-    let c8 = c5 .before .before .before in
-    let line = c8 .args .line .now in
-    let p = c2 .put-text .ensures in
-    (rw (figures-none line (omega (arith, size-least line, c5 .if1 .taken))) p, omega (arith, p .next)))
+    let none = c .before .before in
+    let short = none .before .before in
+    let line = short .before .before .before .args .line .now in
+    let p = none .put-none .ensures in
+    (rw (figures-none line (omega (arith, size-least line, short .if1 .taken))) (p .0), p .1))
     (λ c κs. search needs)
-    (λ c. search needs)
     (λ c κs. search needs)
     (λ c. search needs)
     (λ c.
-    let c2 = c .before .before in
-    let c5 = c2 .before .before .before in
-    let c6 = c5 .before in
-    let c10 = c6 .before .before .before .before in
-    let line = c10 .args .line .now in
-    let p = c2 .put-text2 .ensures in
-    (rw (figures-none line (omega (arith, c6 .front-size .ensures, c5 .if2 .taken))) p, omega (arith, p .next)))
+    let none = c .before .before in
+    let short = none .before .before in
+    let size = short .before in
+    let line = size .before .before .before .before .args .line .now in
+    let p = none .put-none2 .ensures in
+    (rw (figures-none line (omega (arith, size .front-size .ensures, short .if2 .taken))) (p .0), p .1))
     (λ c κs. search needs)
     (λ c. search needs)
     (λ c. search needs))

@@ -1,6 +1,6 @@
 -- Assumes nothing.
 use borrow.Author.Needs.{needs}
-use Rattle.compare.specs.Figures.{figureNames}
+use Rattle.line_rows.specs.Rows.{figureNames}
 use Rattle.compare.proofs.figures.say_name.Statement.{statement}
 use Rattle.compare.proofs.figures.say_name.Tie as tie
 
