@@ -2,9 +2,11 @@
 -- Assumes nothing.
 use Prim.Native.Nat.{ℕ, zero, suc}
 use mathlib.Core.Path.{_≡_}
-use mathlib.Core.List.{List, [], _∷_, _++_}
-use Rattle.grams.specs.Units.{noCo2, co2Word}
+use mathlib.Core.List.{List, [], _++_}
+use Rattle.grams.specs.Units.{gramsN2o}
 use Rattle.line_bytes.specs.Lines.{subtotalKind, lineBytes}
+use Rattle.account.specs.declared.Subtotal.{Subtotal}
+use Rattle.account.specs.Figures.{listed, groupFigures}
 use Rattle.page.specs.declared.Group.{Group}
 use Rattle.page.specs.declared.Place.{Place}
 use Rattle.page.specs.declared.Scale.{Scale}
@@ -22,7 +24,9 @@ rowsBy (suc n) sc p xs = rowAt sc p xs ++ rowsBy n sc (placeAfter p xs) xs
 
 -- the subtotal line of a group with the figures of its row
 abbrev pub subtotalOf : Group → List ℕ
-subtotalOf g = lineBytes subtotalKind (g .group) (g .ch4 ∷ g .n2o ∷ co2Word noCo2 ∷ g .excreted ∷ g .land ∷ 0 ∷ [])
+subtotalOf g =
+    let s : Subtotal = record { ch4 = g .ch4; n2o = gramsN2o (g .n2o); excreted = g .excreted; land = g .land } in
+    lineBytes subtotalKind (g .group) (listed (groupFigures s))
 
 -- ---- no figures
 

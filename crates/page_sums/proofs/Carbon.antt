@@ -1,21 +1,21 @@
 -- CO2 of a record, with its sign: how far it moves the sum, and what each kind has.
 -- Assumes nothing.
 use Prim.Native.Nat.{ℕ, _+_, _-_, _*_, _^_, _%_, _≤_, _<_}
-use mathlib.Core.Path.{_≡_, refl, sym, ap, _∙_}
+use mathlib.Core.Path.{_≡_, refl, sym, ap, _∙_, subst}
 use mathlib.Core.List.{List}
-use mathlib.Core.Bool.{Bool, true, false, _&&_, _||_}
+use mathlib.Core.Bool.{true, false}
 use native.Mathlib.Omega.{arith}
-use borrow.Author.Tests.{eqb-true, ltb-true, ltb-false, ne-eqb}
+use borrow.Author.Tests.{eqb-true, ltb-true, ltb-false}
 use lib.Dec.{eqb, ltb}
 use lib.IntN.{ℤ, pos, negsuc, natAbs, _+ℤ_, +ℤ-idr}
 use lib.Signed.{mag}
 use Rattle.base.specs.Choice.{pick}
 use Rattle.base.specs.Signed.{wordOf, signedOf}
-use Rattle.base.proofs.Tests.{by-test, of-choice, no-bool, not-false, and-r, or-l}
+use Rattle.base.proofs.Tests.{by-test, of-choice, no-bool, not-false, or-l}
 use Rattle.base.proofs.Signed.{word-plus, word-signed, signed-mag}
-use Rattle.codec.specs.Table.{fields, rowKind, isRow, isKind}
+use Rattle.codec.specs.Table.{fields, isRow, isKind}
 use Rattle.codec.specs.Codec.{firstBad}
-use Rattle.codec.proofs.EachKind.{row-of-kind, each-row, kind-most}
+use Rattle.codec.proofs.EachKind.{row-of-kind}
 use Rattle.grams.specs.Units.{co2Grams, plusCo2, Co2Within}
 use Rattle.grams.specs.declared.units.Co2.{Co2}
 use Rattle.grams.proofs.Carbon.{plus-grams}
@@ -23,7 +23,7 @@ use Rattle.grams.proofs.farm.Small.{energy-small, energy-grams, soil-small, soi
 use Rattle.account.specs.declared.Account.{Account}
 use Rattle.account.specs.declared.Heading.{Heading}
 use Rattle.account.specs.Figures.{figuresOf}
-use Rattle.account.specs.Sorts.{sortOf, bySort}
+use Rattle.account.specs.Sorts.{sortOf}
 use Rattle.account.specs.Range.{AccountInRange}
 use Rattle.account.specs.Told.{Small}
 use Rattle.account.specs.Judge.{Step, versionOf, kindByte, recordRow, valuesOf, NotRefused, partsWrong, first, refusals, accepted, judge}
@@ -35,6 +35,7 @@ use Rattle.account.proofs.EachFigure.Energy.{energy-in}
 use Rattle.account.proofs.EachFigure.Soil.{soil-in}
 use Rattle.account.proofs.Told.{head-most}
 use Rattle.page.specs.Bars.{minus8}
+use Rattle.page_sums.proofs.OtherKinds.{hasCo2, no-carbon, detail-row}
 
 -- ---- words
 
@@ -63,66 +64,43 @@ added-word a g h =
 
 -- ---- what each kind has
 
-abbrev pub isFarms : ℕ → Bool
-isFarms k = eqb k 6 || (eqb k 7 || eqb k 9)
-
--- CO2 of a record of the kind: none but of the farm's kinds, and below zero of tillage alone
+-- CO2 of a record of the kind: none but of those that have it, and below zero of tillage alone
 record CarbonOf (kind : ℕ) (g : Co2) : Type 0 where
-  none : isFarms kind ≡ false → co2Grams g ≡ pos 0
+  none : hasCo2 kind ≡ false → co2Grams g ≡ pos 0
   up : eqb kind 9 ≡ false → wordOf (co2Grams g) ≤ 10 ^ 13
 
 nothing : (kind : ℕ) (g : Co2) → co2Grams g ≡ pos 0 → CarbonOf kind g
 nothing kind g e = record { none = λ t. e; up = λ t. rw e (omega arith) }
 
-rises : (kind n : ℕ) (g : Co2) → isFarms kind ≡ true → co2Grams g ≡ pos n → Co2Within 1 g → CarbonOf kind g
+rises : (kind n : ℕ) (g : Co2) → hasCo2 kind ≡ true → co2Grams g ≡ pos n → Co2Within 1 g → CarbonOf kind g
 rises kind n g f e w =
     let most : n ≤ 1 * 10 ^ 13 = rw e at w in
     record { none = λ t. no-bool (sym t ∙ f); up = λ t. rw e (omega (arith, most)) }
 
-module _ (kind : ℕ) (h : Heading) (v : List ℕ) where
+module _ (h : Heading) (v : List ℕ) where
   abbrev AtRow : ℕ → Type 0
-  AtRow row = DetailKind row → firstBad (fields row) v 0 ≡ 0 → kind ≡ rowKind row → CarbonOf kind (figuresOf h row v .co2)
+  AtRow row = firstBad (fields row) v 0 ≡ 0 → CarbonOf row (figuresOf h row v .co2)
 
-  carbon-of : (row : ℕ) → isRow row ≡ true → AtRow row
-  unfolding sortOf figuresOf
-  carbon-of =
-      each-row AtRow (
-        (λ d. no-bool d),
-        (
-          (λ d. no-bool d),
-          (
-            (λ d e q. nothing kind _ refl),
-            (
-              (λ d e q. nothing kind _ refl),
-              (
-                (λ d e q. nothing kind _ refl),
-                (
-                  (λ d e q. rises kind _ _ (rw q refl) (energy-grams (energy-in v e)) (energy-small (energy-in v e))),
-                  (
-                    (λ d e q. rises kind _ _ (rw q refl) (soil-grams (soil-in v e)) (soil-small (soil-in v e))),
-                    (
-                      (λ d. no-bool d),
-                      (
-                        (λ d e q. record { none = λ t. no-bool (sym t ∙ (rw q refl)); up = λ t. no-bool (sym t ∙ (rw q refl)) }),
-                        ((λ d e q. nothing kind _ refl), ((λ d. no-bool d), tt)),
-                      ),
-                    ),
-                  ),
-                ),
-              ),
-            ),
-          ),
-        ),
-      )
+  of-energy : AtRow 6
+  unfolding figuresOf
+  of-energy e = rises 6 _ _ refl (energy-grams (energy-in v e)) (energy-small (energy-in v e))
+
+  of-soil : AtRow 7
+  unfolding figuresOf
+  of-soil e = rises 7 _ _ refl (soil-grams (soil-in v e)) (soil-small (soil-in v e))
+
+  -- with its sign
+  of-tillage : AtRow 9
+  of-tillage e = record { none = λ t. no-bool (sym t); up = λ t. no-bool (sym t) }
+
+  carbon-of : (row : ℕ) → isRow row ≡ true → DetailKind row → AtRow row
+  carbon-of row k d =
+      by-test (eqb row 6) (λ t. rw (eqb-true row 6 t) of-energy)
+      (λ t6. by-test (eqb row 7) (λ t. rw (eqb-true row 7 t) of-soil)
+      (λ t7. by-test (eqb row 9) (λ t. rw (eqb-true row 9 t) of-tillage)
+      (λ t9 e. nothing row _ (ap co2Grams (no-carbon h v row k d (rw (t6, t7, t9) refl))))))
 
 -- ---- what an accepted record adds
-
-pub kind-row : (r : List ℕ) → isKind (kindByte r) ≡ true → kindByte r ≡ rowKind (recordRow r)
-kind-row r h =
-    let most : kindByte r ≤ 10 = kind-most (kindByte r) h in
-    by-test (eqb (versionOf r) 2 && eqb (kindByte r) 1)
-    (λ t. rw t (eqb-true _ _ (and-r (eqb (versionOf r) 2) _ t)))
-    (λ t. let n : kindByte r ≡ 11 → ⊥ = λ q. omega (arith, q, most) in rw (t, ne-eqb _ _ n) refl)
 
 -- so many grams of CO2, from the account a to b
 pub record Moves (kind : ℕ) (a b : Account) : Type 0 where
@@ -131,7 +109,7 @@ pub record Moves (kind : ℕ) (a b : Account) : Type 0 where
   pub sum : signedOf (b .sums .co2 .0) ≡ signedOf (a .sums .co2 .0) +ℤ grams
   pub most : natAbs grams ≤ 10 ^ 13
   pub small : b .sums .co2 .0 < 2 ^ 64
-  pub none : isFarms kind ≡ false → grams ≡ pos 0
+  pub none : hasCo2 kind ≡ false → grams ≡ pos 0
   pub up : eqb kind 9 ≡ false → wordOf grams ≤ 10 ^ 13
   pub counts : b .records ≡ a .records + 1
 
@@ -181,8 +159,9 @@ module _ (a : Account) (range : AccountInRange a) (small : a .sums .co2 .0 < 2 ^
 
     figure-carbon : DetailKind (recordRow r) → CarbonOf (kindByte r) (figuresOf (a .heading) (recordRow r) (valuesOf r) .co2)
     figure-carbon d =
-        carbon-of (kindByte r) (a .heading) (valuesOf r) (recordRow r) (row-of-kind (versionOf r) (kindByte r) k) d
-        (passed a (recordRow r) (valuesOf r) (t .values) .ranges) (kind-row r k)
+        subst (λ (kind : ℕ). CarbonOf kind (figuresOf (a .heading) (recordRow r) (valuesOf r) .co2)) (detail-row r d)
+        (carbon-of (a .heading) (valuesOf r) (recordRow r) (row-of-kind (versionOf r) (kindByte r) k) d
+        (passed a (recordRow r) (valuesOf r) (t .values) .ranges))
 
   accepted-moves : eqb (first (refusals a r)) 0 ≡ true → MovesTo (accepted a (recordRow r) (valuesOf r))
   unfolding accepted

@@ -11,17 +11,15 @@ use borrow.Author.Tests.{eqb-true, eqb-false, ltb-true}
 use lib.Dec.{eqb, ltb}
 use Rattle.base.specs.Choice.{pick}
 use Rattle.base.proofs.Tests.{by-test, of-choice, not-true, not-false, and-l, and-r}
+use Rattle.codec.specs.Table.{isKind}
+use Rattle.codec.proofs.EachKind.{row-of-kind}
 use Rattle.account.specs.declared.Account.{Account}
 use Rattle.account.specs.declared.Farm.{Farm}
-use Rattle.account.specs.declared.Figures.{Figures}
-use Rattle.account.specs.declared.Heading.{Heading}
-use Rattle.account.specs.declared.sort.Sort.the-variants.{Opens, Heads, OfGroup, OfFarm, Closes}
 use Rattle.account.specs.Account.{noRecord}
-use Rattle.account.specs.Figures.{figuresOf}
 use Rattle.account.specs.Sorts.{sortOf}
 use Rattle.account.specs.Range.{AccountInRange}
-use Rattle.account.specs.Judge.{Step, kindByte, recordRow, valuesOf, inPlace, first, refusals, accepted, judge}
-use Rattle.account.proofs.Sorts.{by-sort, sort-farm, not-of-group}
+use Rattle.account.specs.Judge.{Step, versionOf, kindByte, recordRow, valuesOf, inPlace, first, refusals, accepted, judge}
+use Rattle.account.proofs.Sorts.{by-sort, sort-farm}
 use Rattle.account.proofs.Refusals.{not-refused}
 use Rattle.account.proofs.EachFigure.{of-farm}
 use Rattle.account.proofs.Keeps.{in-range-none, in-range-judge}
@@ -34,6 +32,7 @@ use Rattle.page.specs.Figures.{nextAccount, lastOf, warmed, groupStep, groupOf}
 use Rattle.page_sums.specs.Tables.{GroupRows, nextGroups, noGroups, groupsOf, groupBar, sumBy}
 use Rattle.page_sums.proofs.Columns.{map-append, sum-more, Grows, grows-append}
 use Rattle.page_sums.proofs.Plain.{plainly, warmed-plain, plain-plus, all-most, step-plain}
+use Rattle.page_sums.proofs.OtherKinds.{none-grazed}
 use Rattle.page_sums.proofs.RowKinds.{kind-heads, kind-closes, not-heading, not-close, detail-headed}
 
 -- ---- the columns of the groups, and the step that their CO2e come to
@@ -151,14 +150,6 @@ pub record Kept (x : GroupRows) (a : Account) : Type 0 where
   pub begun : a .stage < 2 → Begun x a
   pub shut : a .stage ≡ 2 → Ended (x .rows) a
 
-none-grazed : (h : Heading) (k : ℕ) (v : List ℕ) → sortOf k ≡ OfFarm → figuresOf h k v .grazing .0 ≡ 0
-unfolding figuresOf
-none-grazed h k v e =
-    let n = not-of-group k e in
-    rw (n .0, n .1 .0, n .1 .1 .0, n .1 .1 .1)
-    (of-choice (λ (f : Figures). f .grazing .0 ≡ 0) (eqb k 6) (λ e. refl)
-    (λ e. of-choice (λ (f : Figures). f .grazing .0 ≡ 0) (eqb k 7) (λ e. refl) (λ e. refl)))
-
 module _ (x : GroupRows) (a : Account) (range : AccountInRange a) (early : a .stage < 2) (s : Begun x a) (r : List ℕ) where
   abbrev Keeps : Step → Type 0
   Keeps t = (t .account .stage ≡ 3 → ⊥) → AccountInRange (t .account) → Kept (nextGroups x a r) (t .account)
@@ -238,7 +229,8 @@ module _ (x : GroupRows) (a : Account) (range : AccountInRange a) (early : a .st
       }))
       (λ q m i.
       let z = of-farm (a .heading) (recordRow r) (valuesOf r) q in
-      let g = none-grazed (a .heading) (recordRow r) (valuesOf r) q in
+      let k = row-of-kind (versionOf r) (kindByte r) (not-false (isKind (kindByte r)) (t .kind)) in
+      let g = none-grazed (a .heading) (valuesOf r) (recordRow r) k q in
       still-begun (not-heading r (rw q refl)) (not-close r (rw q refl)) i none-open
       (record {
         ch4 = omega (arith, s .ch4, z .ch4);

@@ -1,6 +1,7 @@
 mod Columns
 mod Plain
 pub mod RowKinds
+mod OtherKinds
 mod GroupWalk
 pub mod GroupTexts
 mod Carbon

@@ -10,6 +10,7 @@ use borrow.Author.Tests.{eqb-true, eq-eqb, leb-true}
 use lib.Dec.{eqb, leb}
 use Rattle.base.specs.Choice.{pick}
 use Rattle.base.proofs.Tests.{by-test, no-bool, and-l, and-false, not-false}
+use Rattle.codec.specs.Table.{lastRow}
 use Rattle.account.specs.declared.Account.{Account}
 use Rattle.account.specs.declared.sort.Sort.the-variants.{Heads, OfGroup, Closes}
 use Rattle.account.specs.Sorts.{isFarm, sortOf, bySort}
@@ -24,7 +25,7 @@ module _ (r : List ℕ) where
   row-of : (n : ℕ) → eqb n 1 ≡ false → kindByte r ≡ n → recordRow r ≡ n
   row-of n e k = rw (k, e, and-false (eqb (versionOf r) 2)) refl
 
-  kind-of : (n : ℕ) → (11 ≡ n → ⊥) → recordRow r ≡ n → eqb (kindByte r) n ≡ true
+  kind-of : (n : ℕ) → (lastRow ≡ n → ⊥) → recordRow r ≡ n → eqb (kindByte r) n ≡ true
   kind-of n other e =
       by-test (eqb (versionOf r) 2 && eqb (kindByte r) 1)
       (λ t. absurd (other (rw t at e)))

@@ -2,9 +2,9 @@
 -- zero, and tillage's, with its sign.
 -- Assumes nothing.
 use Prim.Native.Nat.{ℕ, _+_, _-_, _*_, _^_, _%_, _≤_, _<_}
-use mathlib.Core.Path.{_≡_, refl, sym, ap, _∙_}
+use mathlib.Core.Path.{_≡_, refl, sym, ap, _∙_, subst}
 use mathlib.Core.List.{List, [], _∷_}
-use mathlib.Core.Bool.{Bool, true, false, _||_}
+use mathlib.Core.Bool.{Bool, true, false}
 use native.Mathlib.Omega.{arith}
 use borrow.Author.Tests.{eqb-true, eqb-false, ltb-true}
 use lib.Dec.{eqb, ltb}
@@ -13,15 +13,16 @@ use Rattle.base.specs.Choice.{pick}
 use Rattle.base.specs.Signed.{wordOf, signedOf}
 use Rattle.base.proofs.Signed.{signed-word, words-plus, abs-plus}
 use Rattle.base.proofs.Tests.{of-choice, by-test, no-bool, not-true, not-false, and-l, and-r}
-use Rattle.codec.specs.Table.{rowKind, isKind, isRow}
-use Rattle.codec.proofs.EachKind.{row-of-kind, each-row}
+use Rattle.codec.specs.Table.{isKind}
+use Rattle.codec.proofs.EachKind.{row-of-kind}
 use Rattle.account.specs.declared.Account.{Account}
 use Rattle.account.specs.Account.{noRecord}
 use Rattle.account.specs.Range.{AccountInRange}
-use Rattle.account.specs.Sorts.{sortOf, bySort}
+use Rattle.account.specs.Sorts.{sortOf}
 use Rattle.account.specs.Judge.{Step, versionOf, kindByte, recordRow, valuesOf, first, refusals, accepted, judge}
 use Rattle.account.proofs.Sorts.{by-sort}
 use Rattle.account.proofs.Refusals.{not-refused}
+use Rattle.account.proofs.EachFigure.{of-farm}
 use Rattle.account.proofs.Keeps.{in-range-none, in-range-judge}
 use Rattle.book.specs.WholeRecords.{recordsOf}
 use Rattle.walk.specs.Walk.{accepts}
@@ -30,15 +31,13 @@ use Rattle.page.specs.Over.{over}
 use Rattle.page.specs.Bars.{plus8, minus8}
 use Rattle.page.specs.Figures.{nextAccount, lastOf, noSum, withRecord, addKind, sumOf}
 use Rattle.page.proofs.Gathers.{sums-rise}
-use Rattle.page_sums.proofs.Carbon.{isFarms, kind-row, Moves, judge-moves}
+use Rattle.page_sums.proofs.Carbon.{Moves, judge-moves}
+use Rattle.page_sums.proofs.OtherKinds.{hasCo2, isSource, none-grazed, group-source, detail-row}
 
 -- ---- one of seven numbers grows
 
 abbrev pub seven : (ℕ → ℕ) → ℕ
 seven s = s 3 + s 4 + s 5 + s 10 + s 6 + s 7 + s 9
-
-abbrev isSource : ℕ → Bool
-isSource k = eqb k 3 || (eqb k 4 || (eqb k 5 || (eqb k 10 || (eqb k 6 || (eqb k 7 || eqb k 9)))))
 
 bump : (k d : ℕ) (s : ℕ → ℕ) → (isSource k ≡ false → d ≡ 0) → seven (λ i. pick (eqb k i) (s i + d) (s i)) ≡ seven s + d
 bump k d s z =
@@ -52,30 +51,6 @@ bump k d s z =
     (λ t9. let e : d ≡ 0 = z (rw (t3, t4, t5, t10, t6, t7, t9) refl) in rw (t3, t4, t5, t10, t6, t7, t9) (omega (arith, e)))))))))
 
 -- ---- a record that is accepted is of one of these kinds, or changes no sum
-
-module _ (kind : ℕ) where
-  detail-source : (row : ℕ) → isRow row ≡ true → bySort (sortOf row) false false true true false ≡ true → kind ≡ rowKind row → isSource kind ≡ true
-  unfolding sortOf
-  detail-source =
-      each-row (λ (row : ℕ). bySort (sortOf row) false false true true false ≡ true → kind ≡ rowKind row → isSource kind ≡ true) (
-        (λ d e. no-bool d),
-        (
-          (λ d e. no-bool d),
-          (
-            (λ d e. rw e refl),
-            (
-              (λ d e. rw e refl),
-              (
-                (λ d e. rw e refl),
-                (
-                  (λ d e. rw e refl),
-                  ((λ d e. rw e refl), ((λ d e. no-bool d), ((λ d e. rw e refl), ((λ d e. rw e refl), ((λ d e. no-bool d), tt))))),
-                ),
-              ),
-            ),
-          ),
-        ),
-      )
 
 module _ (a : Account) (r : List ℕ) where
   -- what the record adds to a sum is nothing where its kind is none of the seven
@@ -92,8 +67,11 @@ module _ (a : Account) (r : List ℕ) where
       let k = not-false (isKind (kindByte r)) (t .kind) in
       let row = row-of-kind (versionOf r) (kindByte r) k in
       by-sort Still (sortOf (recordRow r)) (λ q z. (omega arith, (omega arith, omega arith))) (λ q z. (omega arith, (omega arith, omega arith)))
-      (λ q z. no-bool (sym z ∙ detail-source (kindByte r) (recordRow r) row (rw q refl) (kind-row r k)))
-      (λ q z. no-bool (sym z ∙ detail-source (kindByte r) (recordRow r) row (rw q refl) (kind-row r k)))
+      (λ q z. no-bool (sym z ∙ subst (λ (kind : ℕ). isSource kind ≡ true) (detail-row r (rw q refl)) (group-source (recordRow r) row q)))
+      (λ q z.
+      let none = of-farm (a .heading) (recordRow r) (valuesOf r) q in
+      let g = none-grazed (a .heading) (valuesOf r) (recordRow r) row q in
+      (omega (arith, none .ch4), (omega (arith, none .n2o), omega (arith, g))))
       (λ q z. (omega arith, (omega arith, omega arith)))
 
   still-judged : (judge a r .account .stage ≡ 3 → ⊥) → Still (judge a r)
@@ -199,7 +177,7 @@ module _ (s : ℕ → Sum) (a : Account) (r : List ℕ) (few : a .records ≤ 40
   without : (i : ℕ) → eqb (kindByte r) i ≡ false → after i .co2 ≡ s i .co2
   without i t = rw t refl
 
-  no-gas : (i : ℕ) → isFarms i ≡ false → s i .co2 ≡ 0 → after i .co2 ≡ 0
+  no-gas : (i : ℕ) → hasCo2 i ≡ false → s i .co2 ≡ 0 → after i .co2 ≡ 0
   no-gas i f z =
       by-test (eqb (kindByte r) i)
       (λ t. with-record i t ∙ (rw (z, x .none (rw (eqb-true (kindByte r) i t) f)) refl))

@@ -2,10 +2,12 @@
 -- Assumes nothing.
 use Prim.Native.Nat.{ℕ}
 use mathlib.Core.Path.{_≡_}
-use mathlib.Core.List.{List, [], _∷_}
+use mathlib.Core.List.{List, [], _∷_, _++_}
+use lib.ListN.{length, drop}
 use lib.IntN.{_+ℤ_}
 use Rattle.base.specs.Signed.{signedOf}
 use Rattle.line_bytes.specs.Lines.{totalBytes}
+use Rattle.account.specs.Figures.{listed}
 use Rattle.account.specs.Line.{totalOf}
 use Rattle.page.specs.declared.Group.{Group}
 use Rattle.page.specs.declared.Source.{Source}
@@ -13,9 +15,13 @@ use Rattle.page.specs.declared.Survey.{Survey}
 use Rattle.page.specs.Figures.{lastOf, surveyOf}
 use Rattle.page_sums.specs.Tables.{Bar, groupsOf, groupBars, sourceRows, sourceBars, sumBy, signedBy}
 
--- the figures at the feet of the tables are those of the total line, byte for byte
+-- the figures at the feet of the tables, in the order of a line
+abbrev pub feet : Survey → List ℕ
+feet s = s .ch4 ∷ s .n2o ∷ s .co2 ∷ s .excreted ∷ s .land ∷ s .grazing ∷ []
+
+-- they are those of the total line, byte for byte; a figure that no table shows would stand behind them
 abbrev pub TotalLine : List ℕ → Survey → Type 0
-TotalLine xs s = totalOf (lastOf xs) ≡ totalBytes (s .ch4 ∷ s .n2o ∷ s .co2 ∷ s .excreted ∷ s .land ∷ s .grazing ∷ []) (s .total)
+TotalLine xs s = totalOf (lastOf xs) ≡ totalBytes (feet s ++ drop (length (feet s)) (listed (lastOf xs .sums))) (s .total)
 
 -- the groups: each column, and CO2e with the farm's row
 pub record GroupsAdd (xs : List ℕ) (s : Survey) : Type 0 where

@@ -5,10 +5,11 @@ use mathlib.Core.Path.{_≡_, refl}
 use mathlib.Core.Bool.{Bool}
 use mathlib.Core.List.{List, [], _++_}
 use native.Mathlib.Numerals.{add-one}
+use native.Mathlib.Omega.{arith}
 use lib.ListN.{length, getD, drop, drop-of-length-le}
 use lib.Seq.{drop-cons}
 use Rattle.line_rows.specs.declared.Form.the-variants.{Sheet}
-use Rattle.line_rows.specs.Rows.{isSigned, header}
+use Rattle.line_rows.specs.Rows.{isSigned, rowMost, header}
 use Rattle.table.specs.declared.sums.Sum.{Sum}
 use Rattle.table.specs.Sums.{fits}
 use Rattle.table.specs.Rows.{cellText, cellsText, sumsText}
@@ -32,7 +33,11 @@ module _ (ss : List Sum) (k : ℕ) where
   unfolding sumsText
   no-sum-cell h = rw (drop-of-length-le ss h) refl
 
--- a sheet's header
-pub header-long : length (header Sheet) ≡ 51
+-- a sheet's header has `kind,group`, and fits a row's bytes
+pub header-least : 10 ≤ length (header Sheet)
 unfolding header
-header-long = refl
+header-least = omega arith
+
+pub header-most : length (header Sheet) ≤ rowMost
+unfolding header
+header-most = omega arith

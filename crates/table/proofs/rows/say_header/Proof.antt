@@ -6,7 +6,7 @@ use Prim.Native.Nat.{ℕ}
 use lib.ListN.{drop}
 use Rattle.printing.proofs.Puts.{put-length}
 use Rattle.printing.proofs.Sayings.{_⟫_, text-at-start}
-use Rattle.table.proofs.Columns.{header-long}
+use Rattle.table.proofs.Columns.{header-least, header-most}
 use borrow.Author.Needs.{needs}
 use Rattle.table.proofs.rows.say_header.Statement.{statement}
 use Rattle.table.proofs.rows.say_header.Tie as tie
@@ -16,14 +16,14 @@ say-header-spec =
     tie.close
     (tie.spec
     (λ c. search needs)
-    (λ c κs. omega (arith, header-long))
+    (λ c κs. omega (arith, header-most))
     (λ c. search needs)
     (λ c κs. search needs)
     (λ c. search needs)
     (λ c κs. let p = c .before .before .before .before .before .before .before .before .put-header .ensures in omega (arith, p .room, put-length p))
     (λ c κs.
     let p = c .before .before .before .before .before .before .before .before .before .put-header .ensures in
-    rw (c .first-of .ensures ∙ text-at-start p) (omega (arith, header-long)))
+    rw (c .first-of .ensures ∙ text-at-start p) (omega (arith, header-least)))
     (λ c κs. search needs)
     (λ c. search needs)
     (λ c.
