@@ -19,7 +19,7 @@ use Rattle.page_sums.specs.Tables.{Bar, groupsOf, groupBars, sourceRows,
 abbrev pub feet : Survey → List ℕ
 feet s = s .ch4 ∷ s .n2o ∷ s .co2 ∷ s .excreted ∷ s .land ∷ s .grazing ∷ []
 
--- they are those of the total line, byte for byte; a figure that no table shows would stand behind them
+-- they are those of the total line, byte for byte; a figure that no table shows would stand after them
 abbrev pub TotalLine : List ℕ → Survey → Type 0
 TotalLine xs s = totalOf (lastOf xs) ≡ totalBytes (feet s ++ drop (length (feet s)) (listed (lastOf xs .sums))) (s .total)
 
