@@ -1,5 +1,6 @@
 // Reads line records on standard input and writes their sheet on standard output: for machines that keep lines. The last word goes to standard error.
 use libc::STDIN_FILENO;
+use line_bytes::FIGURES;
 use line_bytes::LINE_SIZE;
 use line_bytes::TOTAL_SIZE;
 use program::report;
@@ -7,13 +8,15 @@ use program::send;
 use sheet::Answer;
 use sheet::remarks;
 ghost use mathlib.Core.Path.{_≡_};
+ghost use Prim.Native.Nat.{_+_, _*_};
 ghost use lib.ListN.{length};
+ghost use Rattle.line_bytes.specs.Lines.{figureCount, lineSize, totalSize};
 
 // The most bytes of a book's lines: of 4,096 records the farm's gives none, the close's two where the first heading gave none, each other one.
 const MOST: usize = 4094 * LINE_SIZE + TOTAL_SIZE;
 
-// The most bytes of their sheet: no line but the close's has a row of 140 bytes, the close's has at most 160, and there are 4,095 of them.
-const MOST_TEXT: usize = 140 * 4096;
+// The most bytes of their sheet: 21 a figure with its comma; kind, group and the row's end have less than 14; and CO2e stands in one row of 4,095.
+const MOST_TEXT: usize = (14 + 21 * FIGURES) * 4096;
 
 // Whether the lines were accepted, and whether all was read and written.
 struct Done {
@@ -23,13 +26,13 @@ struct Done {
 
 // A byte more than the most, by which a longer run is known.
 fn lines_buffer() -> [u8; MOST + 1]
-    ensures { λ r. ⌜ length r ≡ 221139 ⌝ }
+    ensures { λ r. ⌜ length r ≡ 4094 * lineSize + totalSize + 1 ⌝ }
 {
     [0u8; MOST + 1]
 }
 
 fn sheet_buffer() -> [u8; MOST_TEXT]
-    ensures { λ r. ⌜ length r ≡ 573440 ⌝ }
+    ensures { λ r. ⌜ length r ≡ (14 + 21 * figureCount) * 4096 ⌝ }
 {
     [0u8; MOST_TEXT]
 }

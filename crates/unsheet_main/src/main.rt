@@ -6,7 +6,9 @@ use program::send;
 use sheet::Answer;
 use sheet::remarks;
 ghost use mathlib.Core.Path.{_≡_};
+ghost use Prim.Native.Nat.{_*_, _/_};
 ghost use lib.ListN.{length};
+ghost use Rattle.line_bytes.specs.Lines.{totalSize};
 
 // The most bytes of a sheet: a book of 4,096 records has no more rows, the header among them, and none comes to 64 bytes a row.
 const MOST: usize = 64 * 4096;
@@ -28,7 +30,7 @@ fn sheet_buffer() -> [u8; MOST + 1]
 }
 
 fn lines_buffer() -> [u8; MOST_LINES]
-    ensures { λ r. ⌜ length r ≡ 855414 ⌝ }
+    ensures { λ r. ⌜ length r ≡ 262144 / 19 * totalSize ⌝ }
 {
     [0u8; MOST_LINES]
 }
