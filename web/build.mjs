@@ -1,7 +1,7 @@
 // Writes the one page: node web/build.mjs FILE WASM PROGRAMS [MUTANT]. Every byte of it follows from the files that are read: the same files, the
 // same page. Modules are joined in the order of their imports; their import and export words are taken away, so each name has to stand in one module.
 import { createHash } from "node:crypto";
-import { readFileSync, readdirSync, writeFileSync } from "node:fs";
+import { readFileSync, readdirSync, renameSync, writeFileSync } from "node:fs";
 import { dirname, join, relative } from "node:path";
 import { fileURLToPath } from "node:url";
 import { inflateRawSync } from "node:zlib";
@@ -123,7 +123,8 @@ function main() {
     const style = readdirSync(here).filter((name) => name.endsWith(".css")).sort().map(read).join("\n");
     const parts = { policy, style, programs: programs.join("\n"), tables: tables.join("\n"), code };
     const page = read("page.html").replace(/\{\{(\w+)\}\}/g, (_, name) => parts[name] ?? fail(`page.html asks for ${name}`));
-    writeFileSync(file, page);
+    writeFileSync(`${file}.${process.pid}`, page); // whole or not there: a desk may be serving it
+    renameSync(`${file}.${process.pid}`, file);
     process.stdout.write(`${file}: ${Buffer.byteLength(page)} bytes\n`);
 }
 

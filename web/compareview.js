@@ -44,11 +44,15 @@ function drawCompared() {
     const link = saving("Save this comparison");
     give(link, "comparison.txt", output, "text/plain");
     const columns = ["What differs", "", "Old", "New", "Difference"].map((word) => el("th", { scope: "col" }, word));
+    // "all else is the same" is said after what differs; where nothing does, the verdict is all there is.
+    const verdict = el("p", { class: "big" }, el("b", {}, words.at(-1) ?? ""));
+    const differs = parts.length > 0 || words.length > 1;
     byId("compared").replaceChildren(
-        el("p", { class: "big" }, el("b", {}, words.at(-1) ?? "")),
+        ...(differs ? [] : [verdict]),
         ...heads.filter((line) => !line.endsWith(": accepted")).map((line) => el("p", { class: "note" }, icon("open"), ` ${line}`)),
         ...words.slice(0, -1).map((line) => el("p", { class: "said" }, line)),
         ...(parts.length > 0 ? [el("table", { class: "diff" }, el("thead", {}, el("tr", {}, columns)), el("tbody", {}, rowsOfParts(parts)))] : []),
+        ...(differs ? [verdict] : []),
         el("p", { class: "soft" }, remarks), el("p", { class: "aid" }, link),
         el("details", {}, el("summary", {}, "As the program prints it"), el("pre", { class: "mono" }, text)));
 }

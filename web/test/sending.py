@@ -60,8 +60,8 @@ def visit(page, server, path="/app", who=""):
         page.until(lambda: page.buttons("Send"), "there is no Send")
 
 
-def said(page, words, seconds=60):
-    page.until(lambda: page.text("#sent").startswith(words), f"{words} is not said, but {page.text('#sent')}", seconds)
+def said(page, words):
+    page.until(lambda: page.text("#sent").startswith(words), lambda: f"{words} is not said, but {page.text('#sent')}")
 
 
 def deliveries(server):
@@ -104,7 +104,7 @@ def test_desk_killed():
         page.command("Network.emulateNetworkConditions", **SLOW)
         page.press("Send")
         for turn, least in enumerate((1, 12000, 24000)):
-            page.until(lambda: bytes_said(page) >= least, f"{least} bytes were never sent: {page.text('#sent')}", 60)
+            page.until(lambda: bytes_said(page) >= least, lambda: f"{least} bytes were never sent: {page.text('#sent')}")
             server.kill()
             page.until(lambda: "the desk does not answer and is asked again" in page.text("#sent"), "that the desk is gone is not said")
             assert bytes_said(page) < len(book), "all was sent before the desk was killed"
