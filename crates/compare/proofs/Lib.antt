@@ -10,3 +10,4 @@ pub mod Sides
 pub mod Pieces
 pub mod NextGroups
 pub mod OneAnswer
+pub mod PartnerRecords

@@ -10,3 +10,4 @@ pub mod Remarks
 pub mod Inner
 pub mod InnerPairs
 pub mod InnerSides
+pub mod InnerMoved

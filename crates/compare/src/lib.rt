@@ -4,6 +4,7 @@ pub mod remarks; // remarks.rt: hints, and the status
 mod figures; // figures.rt: figures in kilograms
 mod groups; // groups.rt: the steps from section to section
 mod moved; // moved.rt: the same records in another order
+mod partners; // partners.rt: for a record the same one of another run
 pub mod plans; // plans.rt: two runs of records compared
 mod records; // records.rt: a record's bytes
 pub mod runs; // runs.rt: pairs of records

@@ -1,4 +1,9 @@
-// Runs of records that are the same details in another order. They are counted: a book has some thousand records at most.
+// Runs of records that are the same details in another order. Each record of the one takes its partner in the other. One that finds none is counted
+// in both; only where that leaves the answer open, each is.
+use crate::partners::LINKS;
+use crate::partners::RECORDS;
+use crate::partners::note_places;
+use crate::partners::take_partner;
 use crate::places::Place;
 use crate::places::reach;
 use crate::plans::less;
@@ -13,12 +18,13 @@ ghost use Prim.Native.Nat.{_-_, _≤_};
 ghost use lib.ListN.{length, take};
 ghost use Rattle.book.specs.WholeRecords.{recordsOf};
 ghost use Rattle.compare.specs.Inner.{Valid};
+ghost use Rattle.compare.specs.InnerMoved.{Noted};
 ghost use Rattle.compare.specs.Places.{leftOf};
 ghost use Rattle.compare.specs.Moved.{timesIn, asOften, eachAsOften, sameDetails};
 ghost use Rattle.compare.specs.Plans.{movedOf};
 
 // How often the record r stands among the first many records of xs.
-fn times(r: &[u8], xs: &[u8], many: usize) -> usize
+pub(crate) fn times(r: &[u8], xs: &[u8], many: usize) -> usize
     ensures { λ n. ⌜ n ≡ timesIn (now (r .entry)) (take many (recordsOf (now (xs .entry)))) ⌝ }
 {
     let mut at = 0;
@@ -69,14 +75,64 @@ fn all_as_often(xs: &[u8], m: usize, ys: &[u8], n: usize) -> bool
     true
 }
 
-// Whether the first m records of xs and the first n of ys are the same details.
-fn same_details(xs: &[u8], m: usize, ys: &[u8], n: usize) -> bool
+// Whether the first m records of xs and the first n of ys are the same details, each counted in both.
+fn counted(xs: &[u8], m: usize, ys: &[u8], n: usize) -> bool
     ensures { λ b. ⌜ b ≡ sameDetails (take m (recordsOf (now (xs .entry)))) (take n (recordsOf (now (ys .entry)))) ⌝ }
 {
     if !all_as_often(xs, m, ys, n) {
         return false;
     }
     all_as_often(ys, n, xs, m)
+}
+
+// The same, where the first m places are those of the n records of ys: each record of xs takes its partner out of them. One that finds none is
+// counted first.
+fn by_partners(
+    xs: &[u8],
+    m: usize,
+    ys: &[u8],
+    n: usize,
+    places: &mut [usize],
+    links: &mut [u16],
+) -> bool
+    requires { ⌜ Noted (now ys) n (now places) m × (length (now links) ≡ 8192) ⌝ }
+    ensures { λ b. ⌜ b ≡ sameDetails (take m (recordsOf (now (xs .entry)))) (take n (recordsOf (now (ys .entry)))) ⌝ }
+{
+    let mut at = 0;
+    let mut i = 0;
+    while i < m {
+        let rest = rest_of(xs, at);
+        let size = ready(rest);
+        if size == 0 {
+            return counted(xs, m, ys, n);
+        }
+        let r = first_of(rest, size);
+        if !take_partner(r, ys, m, places, links) {
+            if !as_often(r, xs, m, ys, n) {
+                return false;
+            }
+            return counted(xs, m, ys, n);
+        }
+        at += size;
+        i += 1;
+    }
+    true
+}
+
+// Whether the first m records of xs and the first n of ys are the same details.
+fn same_details(xs: &[u8], m: usize, ys: &[u8], n: usize) -> bool
+    ensures { λ b. ⌜ b ≡ sameDetails (take m (recordsOf (now (xs .entry)))) (take n (recordsOf (now (ys .entry)))) ⌝ }
+{
+    if RECORDS < n {
+        return counted(xs, m, ys, n);
+    }
+    let mut places = [0usize; RECORDS];
+    let mut links = [u16::MAX; LINKS];
+    let many = note_places(ys, n, &mut places, &mut links);
+    if many != m {
+        return counted(xs, m, ys, n);
+    }
+    by_partners(xs, m, ys, n, &mut places, &mut links)
 }
 
 // How many records of n stand between the first and the last ones.

@@ -1,4 +1,6 @@
-use Rattle.compare.proofs.MovedRecords.{details-none, details-some}
+use mathlib.Core.Path.{subst}
+use borrow.Author.Needs.{needs}
+use Rattle.compare.specs.InnerMoved.{Noted}
 use Rattle.compare.proofs.moved.same_details.Statement.{statement}
 use Rattle.compare.proofs.moved.same_details.Tie as tie
 
@@ -7,6 +9,16 @@ same-details-spec =
     tie.close
     (tie.spec
     (λ c κs. tt)
-    (λ c. details-none _ _ _ (c .before .all-as-often .ensures) (c .if1 .taken))
+    (λ c. c .counted .ensures)
+    (λ c. search needs)
+    (λ c. search needs)
+    (λ c κs. search needs)
     (λ c κs. tt)
-    (λ c. details-some _ _ _ (c .before .before .all-as-often .ensures) _ (c .before .if1 .left) (c .all-as-often2 .ensures)))
+    (λ c. c .counted2 .ensures)
+    (λ c. search needs)
+    (λ c. search needs)
+    (λ c κs.
+    let p = c .before .before .before .before .before in
+    let a = p .before .before .before .before .before .before .args in
+    (subst (Noted (a .ys .now) (a .n) _) (c .before .before .if2 .left) (p .note-places .ensures), search needs))
+    (λ c. c .before .before .by-partners .ensures))
