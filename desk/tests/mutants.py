@@ -66,7 +66,7 @@ def main() -> int:
         if not words:
             print(f"{edit.name}: nothing refuses it", file=sys.stderr)
             return 1
-        print(f"{edit.name}: refused ({words.partition(': ')[2].split(' (')[0].split(': ')[0]})", flush=True)
+        print(f"{edit.name}: refused ({words.rpartition('failed: ')[2].removeprefix('FAIL: ').split(' (')[0]})", flush=True)
     print(f"desk: {len(edits)} wrong versions, each refused by its test")
     return 0
 
