@@ -86,8 +86,9 @@ def begin(page, lines):
 
 
 def no_error(page):
-    """Nothing that the browser calls an error, but for a desk that is not there."""
-    found = [each for each in page.errors() if not any(word in each for word in ("ERR_CONNECTION", "ERR_EMPTY", "ERR_INTERNET", " 401 ", " 403 "))]
+    """Nothing that the browser calls an error, but for a desk that is not there, which it has many words for."""
+    gone = lambda each: "Failed to load resource: net::ERR_" in each and "ERR_BLOCKED" not in each
+    found = [each for each in page.errors() if not gone(each) and not any(word in each for word in (" 401 ", " 403 "))]
     assert found == [], found
 
 
