@@ -16,7 +16,7 @@ use Rattle.account.specs.Account.{accountFields, startNumbers, headingNumbers, 
 use Rattle.book.specs.declared.State.{State}
 use Rattle.book.specs.State.{InRange, inRange}
 
--- the one length, 132
+-- the one length
 abbrev pub imageSize : ℕ
 imageSize = 28 + size accountFields
 

@@ -44,7 +44,7 @@ module _ (s : State) (xs : List ℕ) (v : InRange s) (early : s .account .stage 
   pub takes-one : length (run s xs .left) < length xs
   takes-one = takes-at (front (heldOf s ++ xs)) refl
 
--- ---- one byte gives at most 116 bytes of lines
+-- ---- one byte gives at most linesMost bytes of lines
 
 module _ (s : State) (b : ℕ) (v : InRange s) (early : s .account .stage < 2) where
   short-at : (f : Front) → front (heldOf s ++ (b ∷ [])) ≡ f → length (joined (run s (b ∷ []) .lines)) ≤ linesMost
@@ -67,7 +67,7 @@ module _ (s : State) (b : ℕ) (v : InRange s) (early : s .account .stage < 2) w
   one-short : length (joined (run s (b ∷ []) .lines)) ≤ linesMost
   one-short = short-at (front (heldOf s ++ (b ∷ []))) refl
 
--- The sure step: in stages 0 and 1 a call that is offered one byte at least, with 116 bytes of room, takes one at least.
+-- The sure step: in stages 0 and 1 a call that is offered one byte at least, with room for linesMost bytes, takes one at least.
 pub sure-step : (s : State) (b : ℕ) (xs : List ℕ) (room : ℕ) → InRange s → s .account .stage < 2 → linesMost ≤ room → 0 < call s (b ∷ xs) room .taken
 sure-step s b xs room v early big =
     let n = longest (fits s (b ∷ xs) room) (suc (length xs)) in

@@ -92,7 +92,7 @@ ends : (n : ℕ) (a : Account) (xs : List ℕ) → length xs < n → AccountInRa
 ends zero a xs h v k = absurd (omega arith)
 ends (suc n) a xs h v k = ends-at a xs v k (λ b zs p w i. ends n b zs (omega arith) w i) (front xs) refl
 
--- A run that closes the book ends with the total line of the account reached: its six sums, and CO2e by its warming factors.
+-- A run that closes the book ends with the total line of the account reached: its sums, and CO2e by its warming factors.
 pub ends-with-total : (s : State) (xs : List ℕ) → InRange s → s .account .stage < 2 → run s xs .state .account .stage ≡ 2
     → lastOf (run s xs .lines) ≡ totalOf (run s xs .state .account)
 unfolding run

@@ -1,4 +1,4 @@
--- The total line. The close gives the six sums and CO2e (document 01, with document 02, W10); document 02, W2: "The farm's CH4, N2O and both
+-- The total line. The close gives the sums and CO2e (document 01, with document 02, W10); document 02, W2: "The farm's CH4, N2O and both
 -- nitrogens are proved equal to the subtotals added up". Read from the bytes of the lines.
 -- Assumes nothing.
 use Prim.Native.Nat.{ℕ, _+_}
