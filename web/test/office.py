@@ -108,7 +108,7 @@ def test_books():
 
 
 def test_compare():
-    """Compare prints what bin/compare prints."""
+    """Compare prints what bin/compare prints; its last word stands after what differs, and alone where nothing does."""
     sample = (SAMPLES / "sample.book").read_bytes()
     folder = folder_of({"old.book": sample, "new.book": sample[:29] + b"1" + sample[30:]})
     page = Page()
@@ -120,6 +120,11 @@ def test_compare():
         printed = page.one("#compared pre").get_attribute("textContent").encode()
         assert page.saved("Save this comparison") == printed
         assert printed == reference("compare", b"", str(folder / "old.book"), str(folder / "new.book"))[0]
+        order = "return [...document.querySelectorAll('#compared > table, #compared > .big')].map((each) => each.tagName)"
+        assert page.script(order) == ["TABLE", "P"], "the last word does not stand after what differs"
+        page.one("#new-file").send_keys(str(folder / "old.book"))
+        page.until(lambda: page.text("#compared .big") == "nothing differs", "the same book differs from itself")
+        assert page.script(order) == ["P"], "something stands beside a book that does not differ"
     finally:
         page.close()
         shutil.rmtree(folder)
