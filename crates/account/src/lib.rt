@@ -1,4 +1,6 @@
 // The account that a book's records have made so far. What a record does to it is said in specs/Judge and carried out by rules.
+#![tactic(auto)]
+
 pub mod line;
 mod range;
 pub mod sort;
@@ -14,7 +16,7 @@ use line::Line;
 use line_bytes::FIGURES;
 
 // What the farm record sets: the warming factors.
-#[derive(Drop)]
+#[derive(Clone, Copy)]
 pub struct Farm {
     pub ch4: u16,
     pub n2o: u16,
@@ -23,7 +25,7 @@ pub struct Farm {
 pub const NO_FARM: Farm = Farm { ch4: 0, n2o: 0 };
 
 // A group heading: its number, its class (1 milking, 2 dry, 3 heifer, 4 pig) and its head count; all zero where there is none.
-#[derive(Drop)]
+#[derive(Clone, Copy)]
 pub struct Heading {
     pub group: u16,
     pub class: u8,
@@ -32,7 +34,7 @@ pub struct Heading {
 
 // What the records under the heading have used up: the days of kinds 3, 4 and 5, and the fraction of the yearly intake that was grazed. In four bytes
 // each, since numbers of two bytes the compiler would move as one word, and take it apart at each record.
-#[derive(Drop)]
+#[derive(Clone, Copy)]
 pub struct Used {
     pub enteric: u32,
     pub nitrogen: u32,
@@ -48,7 +50,7 @@ pub const NONE_USED: Used = Used {
 };
 
 // Grams: a line's figures, and the sums over all lines.
-#[derive(Drop)]
+#[derive(Clone, Copy)]
 pub struct Figures {
     pub ch4: u64,
     pub n2o: N2o,
@@ -59,7 +61,7 @@ pub struct Figures {
 }
 
 // Grams of one group: the running subtotal of its details. A group has no CO2 and no grazing.
-#[derive(Drop)]
+#[derive(Clone, Copy)]
 pub struct Subtotal {
     pub ch4: u64,
     pub n2o: N2o,
@@ -75,7 +77,7 @@ pub const NO_SUBTOTAL: Subtotal = Subtotal {
 };
 
 // Why a book was refused: the number of the rule, the records accepted before, and the field for rule 7.
-#[derive(Drop)]
+#[derive(Clone, Copy)]
 pub struct Refusal {
     pub code: u8,
     pub accepted: u16,
@@ -83,7 +85,7 @@ pub struct Refusal {
 }
 
 // A state but for its held bytes. Here, in specs/Account and in account_numbers alone it is written out field by field.
-#[derive(Drop)]
+#[derive(Clone, Copy)]
 pub struct Account {
     pub stage: u8,
     pub records: u16,
@@ -96,7 +98,7 @@ pub struct Account {
 }
 
 // What a whole record does: the account after it, and its lines.
-#[derive(Drop)]
+#[derive(Clone, Copy)]
 pub struct Judged {
     pub account: Account,
     pub line: Line,

@@ -12,7 +12,7 @@ use grams::units::{Co2, NO_CO2};
 
 // given: how many bytes, and by that what they are: 0 none, LINE_SIZE a detail's line or a subtotal, TOTAL_SIZE the total (the account's sums
 // and co2e), LINES_MOST a subtotal and the total. Only this file goes by it (docs/DECISIONS.md, "A line's count of bytes stays its tag").
-#[derive(Drop)]
+#[derive(Clone, Copy)]
 pub struct Line {
     pub given: usize,
     pub kind: u8,

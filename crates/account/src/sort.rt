@@ -5,7 +5,7 @@ ghost use Rattle.account.specs.Sorts.{sort_of, is_of_group};
 use codec::kinds::{CATTLE, CLOSE, ENTERIC, FARM, FARM_FACTORS, GRAZING, HEADING, PIG};
 
 // It opens the book, heads a group, is a detail of the group or of the farm, or closes the book.
-#[derive(Drop)]
+#[derive(Clone, Copy)]
 pub enum Sort {
     Opens,
     Heads,

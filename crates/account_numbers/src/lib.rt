@@ -1,4 +1,6 @@
 // An account as numbers, part by part, and back from all of them: each in the bytes that specs/Account of account gives it.
+#![tactic(auto)]
+
 ghost use Rattle.std.specs.Prelude.{◌≡◌, ◌<◌, length};
 ghost use Rattle.account.specs.Account.{account_fields, width_of, start_numbers, heading_numbers, used_numbers, subtotal_numbers, refusal_numbers};
 ghost use Rattle.account.specs.Account.{account_of};

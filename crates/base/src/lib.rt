@@ -1,4 +1,6 @@
 // Small functions on numbers and slices that many crates use.
+#![tactic(auto)]
+
 ghost use Rattle.std.specs.Prelude.{◌≡◌, ◌≤◌, min, length, take, drop};
 ghost use Rattle.base.specs.Choice.{one_more_lem};
 

@@ -1,4 +1,6 @@
 // For the bench alone: a book read in parts, as the herd desk reads it whole.
+#![tactic(auto)]
+
 ghost use Rattle.std.specs.Prelude.{◌≡◌, ◌+◌, ◌*◌, ◌%◌, ◌≤◌, length, take};
 ghost use Rattle.book.specs.Call.{call, fed_of, lines_laid};
 ghost use Rattle.benchdesk.specs.Bench.{bench_code, benched, number_of, laid_by};

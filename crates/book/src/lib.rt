@@ -1,4 +1,6 @@
 // A farm's yearly book, read in calls: the state that goes from one call to the next, and what one call does.
+#![tactic(auto)]
+
 pub mod front; // front.rt: where a record ends
 mod bytes;
 mod records;
@@ -15,7 +17,7 @@ use account::{Account, Refusal};
 use base::rest_of;
 
 // What the records before have made, and the first bytes of the record that is not whole yet: count of them, zeros behind.
-#[derive(Drop)]
+#[derive(Clone, Copy)]
 pub struct State {
     pub account: Account,
     pub held: [u8; 27],
@@ -23,7 +25,7 @@ pub struct State {
 }
 
 // A call's answer. A refusal goes with its number, the records accepted before it, and the field.
-#[derive(Drop)]
+#[derive(Clone, Copy)]
 pub enum Answer {
     More,
     Full,
@@ -32,7 +34,7 @@ pub enum Answer {
 }
 
 // What a call hands back: the new state, the bytes taken and written, and the answer.
-#[derive(Drop)]
+#[derive(Clone, Copy)]
 pub struct Fed {
     pub state: State,
     pub taken: usize,

@@ -10,7 +10,7 @@ use base::{first_of, rest_of};
 use rules::judge;
 
 // What a run of whole records does: the account after them, the bytes read, and the bytes of lines written.
-#[derive(Drop)]
+#[derive(Clone, Copy)]
 pub(crate) struct Records {
     pub account: Account,
     pub at: usize,

@@ -16,7 +16,7 @@ use codec::numbers::be16;
 use codec::{LENGTH_MOST, RECORD_MOST};
 
 // What one turn does: the state after it, the bytes taken and written, and whether the next line does not fit.
-#[derive(Drop)]
+#[derive(Clone, Copy)]
 pub(crate) struct Turn {
     pub state: State,
     pub taken: usize,

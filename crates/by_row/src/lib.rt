@@ -1,4 +1,6 @@
 // A record of any row, field by field as the table says: for the tools. The reader goes by codec's functions of each kind, which are faster.
+#![tactic(auto)]
+
 pub mod table; // table.rt: the table as the code has it
 
 ghost use Rattle.std.specs.Prelude.{◌≡◌, ◌⊎◌, ◌+◌, ◌≤◌, length};

@@ -1,4 +1,6 @@
 // Two books compared, so that an adviser who has corrected one record can say what it touched: what differs, group by group.
+#![tactic(auto)]
+
 pub mod places; // places.rt: a book record by record, and its parts
 pub mod remarks; // remarks.rt: hints, and the status
 mod figures; // figures.rt: figures in kilograms
@@ -23,7 +25,7 @@ use crate::records::same;
 use crate::sections::{before_step, section_step};
 
 // Of one book in a section: where the telling stands, how many records are left to tell, where the section ends, and whether it is a group's.
-#[derive(Drop)]
+#[derive(Clone, Copy)]
 pub struct Side {
     pub place: Place,
     pub left: usize,
@@ -33,7 +35,7 @@ pub struct Side {
 
 // Where a comparison has come to: 0 to 3 are the verdicts, 4 what stands before the groups, 5 a section, 6 the next one, 7 the end. In a section
 // whether records go one by one, how many are only in another order, and how many are the same and give other lines.
-#[derive(Drop)]
+#[derive(Clone, Copy)]
 pub struct Cursor {
     pub stage: usize,
     pub old: Side,
@@ -44,7 +46,7 @@ pub struct Cursor {
 }
 
 // The end of a piece in a buffer, and the cursor after it.
-#[derive(Drop)]
+#[derive(Clone, Copy)]
 pub struct Step {
     pub cursor: Cursor,
     pub written: usize,

@@ -18,7 +18,7 @@ use walk::next_record;
 pub(crate) const NO_GROUP: u64 = 65536;
 
 // Where a walk through a book has come to: the account, the bytes read, and how many records they are.
-#[derive(Drop)]
+#[derive(Clone, Copy)]
 pub struct Place {
     pub account: Account,
     pub at: usize,
@@ -26,7 +26,7 @@ pub struct Place {
 }
 
 // The next accepted record: its bytes, those of its lines, and the account after it. No bytes: there is none.
-#[derive(Drop)]
+#[derive(Clone, Copy)]
 pub(crate) struct Taken {
     pub n: usize,
     pub written: usize,

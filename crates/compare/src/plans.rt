@@ -12,7 +12,7 @@ use base::least;
 
 // The records of either book; how many of them are the same at the beginning and at the end; whether those between are the same details in another
 // order, or go one by one; and how many are the same and give other lines.
-#[derive(Drop)]
+#[derive(Clone, Copy)]
 pub struct Plan {
     pub old: usize,
     pub new: usize,

@@ -16,7 +16,7 @@ use line_bytes::LINES_MOST;
 
 // How many pairs there are, how many of the first and of the last ones are the same, and how many of these and of all that are the same give
 // other lines.
-#[derive(Drop)]
+#[derive(Clone, Copy)]
 pub struct Counts {
     pub pairs: usize,
     pub leading: usize,
@@ -27,7 +27,7 @@ pub struct Counts {
 }
 
 // The next pair: the bytes of either record, the accounts after them, and whether the records and their lines are the same.
-#[derive(Drop)]
+#[derive(Clone, Copy)]
 pub struct Pair {
     pub old: usize,
     pub new: usize,

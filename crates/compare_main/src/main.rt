@@ -1,5 +1,7 @@
 // Reads two books, the old one on standard input and the new one on descriptor 5, and prints what differs between them. Hints
 // go to standard error.
+#![tactic(auto)]
+
 ghost use Rattle.std.specs.Prelude.{◌≡◌, length};
 ghost use Rattle.compare.specs.Steps.{beginning, step_of};
 ghost use Rattle.compare_main.specs.Series.{Goes};
@@ -18,14 +20,14 @@ const MOST: usize = 114716;
 const END: usize = 7;
 
 // Where the comparison has come to, and whether no write failed.
-#[derive(Drop)]
+#[derive(Clone, Copy)]
 struct Work {
     cursor: Cursor,
     written: bool,
 }
 
 // The bytes after those that are compared: whether they are the same in both books, whether no read failed, and whether there may be more.
-#[derive(Drop)]
+#[derive(Clone, Copy)]
 struct Later {
     alike: bool,
     good: bool,

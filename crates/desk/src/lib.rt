@@ -1,4 +1,6 @@
 // The herd desk: a whole book and a line buffer from a C program, one number back; or an image that it keeps, and a part of a book.
+#![tactic(auto)]
+
 ghost use Rattle.std.specs.Prelude.{◌≡◌, ◌≤◌, length};
 ghost use Rattle.book.specs.Call.{lines_laid};
 ghost use Rattle.image.specs.Calls.{call_on, image_after, started};

@@ -15,7 +15,7 @@ pub fn enteric(ge: u64, ym: u64, head: u64, days: u64) -> u64
 }
 
 // A cattle nitrogen record, in the units of the book. The pasture share enters no figure.
-#[derive(Drop)]
+#[derive(Clone, Copy)]
 pub struct CattleRation {
     pub days: u64,
     pub feed: u64,
@@ -28,14 +28,14 @@ pub struct CattleRation {
 }
 
 // Grams of nitrogen excreted, and of N2O from its storage.
-#[derive(Drop)]
+#[derive(Clone, Copy)]
 pub struct CattleManure {
     pub excreted: u64,
     pub n2o: N2o,
 }
 
 // Nothing is given where X is below zero.
-#[derive(Drop)]
+#[derive(Clone, Copy)]
 pub enum CattleNitrogen {
     BelowZero,
     Given(CattleManure),

@@ -20,7 +20,7 @@ pub fn soil(area: u64) -> Co2
 }
 
 // The grams of CO2 that warm as much as a gram of CH4, and as a gram of N2O.
-#[derive(Drop)]
+#[derive(Clone, Copy)]
 pub struct Factors {
     pub ch4: u16,
     pub n2o: u16,

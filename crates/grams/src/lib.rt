@@ -1,4 +1,6 @@
 // The arithmetic of the farm book: each figure in whole grams, by what its contract states.
+#![tactic(auto)]
+
 pub mod carbon_rate;
 pub mod cattle;
 pub mod farm;

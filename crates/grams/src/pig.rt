@@ -7,7 +7,7 @@ use crate::rounding::round_div;
 use crate::units::{N2o, N2oN};
 
 // A pig record, in the units of the book.
-#[derive(Drop)]
+#[derive(Clone, Copy)]
 pub struct PigRation {
     pub days: u64,
     pub feed: u64,
@@ -24,7 +24,7 @@ pub struct PigRation {
 }
 
 // Grams of CH4, of N2O, of nitrogen excreted and of nitrogen for land.
-#[derive(Drop)]
+#[derive(Clone, Copy)]
 pub struct PigManure {
     pub ch4: u64,
     pub n2o: N2o,

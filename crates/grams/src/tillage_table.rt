@@ -4,7 +4,7 @@ ghost use Rattle.grams.specs.TillageTable.{PlaceIn, less_of, pair_of};
 ghost use Rattle.grams.specs.Tillage.{entry_of};
 
 // lumCmax without its sign, in g per square metre, and k in ten-thousandths.
-#[derive(Drop)]
+#[derive(Clone, Copy)]
 pub struct Entry(pub u64, pub u64);
 
 // For each zone and texture the three changes towards less tillage, as printed; in two bytes each, since the code lays the table on the stack.

@@ -6,7 +6,7 @@ ghost use Rattle.grams.specs.Units.{grams_co2, plus_co2, Co2Within, co2_within, 
 use crate::rounding::round_div;
 
 // Grams of CO2, a word in two's complement. How they are added, bounded and laid into 8 bytes is said here alone.
-#[derive(Drop)]
+#[derive(Clone, Copy)]
 pub struct Co2(u64);
 
 // None, as where a rule gives none.
@@ -66,7 +66,7 @@ impl Co2 {
 }
 
 // Grams of N2O.
-#[derive(Drop)]
+#[derive(Clone, Copy)]
 pub struct N2o(u64);
 
 // None, as where a rule gives none.
@@ -101,7 +101,7 @@ impl N2o {
 }
 
 // Grams of CO2e of grazing: CO2e from the start, and no gas.
-#[derive(Drop)]
+#[derive(Clone, Copy)]
 pub struct Grazed(u64);
 
 // None, as where a rule gives none.
@@ -136,7 +136,7 @@ impl Grazed {
 }
 
 // N2O-N, exact, in hundred-millionths of a gram.
-#[derive(Drop)]
+#[derive(Clone, Copy)]
 pub struct N2oN(u64);
 
 impl N2oN {

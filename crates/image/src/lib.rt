@@ -1,4 +1,6 @@
 // A state in bytes that the caller owns, at fixed offsets, and a call that works on them.
+#![tactic(auto)]
+
 mod numbers;
 mod read;
 mod write;
@@ -17,7 +19,7 @@ use write::put_state;
 pub const SIZE: usize = 28 + account_numbers::BYTES;
 
 // What a call hands back beside the image: the bytes taken and written, and the answer.
-#[derive(Drop)]
+#[derive(Clone, Copy)]
 pub struct Called {
     pub taken: usize,
     pub written: usize,

@@ -1,4 +1,6 @@
 // The lines of standard input, one after the other, for programs that answer each line by itself.
+#![tactic(auto)]
+
 ghost use Rattle.std.specs.Prelude.{◌≡◌, ◌-◌, ◌≤◌, length};
 ghost use Rattle.input_lines.specs.Beginning.{no_line_lem};
 
@@ -8,7 +10,7 @@ use text_lines::Cut;
 
 // The line that was cut last, and whether its line feed has come; the last part read, and how many of its bytes are not cut yet; how many lines may
 // still come: none after the input's end or a read that failed.
-#[derive(Drop)]
+#[derive(Clone, Copy)]
 pub struct Lines {
     pub cut: Cut,
     pub ended: bool,
@@ -18,7 +20,7 @@ pub struct Lines {
 }
 
 // What the last bytes of a part are cut to.
-#[derive(Drop)]
+#[derive(Clone, Copy)]
 struct Taken {
     cut: Cut,
     ended: bool,

@@ -1,4 +1,6 @@
 // Whole grams as people read them: kilograms with three decimals, thin spaces between thousands, a real minus sign.
+#![tactic(auto)]
+
 mod lines;
 
 ghost use Rattle.std.specs.Prelude.{◌≡◌, ◌-◌, ◌≤◌, length, drop, replicate};

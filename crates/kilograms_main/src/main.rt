@@ -1,4 +1,6 @@
 // Reads lines of grams on standard input and prints the kilograms of each; standard error has the lines that are no whole number of grams.
+#![tactic(auto)]
+
 ghost use Rattle.std.specs.Prelude.{◌≤◌, length};
 
 use libc::STDIN_FILENO;
@@ -6,7 +8,7 @@ use program::Reading;
 use text_lines::Cut;
 
 // The line being read, whether every line was right and each remark went out, whether no read failed, and whether the kilograms went out.
-#[derive(Drop)]
+#[derive(Clone, Copy)]
 struct Work {
     cut: Cut,
     right: bool,
@@ -14,7 +16,7 @@ struct Work {
     written: bool,
 }
 
-#[derive(Drop)]
+#[derive(Clone, Copy)]
 struct Stepped {
     work: Work,
     taken: usize,

@@ -1,4 +1,6 @@
 // The table of kinds for machines: a row of comma-separated text for each field of each row of the book's table.
+#![tactic(auto)]
+
 ghost use Rattle.std.specs.Prelude.{◌++◌, ◌-◌, ◌≤◌, ◌<◌, length};
 ghost use Rattle.codec.specs.Table.{last_row, fields};
 ghost use Rattle.printing.specs.Ascii.{ascii};

@@ -1,4 +1,6 @@
 // The table of kinds for machines, on standard output. It reads nothing.
+#![tactic(auto)]
+
 fn tell_kinds() -> bool {
     let mut text = [0u8; 8192];
     let n = kinds::say_kinds(&mut text);

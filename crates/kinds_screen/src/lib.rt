@@ -1,4 +1,6 @@
 // The kinds on one screen, for a person who is about to type a book: a line as it is typed, and what its values are.
+#![tactic(auto)]
+
 ghost use Rattle.std.specs.Prelude.{◌++◌, ◌≤◌, length};
 ghost use Rattle.printing.specs.Ascii.{ascii};
 ghost use Rattle.printing.specs.Said.{Said};

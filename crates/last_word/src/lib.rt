@@ -1,4 +1,6 @@
 // The last word on a book, what is remarked to a person beside it, and the status: all by the account that was reached.
+#![tactic(auto)]
+
 ghost use Rattle.std.specs.Prelude.{◌≡◌, ◌+◌, ◌≤◌, length};
 ghost use Rattle.printing.specs.Decimal.{Put};
 ghost use Rattle.printing.specs.Said.{Said};

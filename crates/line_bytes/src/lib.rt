@@ -1,4 +1,6 @@
 // A line's bytes from its figures, and its numbers from its bytes: the fields are those of specs/Lines.antt.
+#![tactic(auto)]
+
 ghost use Rattle.std.specs.Prelude.{◌≡◌, ◌∷◌, ◌+◌, ◌-◌, ◌*◌, ◌≤◌, drop, length, replicate};
 ghost use Rattle.std.proofs.lemmas.List.Edits.{sets};
 ghost use Rattle.codec.specs.Codec.{val_at, values_at, bytes_of};

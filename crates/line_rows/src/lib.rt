@@ -1,4 +1,6 @@
 // A line record as a row of text, in the form of the lister or of a sheet: the numbers are those of line_bytes.
+#![tactic(auto)]
+
 ghost use Rattle.std.specs.Prelude.{◌≡◌, ◌∷◌, [], ◌+◌, ◌*◌, ◌≤◌, length, drop};
 ghost use Rattle.line_bytes.specs.Lines.{line_size, front_size};
 ghost use Rattle.printing.specs.Decimal.{Put};
@@ -11,7 +13,7 @@ use line_bytes::{LINE_NUMBERS, LINE_SIZE, TOTAL_SIZE, detail_numbers, front_size
 use printing::{put_byte, put_decimal, put_signed, put_text, say};
 
 // The lister's rows, or those of a sheet for the spreadsheet.
-#[derive(Drop)]
+#[derive(Clone, Copy)]
 pub enum Form {
     Listing,
     Sheet,

@@ -1,4 +1,6 @@
 // A book as rows of text, as the lister prints them or as a sheet: one call over a part of it, and the loop of both programs.
+#![tactic(auto)]
+
 pub mod pump; // pump.rt: standard input read in parts, rows and last word sent
 
 ghost use Rattle.std.specs.Prelude.{◌≡◌, ◌*◌, ◌≤◌, length};
@@ -10,7 +12,7 @@ use book::State;
 use line_rows::{Form, put_header, put_lines};
 
 // What one call over a part of a book makes: the new state, the bytes taken, and the bytes of its rows.
-#[derive(Drop)]
+#[derive(Clone, Copy)]
 pub struct Listed {
     pub state: State,
     pub taken: usize,

@@ -12,7 +12,7 @@ use program::{Reading, report, send};
 const FIRST: usize = 16;
 
 // The state after what was read, what the input looks like, whether no read and no write has failed, and whether more may come.
-#[derive(Drop)]
+#[derive(Clone, Copy)]
 struct Work {
     state: State,
     given: Given,
@@ -22,7 +22,7 @@ struct Work {
 }
 
 // What one call made of it, and the bytes that it took.
-#[derive(Drop)]
+#[derive(Clone, Copy)]
 struct Taken {
     work: Work,
     taken: usize,

@@ -1,4 +1,6 @@
 // Records written from their values: what the writer gives is what the reader would make of the same values.
+#![tactic(auto)]
+
 mod kinds;
 
 ghost use Rattle.std.specs.Prelude.{◌≡◌, ◌≤◌, length};
@@ -12,14 +14,14 @@ use codec::LAST_KIND;
 use codec::kinds::{FARM, FARM_FACTORS, bytes_of};
 
 // The writer's answer. A refusal goes with its number, the records accepted before it, and the field.
-#[derive(Drop)]
+#[derive(Clone, Copy)]
 pub enum Answer {
     Wrote,
     Refused(Refusal),
 }
 
 // What the writer hands back: the state, the count of bytes written, and the answer.
-#[derive(Drop)]
+#[derive(Clone, Copy)]
 pub struct Written {
     pub state: State,
     pub written: usize,

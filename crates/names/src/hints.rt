@@ -8,7 +8,7 @@ use printing::say;
 use typed_words::is_word;
 
 // What an input looks like: a book, nothing, a typed text, or a sheet.
-#[derive(Drop)]
+#[derive(Clone, Copy)]
 pub enum Given {
     Book,
     Nothing,

@@ -1,4 +1,6 @@
 // The names of kinds, fields and classes, what is expected of a field, and the sentences of the numbers: the one table of them, for every program.
+#![tactic(auto)]
+
 pub mod hints; // hints.rt: what was given in place of a book
 pub mod usual; // usual.rt: which values are usual
 

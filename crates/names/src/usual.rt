@@ -11,7 +11,7 @@ use printing::say;
 use typed_words::{index_of, part, read_amount, word};
 
 // Which values of a field are usual, from low to high, in the book's unit; none are asked for where `some` is false.
-#[derive(Drop)]
+#[derive(Clone, Copy)]
 pub struct Usual {
     pub some: bool,
     pub low: u64,

@@ -1,4 +1,6 @@
 // The member's page of a book: one total, and three tables that each end in it; of a book that is not closed, why there are no figures.
+#![tactic(auto)]
+
 mod bars; // bars.rt: the cascade
 mod sums; // sums.rt: what the figures are
 mod gases; // gases.rt: the table of the gases
@@ -25,7 +27,7 @@ use walk::next_alone;
 use why::Verdict;
 
 // What the records of a kind add to the sums: whether there is one, grams of each gas, the word of CO2, and CO2e of grazing.
-#[derive(Drop)]
+#[derive(Clone, Copy)]
 pub struct Sum {
     pub seen: bool,
     pub ch4: u64,
@@ -35,7 +37,7 @@ pub struct Sum {
 }
 
 // A row of the sources: grams, of CO2 and CO2e the words of signed grams; and the steps between which its bar stands.
-#[derive(Drop)]
+#[derive(Clone, Copy)]
 pub struct Source {
     pub seen: bool,
     pub ch4: u64,
@@ -47,7 +49,7 @@ pub struct Source {
 }
 
 // The rows of the sources, in the order of the table.
-#[derive(Drop)]
+#[derive(Clone, Copy)]
 pub struct Sources {
     pub enteric: Source,
     pub cattle: Source,
@@ -59,7 +61,7 @@ pub struct Sources {
 }
 
 // A row of the groups.
-#[derive(Drop)]
+#[derive(Clone, Copy)]
 pub struct Group {
     pub group: u64,
     pub class: u64,
@@ -75,7 +77,7 @@ pub struct Group {
 }
 
 // The lowest step of a cascade, and what a thousandth of its way stands for.
-#[derive(Drop)]
+#[derive(Clone, Copy)]
 pub struct Scale {
     pub lo: u64,
     pub unit: u64,
@@ -83,7 +85,7 @@ pub struct Scale {
 
 // All figures of the page but those of the groups: whether the book is closed; the farm and the year, where they are known; the accepted records; the
 // factors of CH4 and N2O; the total's figures; CO2e of its CH4 and N2O, and of all; the step that the groups come to; the sources.
-#[derive(Drop)]
+#[derive(Clone, Copy)]
 pub struct Survey {
     pub closed: bool,
     pub known: bool,
@@ -107,7 +109,7 @@ pub struct Survey {
 
 // How far the rows of the groups have come: the account after the records so far and the byte after them; the step and grazing's sum at the last
 // heading; and whether there may be more.
-#[derive(Drop)]
+#[derive(Clone, Copy)]
 pub struct Place {
     pub account: Account,
     pub at: usize,
@@ -117,7 +119,7 @@ pub struct Place {
 }
 
 // The place after a record, and the end of the row in the buffer.
-#[derive(Drop)]
+#[derive(Clone, Copy)]
 pub struct Row {
     pub place: Place,
     pub written: usize,

@@ -19,7 +19,7 @@ use grams::units::{Grazed, N2o, NO_CO2};
 use walk::next_alone;
 
 // The account after the accepted records of a book, and what those of a kind add to its sums.
-#[derive(Drop)]
+#[derive(Clone, Copy)]
 struct Gathered {
     account: Account,
     sum: Sum,
@@ -219,7 +219,7 @@ fn total(a: Account) -> u64
 }
 
 // The farm's number and year, where they are known.
-#[derive(Drop)]
+#[derive(Clone, Copy)]
 struct Named {
     known: bool,
     farm: u64,

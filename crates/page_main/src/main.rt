@@ -1,5 +1,7 @@
 // Reads a book on standard input and prints its member's page, part by part, on standard output: of a closed book its figures, of any other why there
 // are none. A hint goes to standard error.
+#![tactic(auto)]
+
 ghost use Rattle.std.specs.Prelude.{◌≡◌, ◌≤◌, length};
 
 use libc::STDIN_FILENO;

@@ -1,4 +1,6 @@
 // Decimal text: numbers written into a buffer that the caller lends.
+#![tactic(auto)]
+
 ghost use Rattle.std.specs.Prelude.{◌≡◌, ◌+◌, ◌*◌, ◌≤◌, ◌<◌, length, take, drop, ◌∷◌, []};
 ghost use Rattle.base.specs.Signed.{signed_of};
 ghost use Rattle.printing.specs.Decimal.{digit, decimal, signed, thousandths, last_digits, without_last, pointed, spaced, numbers_line, Put};

@@ -1,4 +1,6 @@
 // What programs share: text out, the status byte, and input read in parts or as a whole.
+#![tactic(auto)]
+
 ghost use Rattle.std.specs.Prelude.{◌≡◌, ◌-◌, ◌≤◌};
 ghost use Rattle.io.specs.Counts.{IsPrefixLen};
 ghost use Rattle.program.specs.Beginning.{unread};
@@ -9,14 +11,14 @@ use libc::{STDERR_FILENO, STDOUT_FILENO};
 pub const STATUS_FILENO: i32 = 3;
 
 // How many bytes were read, and whether no read failed.
-#[derive(Drop)]
+#[derive(Clone, Copy)]
 pub struct Input {
     pub len: usize,
     pub good: bool,
 }
 
 // What the last read gave, whether none failed, and how many reads may still come: none after the input's end or a read that failed.
-#[derive(Drop)]
+#[derive(Clone, Copy)]
 pub struct Reading {
     pub len: usize,
     pub good: bool,

@@ -1,4 +1,6 @@
 // A book as a table of its records: for each accepted record a row with its place, name, group, typed line and figures; a subtotal's row before it.
+#![tactic(auto)]
+
 ghost use Rattle.std.specs.Prelude.{◌≡◌, false, ◌||◌, ◌++◌, ◌∷◌, [], ◌+◌, ◌-◌, ◌*◌, ◌/◌, ◌≤◌, length, take, drop, eqb};
 ghost use Rattle.printing.specs.Decimal.{Put};
 ghost use Rattle.printing.specs.Said.{Said};
@@ -40,7 +42,7 @@ const OWN_MOST: usize = 3 * NUMBER_MOST + 8 + NUMBER_MOST + LINE_MOST + FIGURES_
 const ROWS_MOST: usize = SUBTOTAL_MOST + OWN_MOST;
 
 // An accepted record: its number, its first and last byte, its row of the table of kinds, and the group that the account after it stands under.
-#[derive(Drop)]
+#[derive(Clone, Copy)]
 struct Accepted {
     number: u64,
     first: u64,

@@ -1,4 +1,6 @@
 // Reads a book on standard input and prints the table of its records, a row for each that is accepted. The last word goes to standard error.
+#![tactic(auto)]
+
 ghost use Rattle.std.specs.Prelude.{◌≡◌, false, ◌/◌, ◌≤◌, length};
 ghost use Rattle.records.specs.Table.{rows_after, rows_most};
 ghost use Rattle.records_main.specs.Series.{Turned, Begins, Goes};
@@ -9,7 +11,7 @@ use names::hints::{Given, look};
 use program::{Input, report, send};
 
 // The account after the records whose rows were printed, the bytes taken, whether no write failed, and whether more may come.
-#[derive(Drop)]
+#[derive(Clone, Copy)]
 struct Work {
     account: Account,
     at: usize,

@@ -1,4 +1,6 @@
 // A book as typed lines: for each accepted record the line that a person would type for it.
+#![tactic(auto)]
+
 ghost use Rattle.std.specs.Prelude.{◌≡◌, ◌+◌, ◌*◌, ◌/◌, ◌≤◌, length, ◌∷◌, []};
 ghost use Rattle.printing.specs.Decimal.{joined, Put};
 ghost use Rattle.printing.specs.Said.{Said};
@@ -23,7 +25,7 @@ const VALUE_MOST: usize = 21;
 pub const LINE_MOST: usize = 7 + 12 * VALUE_MOST + 1;
 
 // The account after some records of a book, the bytes taken, the end of the text in the buffer, and whether there may be more.
-#[derive(Drop)]
+#[derive(Clone, Copy)]
 pub struct Retyped {
     pub account: Account,
     pub taken: usize,

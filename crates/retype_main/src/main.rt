@@ -1,4 +1,6 @@
 // Reads a book on standard input and prints it as typed lines, one for each accepted record. The last word goes to standard error.
+#![tactic(auto)]
+
 ghost use Rattle.std.specs.Prelude.{◌≡◌, false, ◌/◌, ◌≤◌, length, drop};
 ghost use Rattle.retype.specs.Book.{retyped_by, line_most};
 ghost use Rattle.retype_main.specs.Series.{Turned, Begins, Goes};
@@ -9,7 +11,7 @@ use names::hints::{look, say_hint};
 use program::{Input, report, send};
 
 // The account after the records that were typed, the bytes taken, whether no write failed, and whether more may come.
-#[derive(Drop)]
+#[derive(Clone, Copy)]
 struct Work {
     account: Account,
     at: usize,

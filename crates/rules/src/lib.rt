@@ -1,5 +1,7 @@
 // The rules: what one record does to an account where its lines fit the room; where they do not, the account is handed back as it came, so that the
 // caller keeps no second one. A file for each kind has its own refusals and its figures.
+#![tactic(auto)]
+
 pub mod cattle;
 pub mod close;
 pub mod energy;

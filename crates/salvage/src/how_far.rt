@@ -15,7 +15,7 @@ use codec::kinds::CLOSE;
 use codec::numbers::be16;
 
 // What ends a reading: the end of the bytes, a close that nothing drops, 4,095 kept records, a length that no record has, a record that is not whole.
-#[derive(Drop)]
+#[derive(Clone, Copy)]
 pub enum Ending {
     AtEnd,
     AtClose,
@@ -25,7 +25,7 @@ pub enum Ending {
 }
 
 // The end of a reading: the byte where the record begins that ended it, why it did, and how many bytes were not read.
-#[derive(Drop)]
+#[derive(Clone, Copy)]
 pub struct ReadingEnd {
     pub at: usize,
     pub why: Ending,
@@ -33,7 +33,7 @@ pub struct ReadingEnd {
 }
 
 // The reading at its end, and the bytes that are read.
-#[derive(Drop)]
+#[derive(Clone, Copy)]
 pub(crate) struct Reached {
     pub reading: Reading,
     pub at: usize,

@@ -1,4 +1,6 @@
 // A damaged book saved: a clean book of the records that are kept, and a list of those that are dropped.
+#![tactic(auto)]
+
 pub mod how_far; // how_far.rt: where the reading ends
 pub mod lines; // lines.rt: a line for each record that was dropped
 pub mod remarks; // remarks.rt: the last words
@@ -13,7 +15,7 @@ use crate::passes::{measure, write};
 use account::Account;
 
 // The reading so far: the account of the kept records, whether the last record of kind byte 2 was dropped, its number, and the next record's number.
-#[derive(Drop)]
+#[derive(Clone, Copy)]
 pub struct Reading {
     pub account: Account,
     pub lost: bool,
@@ -37,14 +39,14 @@ impl Reading {
 }
 
 // How many bytes the clean book and the list have.
-#[derive(Drop)]
+#[derive(Clone, Copy)]
 pub struct Lengths {
     pub book: usize,
     pub list: usize,
 }
 
 // The answer: saved, or refused by 19 or 16.
-#[derive(Drop)]
+#[derive(Clone, Copy)]
 pub enum Salvaged {
     Saved(Lengths),
     Refused(u8),

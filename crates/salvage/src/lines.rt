@@ -14,7 +14,7 @@ use printing::{say, say_number};
 const LINE_MOST: usize = 256;
 
 // Some records: the reading after them, their bytes, the end of their lines in the buffer, and whether there may be more.
-#[derive(Drop)]
+#[derive(Clone, Copy)]
 pub struct Reported {
     pub reading: Reading,
     pub taken: usize,

@@ -10,7 +10,7 @@ use crate::moves::{by_code, copy, note};
 use base::rest_of;
 
 // How much there is: kept records, bytes of the clean book, entries of the list.
-#[derive(Drop)]
+#[derive(Clone, Copy)]
 pub(crate) struct Sizes {
     pub kept: u16,
     pub book: usize,

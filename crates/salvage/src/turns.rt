@@ -18,7 +18,7 @@ pub(crate) const KEPT_MOST: u16 = 4095;
 
 // The record at the front of some bytes: its size, 0 where no whole one is there, its kind byte, the number that drops it (0 where none does), and
 // the account with it.
-#[derive(Drop)]
+#[derive(Clone, Copy)]
 pub(crate) struct Seen {
     pub size: usize,
     pub kind: u8,
@@ -27,7 +27,7 @@ pub(crate) struct Seen {
 }
 
 // What becomes of one record: its bytes, the number that drops it (0 where it is kept), and the reading behind it. No bytes: the reading ends.
-#[derive(Drop)]
+#[derive(Clone, Copy)]
 pub(crate) struct Turn {
     pub n: usize,
     pub code: u8,

@@ -1,5 +1,7 @@
 // Reads a damaged book on standard input and writes a clean one on standard output. What was dropped, and where the reading ended, is reported on
 // standard error. With two arguments the list of what was dropped goes to a descriptor of its own.
+#![tactic(auto)]
+
 ghost use Rattle.std.specs.Prelude.{◌≡◌, length};
 
 use libc::STDIN_FILENO;
@@ -19,7 +21,7 @@ const LOOKED: usize = 131100;
 const LIST_FILENO: i32 = 4;
 
 // Whether a book was saved and went out, with its list where that is asked for; whether all of the damaged one was read, and whether all was told.
-#[derive(Drop)]
+#[derive(Clone, Copy)]
 struct Done {
     saved: bool,
     read: bool,
@@ -27,14 +29,14 @@ struct Done {
 }
 
 // The end of the reading, and whether no read failed after it.
-#[derive(Drop)]
+#[derive(Clone, Copy)]
 struct Rest {
     end: ReadingEnd,
     good: bool,
 }
 
 // The lines of the dropped records: the reading, the bytes gone through, whether no write failed, and whether there may be more.
-#[derive(Drop)]
+#[derive(Clone, Copy)]
 struct Work {
     reading: Reading,
     at: usize,

@@ -19,7 +19,7 @@ use names::say_shown;
 use printing::{say, say_number};
 
 // What is wrong with a row.
-#[derive(Drop)]
+#[derive(Clone, Copy)]
 pub enum Fault {
     Mark,
     Quotes,
@@ -33,7 +33,7 @@ pub enum Fault {
 }
 
 // The column of a row that differs first: the row's kind, its place, and the index of its cell.
-#[derive(Drop)]
+#[derive(Clone, Copy)]
 pub struct Spot {
     pub kind: u64,
     pub column: usize,

@@ -1,4 +1,6 @@
 // Sheets for the spreadsheet: a run of line records as comma-separated text, and such text as line records.
+#![tactic(auto)]
+
 pub mod numbers; // numbers.rt: numbers read off a text
 pub mod rows; // rows.rt: a row of columns read off a text
 pub mod lines; // lines.rt: a line record from its values, its row as text, and the bytes of several
@@ -21,7 +23,7 @@ use lines::{Total, add, put_line, put_row, row_size};
 use rows::{read_row, starts};
 
 // What an export or an import answers: the bytes written, or a refusal with its row (0: none).
-#[derive(Drop)]
+#[derive(Clone, Copy)]
 pub enum Answer {
     Written(usize),
     Refused(u8, usize),

@@ -12,7 +12,7 @@ use line_rows::{Form, ROW_MOST};
 use printing::put_text;
 
 // A count of bytes up to some room, or past it.
-#[derive(Drop)]
+#[derive(Clone, Copy)]
 pub struct Total {
     pub over: bool,
     pub sum: usize,

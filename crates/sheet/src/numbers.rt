@@ -4,14 +4,14 @@ ghost use Rattle.sheet.specs.Numbers.{half, Number, digits, positive, unsigned, 
 ghost use Rattle.sheet.specs.Code.{held, IsRun, IsRead};
 
 // A number in 64 bits, or too big for them.
-#[derive(Drop)]
+#[derive(Clone, Copy)]
 pub struct Amount {
     pub big: bool,
     pub value: u64,
 }
 
 // A number read: whether there is one, its amount, and the index past it.
-#[derive(Drop)]
+#[derive(Clone, Copy)]
 pub struct Run {
     pub good: bool,
     pub amount: Amount,
@@ -19,7 +19,7 @@ pub struct Run {
 }
 
 // A number in its field: whether there is one, whether it fits, its value there (0 where it does not), and the index past it.
-#[derive(Drop)]
+#[derive(Clone, Copy)]
 pub struct Read {
     pub good: bool,
     pub fits: bool,

@@ -11,7 +11,7 @@ use line_rows::is_signed;
 
 // A column of a row: the bytes of its number in a line (none: the column is empty), the highest number, whether it is signed, whether the
 // column is the last.
-#[derive(Drop)]
+#[derive(Clone, Copy)]
 pub struct Column {
     pub width: usize,
     pub highest: u64,
@@ -20,7 +20,7 @@ pub struct Column {
 }
 
 // A row read: whether it is of the form, whether its numbers fit their fields, its kind, its values, and the index past it.
-#[derive(Drop)]
+#[derive(Clone, Copy)]
 pub struct RowRead {
     pub good: bool,
     pub fits: bool,

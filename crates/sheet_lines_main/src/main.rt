@@ -1,4 +1,6 @@
 // Reads line records on standard input and writes their sheet on standard output: for machines that keep lines. The last word goes to standard error.
+#![tactic(auto)]
+
 ghost use Rattle.std.specs.Prelude.{◌≡◌, ◌+◌, ◌*◌, length};
 ghost use Rattle.line_bytes.specs.Lines.{figure_count, line_size, total_size};
 
@@ -14,7 +16,7 @@ const MOST: usize = 4094 * LINE_SIZE + TOTAL_SIZE;
 const MOST_TEXT: usize = (14 + 21 * FIGURES) * 4096;
 
 // Whether the lines were accepted, and whether all was read and written.
-#[derive(Drop)]
+#[derive(Clone, Copy)]
 struct Done {
     accepted: bool,
     written: bool,

@@ -1,9 +1,11 @@
 // The what-if slip: an estimate on the screen of the CH4 of a changed ration, in double precision.
+#![tactic(auto)]
+
 ghost use Rattle.std.specs.Prelude.{◌≡◌};
 ghost use Rattle.slip.specs.Slip.{within, ge_in_range, ym_in_range, head_in_range, days_in_range, factor_in_range, ration_in_range, change_in_range};
 ghost use Rattle.slip.specs.Slip.{changed_by, changed_in_range, kg_ch4, refused_with, Answers};
 
-#[derive(Drop)]
+#[derive(Clone, Copy)]
 pub struct Ration {
     pub ge: f64,
     pub ym: f64,
@@ -12,7 +14,7 @@ pub struct Ration {
 }
 
 // Feed and head go by a factor; Ym is given anew.
-#[derive(Drop)]
+#[derive(Clone, Copy)]
 pub enum Change {
     Feed(f64),
     Ym(f64),
@@ -20,7 +22,7 @@ pub enum Change {
 }
 
 // The code is 0, 14 or 15.
-#[derive(Drop)]
+#[derive(Clone, Copy)]
 pub struct Slip {
     pub code: u8,
     pub ration: Ration,

@@ -1,4 +1,6 @@
 // A table of many books, as comma-separated text: what is seen of a book, the sums over the closed ones, and the rows.
+#![tactic(auto)]
+
 pub mod rows; // rows.rt: the header, a file's row, the last row
 pub mod remarks; // remarks.rt: which names can stand in it, what is said of others, the status
 pub mod sums; // sums.rt: the running sums
@@ -20,7 +22,7 @@ const FARM_BYTES: usize = 4 + 7;
 
 // What is seen of a file: whether it could be read; where the book ended, with the refusal's number; the records accepted; farm number and year; and
 // the numbers of its total line, which count where it is closed.
-#[derive(Drop)]
+#[derive(Clone, Copy)]
 pub struct Seen {
     pub read: bool,
     pub stage: u8,

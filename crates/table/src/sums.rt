@@ -12,7 +12,7 @@ use line_rows::is_signed;
 // The first word that stands for a number below zero.
 const HALF: u64 = 9223372036854775808;
 
-#[derive(Drop)]
+#[derive(Clone, Copy)]
 pub struct Sum {
     pub low: u64,
     pub ups: u64,
@@ -20,7 +20,7 @@ pub struct Sum {
 }
 
 // How many books are closed, and the sums of the columns of a total line.
-#[derive(Drop)]
+#[derive(Clone, Copy)]
 pub struct Totals {
     pub closed: u64,
     pub sums: [Sum; TOTAL_NUMBERS],

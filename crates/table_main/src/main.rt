@@ -1,4 +1,6 @@
 // The table of the books that are named after the word `status`, on standard output: a row for each file, and the sums over the closed books.
+#![tactic(auto)]
+
 ghost use Rattle.std.specs.Prelude.{◌≡◌, length};
 ghost use Rattle.io.specs.Counts.{IsPrefixLen};
 
@@ -13,7 +15,7 @@ const FIRST: usize = 2;
 const MISUSED: u8 = b'3';
 
 // The sums so far, whether all books were closed, and whether all was written.
-#[derive(Drop)]
+#[derive(Clone, Copy)]
 struct Work {
     totals: Totals,
     closed: bool,

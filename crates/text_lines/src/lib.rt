@@ -1,4 +1,6 @@
 // A typed text cut into lines, in parts of any size: what is kept of a line, its number, and where it ends.
+#![tactic(auto)]
+
 ghost use Rattle.std.specs.Prelude.{◌≡◌, ◌+◌, ◌≤◌, min, ltb, [], length, take, drop};
 ghost use Rattle.base.specs.Choice.{pick, one_more_lem};
 ghost use Rattle.text_lines.specs.Lines.{before, room, stored, first_cut, next_of, cutting_of, cut_in, is_marked, unmarked};
@@ -9,7 +11,7 @@ use base::{least, one_more};
 pub const MOST: usize = 1027;
 
 // The line being read: its number from 1, how many of its bytes are in the buffer, and whether its # has come.
-#[derive(Drop)]
+#[derive(Clone, Copy)]
 pub struct Cut {
     pub number: u64,
     pub len: usize,
@@ -17,7 +19,7 @@ pub struct Cut {
 }
 
 // The line afterwards, how many bytes of the part were taken, and whether they end the line.
-#[derive(Drop)]
+#[derive(Clone, Copy)]
 pub struct Cutting {
     pub cut: Cut,
     pub taken: usize,

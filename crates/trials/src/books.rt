@@ -11,14 +11,14 @@ use book::{Answer, State};
 use libc::STDOUT_FILENO;
 
 // A state read, and where the next word begins.
-#[derive(Drop)]
+#[derive(Clone, Copy)]
 pub(crate) struct Resumed {
     pub state: State,
     pub next: usize,
 }
 
 // What one call gave: the state, the bytes taken, and the bytes of answer so far.
-#[derive(Drop)]
+#[derive(Clone, Copy)]
 struct Called {
     state: State,
     taken: usize,
@@ -26,7 +26,7 @@ struct Called {
 }
 
 // The same, and where the next word begins.
-#[derive(Drop)]
+#[derive(Clone, Copy)]
 struct Stepped {
     state: State,
     next: usize,

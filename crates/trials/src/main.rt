@@ -1,5 +1,7 @@
 // Replays trials of the book reader, of the writer, of the salvage and of the slip: cases on standard input, answers on standard output
 // (docs/TRIALS.md).
+#![tactic(auto)]
+
 mod books;
 mod saved;
 mod shown;
@@ -12,13 +14,13 @@ ghost use Rattle.std.specs.Prelude.{◌≡◌, ◌≤◌, length};
 use libc::{STDIN_FILENO, STDOUT_FILENO};
 
 // How many bytes of the line at hand are in, and how many of the answers.
-#[derive(Drop)]
+#[derive(Clone, Copy)]
 struct Held {
     line: usize,
     answers: usize,
 }
 
-#[derive(Drop)]
+#[derive(Clone, Copy)]
 struct Turned {
     held: Held,
     more: bool,

@@ -74,7 +74,7 @@ pub(crate) fn put_words(out: &mut [u8], at: usize, values: &[u64]) -> usize {
     end
 }
 
-#[derive(Drop)]
+#[derive(Clone, Copy)]
 struct Sums {
     a: u64,
     b: u64,

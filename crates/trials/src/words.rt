@@ -5,14 +5,14 @@ ghost use Rattle.std.specs.Prelude.{◌≡◌, ◌≤◌, length};
 use base::least;
 
 // Bytes read, and where the next word begins.
-#[derive(Drop)]
+#[derive(Clone, Copy)]
 pub(crate) struct Bytes {
     pub n: usize,
     pub next: usize,
 }
 
 // A number read, and where the next word begins.
-#[derive(Drop)]
+#[derive(Clone, Copy)]
 pub(crate) struct Number {
     pub value: u64,
     pub next: usize,

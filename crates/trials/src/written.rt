@@ -6,7 +6,7 @@ use book::State;
 use make_record::Answer;
 
 // What one writing gave: the state, and the bytes of answer so far.
-#[derive(Drop)]
+#[derive(Clone, Copy)]
 struct Wrote {
     state: State,
     w: usize,

@@ -1,4 +1,6 @@
 // What a person types: the words of a line, names, whole numbers, decimals as their nearest doubles, and numbers with a field's decimals.
+#![tactic(auto)]
+
 ghost use Rattle.std.specs.Prelude.{◌≡◌, ◌+◌, ◌^◌, ◌≤◌, ◌<◌, length, take, drop, replicate};
 ghost use Rattle.typed_words.specs.Words.{is_blank, leading_of, trimmed, first_word, past_word, nth_word, same_text_lem, small_letter, lowered, nth_part};
 ghost use Rattle.typed_words.specs.Numbers.{takes, digits_from, whole_of, decimal_of, double};
@@ -8,14 +10,14 @@ ghost use Rattle.bytes.specs.Bytes.{index_of};
 use base::{first_of, rest_of};
 
 // A whole number below 10^15; 0 where the text is none.
-#[derive(Drop)]
+#[derive(Clone, Copy)]
 pub struct Whole {
     pub good: bool,
     pub value: u64,
 }
 
 // A decimal's nearest double; 0 where the text is no decimal.
-#[derive(Drop)]
+#[derive(Clone, Copy)]
 pub struct Double {
     pub good: bool,
     pub value: f64,

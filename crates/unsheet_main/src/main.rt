@@ -1,4 +1,6 @@
 // Reads a sheet on standard input and writes its line records on standard output. The last word goes to standard error.
+#![tactic(auto)]
+
 ghost use Rattle.std.specs.Prelude.{◌≡◌, ◌*◌, ◌/◌, length};
 ghost use Rattle.line_bytes.specs.Lines.{total_size};
 
@@ -14,7 +16,7 @@ const MOST: usize = 64 * 4096;
 const MOST_LINES: usize = MOST / 19 * TOTAL_SIZE;
 
 // Whether the sheet was accepted, and whether all was read and written.
-#[derive(Drop)]
+#[derive(Clone, Copy)]
 struct Done {
     accepted: bool,
     written: bool,

@@ -1,5 +1,7 @@
 // A file for each kind: its values from its bytes, and the first value out of its range. Its places and ranges stand there as numbers, not by
 // a table: the reader is on its way, and a table in the code would be stored anew at each record. The proofs hold them to codec, specs/Table.
+#![tactic(auto)]
+
 pub mod cattle;
 pub mod close;
 pub mod energy;

@@ -1,4 +1,6 @@
 // One walk over a book's records, by which every tool goes: the next record after an account, what it does and the lines that it gives.
+#![tactic(auto)]
+
 ghost use Rattle.std.specs.Prelude.{◌≡◌, ◌++◌, ◌≤◌, length, drop};
 ghost use Rattle.line_bytes.specs.Lines.{lines_most};
 ghost use Rattle.account.specs.Range.{AccountInRange};
@@ -13,7 +15,7 @@ use line_bytes::LINES_MOST;
 use rules::judge;
 
 // What stands at the front of some bytes: a whole record, the beginning of one, a length that no record has; or the book has ended before them.
-#[derive(Drop)]
+#[derive(Clone, Copy)]
 pub enum Found {
     Record,
     Unfinished,
@@ -22,7 +24,7 @@ pub enum Found {
 }
 
 // The next record: its bytes, none where there is no whole one; the account after it; and the bytes of its lines.
-#[derive(Drop)]
+#[derive(Clone, Copy)]
 pub struct Next {
     pub found: Found,
     pub size: usize,

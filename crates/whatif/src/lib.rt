@@ -1,4 +1,6 @@
 // The what-if slip as text: a typed line read as a ration and a change, and a slip put on a line.
+#![tactic(auto)]
+
 mod telling;
 
 ghost use Rattle.std.specs.Prelude.{◌≡◌, ◌+◌, ◌≤◌, [], ◌∷◌, length};
@@ -12,7 +14,7 @@ use slip::{Change, Ration, Slip};
 pub use telling::{counted, say_answer, say_counts, say_remark, status};
 
 // What a line asks: nothing where it has no word; where something is wrong, what.
-#[derive(Drop)]
+#[derive(Clone, Copy)]
 pub enum Asked {
     Nothing,
     Estimate(Ration, Change),
@@ -20,7 +22,7 @@ pub enum Asked {
 }
 
 // Lines so far that were answered, refused and not read.
-#[derive(Drop)]
+#[derive(Clone, Copy)]
 pub struct Counts {
     pub answered: u64,
     pub refused: u64,
@@ -28,14 +30,14 @@ pub struct Counts {
 }
 
 // A change by its name; with another name it is not good.
-#[derive(Drop)]
+#[derive(Clone, Copy)]
 struct Named {
     good: bool,
     change: Change,
 }
 
 // Thousandths; not good where there is no such number to show.
-#[derive(Drop)]
+#[derive(Clone, Copy)]
 struct Grams {
     good: bool,
     value: u64,

@@ -1,4 +1,6 @@
 // Reads `GE Ym head days CHANGE X` lines on standard input and prints the what-if slip of each; standard error has what is not read or refused.
+#![tactic(auto)]
+
 ghost use Rattle.std.specs.Prelude.{◌≤◌, length};
 
 use libc::STDIN_FILENO;
@@ -7,7 +9,7 @@ use text_lines::Cut;
 use whatif::Counts;
 
 // The line being read, the counts, whether no read failed, and whether slips and remarks went out.
-#[derive(Drop)]
+#[derive(Clone, Copy)]
 struct Work {
     cut: Cut,
     counts: Counts,
@@ -16,7 +18,7 @@ struct Work {
     reported: bool,
 }
 
-#[derive(Drop)]
+#[derive(Clone, Copy)]
 struct Stepped {
     work: Work,
     taken: usize,

@@ -13,7 +13,7 @@ use codec::kinds::{CATTLE, ENTERIC, FARM, PIG, bytes_of};
 use codec::numbers::{be8, be16};
 
 // The two numbers that are compared, where there are any.
-#[derive(Drop)]
+#[derive(Clone, Copy)]
 pub(crate) struct Numbers {
     pub some: bool,
     pub value: u64,

@@ -1,4 +1,6 @@
 // Why a book is refused: which record, which rule, and the two numbers that the rule compares; or that it is accepted, or what is missing of it.
+#![tactic(auto)]
+
 pub mod remarks; // remarks.rt: what machines and people are told
 mod compared; // compared.rt: the value and the limit
 mod values; // values.rt: a field's value and its range
@@ -22,7 +24,7 @@ use walk::next_alone;
 // Why a record is refused: the rule's number, the record's number and its first and last byte, all from 0; the field from 1, with 7 alone; the kind
 // byte; the row of the table by which its fields are named; the group of the heading before it, 0 where there is none; and the value and the limit,
 // where there are any.
-#[derive(Drop)]
+#[derive(Clone, Copy)]
 pub struct Reason {
     pub code: u8,
     pub number: u16,
@@ -39,7 +41,7 @@ pub struct Reason {
 
 // What there is to say of a book. An accepted one has its first byte after the close at that place, and the bool says whether there is one. An
 // unfinished one lacks so many bytes of its last record, or the next record's length is not there yet.
-#[derive(Drop)]
+#[derive(Clone, Copy)]
 pub enum Verdict {
     Accepted(usize, bool),
     Missing(usize),

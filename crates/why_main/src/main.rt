@@ -1,5 +1,7 @@
 // Reads a book on standard input and says why it is refused, if it is: a line for machines and a line for people, on standard output. A hint goes to
 // standard error.
+#![tactic(auto)]
+
 ghost use Rattle.std.specs.Prelude.{◌≡◌, length};
 
 use libc::STDIN_FILENO;

@@ -1,4 +1,6 @@
 // A book typed line by line: what becomes of each line, and what the person who types is told.
+#![tactic(auto)]
+
 pub mod typed_line; // typed_line.rt: what a typed line says
 mod enter; // enter.rt: what becomes of a line, and of the end
 mod lines; // lines.rt: what is told of a line that failed
@@ -18,14 +20,14 @@ use book::State;
 use text_lines::Cut;
 
 // The line that lost the heading, 0 where none did; its kind is a heading (0), or it may have been one and was not read (1) or refused (2).
-#[derive(Drop)]
+#[derive(Clone, Copy)]
 pub struct Lost {
     pub line: u64,
     pub cause: u64,
 }
 
 // The line of a close that waits for the end of the text, and the first and the last line of a run without heading; 0 where there is none.
-#[derive(Drop)]
+#[derive(Clone, Copy)]
 pub struct Waiting {
     pub close: u64,
     pub first: u64,
@@ -33,7 +35,7 @@ pub struct Waiting {
 }
 
 // How many lines were written, refused, not read and without heading, how many values were unusual, and how many messages there were.
-#[derive(Drop)]
+#[derive(Clone, Copy)]
 pub struct Counts {
     pub written: u64,
     pub refused: u64,
@@ -44,14 +46,14 @@ pub struct Counts {
 }
 
 // Whether some line had a word, and whether one was a close.
-#[derive(Drop)]
+#[derive(Clone, Copy)]
 pub struct Heard {
     pub words: bool,
     pub close: bool,
 }
 
 // The state after the records written; the days of the book's year, 0 before its farm record; and the first line that failed, 0 where none did.
-#[derive(Drop)]
+#[derive(Clone, Copy)]
 pub struct Typist {
     pub state: State,
     pub year: u64,
@@ -64,7 +66,7 @@ pub struct Typist {
 
 // What becomes of a line. Not read: the kind, 0 where it can't be read, and the place of the wrong word, counted from 1, 0 where the line is too
 // long.
-#[derive(Drop)]
+#[derive(Clone, Copy)]
 pub enum Fate {
     Nothing,
     Unread(u64, usize),
@@ -76,7 +78,7 @@ pub enum Fate {
 }
 
 // The typist behind a line, what became of it, and the count of bytes written.
-#[derive(Drop)]
+#[derive(Clone, Copy)]
 pub struct Entered {
     pub typist: Typist,
     pub fate: Fate,
@@ -84,14 +86,14 @@ pub struct Entered {
 }
 
 // The typist, and the line being read.
-#[derive(Drop)]
+#[derive(Clone, Copy)]
 pub struct Typing {
     pub typist: Typist,
     pub cut: Cut,
 }
 
 // What a line does: the typist behind it, and the counts of bytes written and said.
-#[derive(Drop)]
+#[derive(Clone, Copy)]
 pub struct Lined {
     pub typist: Typist,
     pub written: usize,
@@ -99,7 +101,7 @@ pub struct Lined {
 }
 
 // What a call does: the same, with the line being read and how many bytes of the part are taken.
-#[derive(Drop)]
+#[derive(Clone, Copy)]
 pub struct Typed {
     pub typing: Typing,
     pub taken: usize,

@@ -12,7 +12,7 @@ use make_record::Written;
 use typed_words::Whole;
 
 // How many values are typed and the first 13 of them, zeros behind; the place of a word that is no number, counted from 1, or 0.
-#[derive(Drop)]
+#[derive(Clone, Copy)]
 struct Values {
     values: [u64; 13],
     count: usize,
@@ -20,7 +20,7 @@ struct Values {
 }
 
 // A record that is typed: count values, of which the first 13 stand here, zeros behind. No kind has 13.
-#[derive(Drop)]
+#[derive(Clone, Copy)]
 pub struct Entry {
     pub kind: u64,
     pub values: [u64; 13],
@@ -29,7 +29,7 @@ pub struct Entry {
 
 // Whether a line says a record: Nothing where it has no word; Wrong with the kind, 0 where it can't be read, and the place of the word that is
 // wrong, counted from 1, or 0 where the line is too long.
-#[derive(Drop)]
+#[derive(Clone, Copy)]
 pub enum Said {
     Nothing,
     Record,
@@ -37,7 +37,7 @@ pub enum Said {
 }
 
 // What a line says; the entry is all zeros where it is no record.
-#[derive(Drop)]
+#[derive(Clone, Copy)]
 pub struct Line {
     pub said: Said,
     pub entry: Entry,

@@ -1,5 +1,7 @@
 // Reads a typed book on standard input and writes its bytes on standard output; what is reported goes to standard error. With two arguments it shows
 // the kinds on standard output and reads nothing.
+#![tactic(auto)]
+
 ghost use Rattle.std.specs.Prelude.{◌≤◌, ◌≡◌, length};
 
 use book::State;
@@ -10,7 +12,7 @@ use writer::{Typing, Typist};
 
 // The typist and the line being read, how many bytes the last call took, whether all was read and written, whether no write of the book failed, and
 // whether all remarks went out.
-#[derive(Drop)]
+#[derive(Clone, Copy)]
 struct Work {
     typing: Typing,
     taken: usize,
