@@ -44,7 +44,9 @@ val_at-be (suc w) v p q h =
     let high : val_at s (length p) w ≡ v / 256 = val_at-be w (v / 256) p (b ∷ q) (omega arith) in
     let low : get_or s (length p + w) 0 ≡ b =
     get_or-append-add p (be w (v / 256) ++ (b ∷ q)) w 0 ∙ get_or_at (be w (v / 256)) b q 0 w (be-length w (v / 256)) in
-    rw (append_assoc (be w (v / 256)) (b ∷ []) q, high, low) (omega arith)
+    let joined : be (suc w) v ++ q ≡ be w (v / 256) ++ (b ∷ q) = append_assoc (be w (v / 256)) (b ∷ []) q in
+    let apart : val_at s (length p) w * 256 + get_or s (length p + w) 0 ≡ v = rw (high, low) (omega arith) in
+    ap (λ t. val_at (p ++ t) (length p) (suc w)) joined ∙ apart
 
 -- a number read and written again
 pub be-val_at : (s : List ℕ) → Bytes s → (at w : ℕ) → at + w ≤ length s → be w (val_at s at w) ≡ take w (drop at s)
