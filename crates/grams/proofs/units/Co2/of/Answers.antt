@@ -1,0 +1,6 @@
+-- `grams::units::Co2::of` meets its contract. Assumes nothing.
+use Rattle.std.proofs.Common.{refl}
+use Rattle.grams.proofs.units.Co2.of.Goals as goal
+
+pub returns : goal.returns
+returns c = refl

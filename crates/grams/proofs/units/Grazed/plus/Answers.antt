@@ -1,0 +1,6 @@
+-- `grams::units::Grazed::plus` meets its contract. Assumes nothing.
+use Rattle.std.proofs.Common.{refl}
+use Rattle.grams.proofs.units.Grazed.plus.Goals as goal
+
+pub returns : goal.returns
+returns c = refl
