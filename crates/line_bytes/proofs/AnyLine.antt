@@ -1,7 +1,7 @@
 -- A line of any kind: its size, its bytes from its numbers, and whether some bytes begin with one.
 -- Assumes nothing.
 use mathlib.Core.Path.{◌≡◌, refl, sym, ap, ◌∙◌}
-use mathlib.Core.Bool.{Bool, true, false, ◌&&◌}
+use mathlib.Core.Bool.{Bool, false, ◌&&◌}
 use mathlib.Core.List.{List, [], ◌∷◌}
 use Prim.Native.Nat.{ℕ, zero, suc, ◌+◌, ◌-◌, ◌/◌, ◌<◌, ◌≤◌}
 use native.Mathlib.Omega.{arith}
@@ -13,7 +13,7 @@ use lib.Seq.{sets, get_or-drop, length-take-le}
 use Rattle.base.proofs.Tests.{of-choice, by-test}
 use Rattle.codec.specs.declared.Field.{Field}
 use Rattle.codec.specs.Codec.{val_at, bytes_of}
-use Rattle.line_bytes.specs.Lines.{figure, figure_count, line_fields, total_fields, line_size, total_size, line_length, total_length, front_size}
+use Rattle.line_bytes.specs.Lines.{figure, figure_count, line_fields, total_fields, line_size, line_length, total_length, front_size}
 use Rattle.line_bytes.specs.Lines.{size_of_kind, number_width, is_line_kind, numbers_bytes, is_line}
 use Rattle.line_bytes.proofs.Laid.{headed, opened, head-stored}
 
