@@ -1,0 +1,6 @@
+-- Assumes nothing.
+use mathlib.Core.Path.{refl}
+use Rattle.account.proofs.range.ungrouped.Goals as goal
+
+pub returns : goal.returns
+returns c = rw c.grams.ensures refl
