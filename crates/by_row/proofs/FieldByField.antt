@@ -52,7 +52,8 @@ module _ (fs : List Field) (i : ℕ) (h : i < length fs) where
     unfolding first_bad
     above l = rw (drop-cons fs i none h, lt-leb _ _ l, either, add-one)
 
-    pub within : (get_or fs i none).1 ≤ get_or v i 0 → get_or v i 0 ≤ (get_or fs i none).2 → first_bad (drop (i + 1) fs) v (i + 1) ≡ first_bad (drop i fs) v i
+    pub within : (get_or fs i none).1 ≤ get_or v i 0 → get_or v i 0 ≤ (get_or fs i none).2
+        → first_bad (drop (i + 1) fs) v (i + 1) ≡ first_bad (drop i fs) v i
     unfolding first_bad
     within l m = rw (drop-cons fs i none h, le-leb _ _ l, le-leb _ _ m, add-one)
 

@@ -70,7 +70,7 @@ abbrev pub figure_columns : List ℕ
 figure_columns = ascii "ch4,n2o,co2,excreted,land,grazing,co2e"
 
 unfoldable pub figure_names : List ℕ
-figure_names = ascii "CH4\n_n2_o\n_c_o2\n_n excreted\n_n for land\ngrazing CO2e\n_c_o2e"
+figure_names = ascii "CH4\nN2O\nCO2\nN excreted\nN for land\ngrazing CO2e\nCO2e"
 
 -- the names of a sheet's columns
 abbrev pub column_names : List ℕ

@@ -56,5 +56,5 @@ mark_text sc =
 -- the bar of a row that leads from one step to another
 unfoldable pub bar_text : Scale → ℕ → ℕ → Bool → List ℕ
 bar_text sc from to up =
-    ascii "<svg view_box=\"0 0 1000 8\" preserve_aspect_ratio=\"none\" aria-hidden=\"true\"><rect"
+    ascii "<svg viewBox=\"0 0 1000 8\" preserveAspectRatio=\"none\" aria-hidden=\"true\"><rect"
     ++ (rect_text up (place_of sc from) (place_of sc to) ++ (ascii "></rect>" ++ (mark_text sc ++ ascii "</svg>")))

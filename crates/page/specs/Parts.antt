@@ -150,7 +150,7 @@ groups_foot s =
 -- what gives off or takes up, by kind, a line each
 unfoldable pub source_table : List ℕ
 source_table =
-    ascii "\n\n\n_digestion of cattle\n_cattle manure\n_pig manure\n_energy\n_organic soil\n\n_change of tillage\n_grazing"
+    ascii "\n\n\nDigestion of cattle\nCattle manure\nPig manure\nEnergy\nOrganic soil\n\nChange of tillage\nGrazing"
 
 -- words beside it
 unfoldable pub words_table : List ℕ
@@ -241,7 +241,7 @@ factors_text s =
     ++ (decimal s.a
     ++ (ascii " kilograms of CO<sub>2</sub>, a kilogram of nitrous oxide as much as "
     ++ (decimal s.b
-    ++ (ascii ".\n_these are the warming factors that the book of the farm names.</p>\n<table id=\"gases\">\n"
+    ++ (ascii ".\nThese are the warming factors that the book of the farm names.</p>\n<table id=\"gases\">\n"
     ++ (ascii "<thead><tr><th>Gas</th><th>Kilograms</th><th>Factor</th><th>CO<sub>2</sub>e</th></tr></thead>\n"
     ++ ascii "<tbody><tr><th><b>Methane</b> CH<sub>4</sub></th><td>")))))
 
