@@ -5,10 +5,22 @@ ghost use Rattle.std.specs.Prelude.{◌≡◌, ◌-◌, ◌≤◌};
 ghost use Rattle.io.specs.Counts.{IsPrefixLen};
 ghost use Rattle.program.specs.Beginning.{unread};
 
-use libc::{STDERR_FILENO, STDOUT_FILENO};
+use std::env::{Env, FillError};
+use std::io::{Cursor, Error, ErrorKind, Read, Stderr, Write};
 
 // Where a caller that gives an argument, the word `status`, wants the status byte.
 pub const STATUS_FILENO: i32 = 3;
+
+// What every program reaches of the system: standard output and input, its arguments, and standard error for bytes, which need not be text.
+pub trait System: Print + std::io::Input + Env {
+    fn errors(&self) -> Stderr;
+}
+
+impl System for HostRuntime {
+    fn errors(&self) -> Stderr {
+        self.stderr()
+    }
+}
 
 // How many bytes were read, and whether no read failed.
 #[derive(Clone, Copy)]
@@ -38,11 +50,17 @@ impl Reading {
     }
 
     // Reads once, a part of at most the buffer's length; a read that fails is reported by the input's name.
-    pub fn next(self, fd: i32, name: &[u8], buf: &mut [u8]) -> Reading
+    pub fn next<R: System, I: Read>(
+        self,
+        rt: &R,
+        from: &mut I,
+        name: &[u8],
+        buf: &mut [u8],
+    ) -> Reading
         ensures prefix_len { IsPrefixLen result.len buf.new }
         ensures turns_bound { result.turns ≤ self.turns - 1 }
     {
-        let input = read_once(fd, name, buf);
+        let input = read_once(rt, from, name, buf);
         Reading {
             len: input.len,
             good: self.good & input.good,
@@ -68,54 +86,80 @@ fn at_most(a: usize, b: usize) -> usize
 }
 
 // A text for standard output. Where it can't go out, that is reported, unless nobody reads it any more: `head` has seen what it wanted.
-pub fn send(text: &[u8]) -> bool {
-    if io::write_all(STDOUT_FILENO, text) {
-        return true;
+pub fn send(rt: &impl System, text: &[u8]) -> bool {
+    match Print::write_all(rt, text) {
+        Ok(()) => true,
+        Err(why) => {
+            if why.kind() != ErrorKind::BrokenPipe {
+                fail(rt, b"standard output", &why);
+            }
+            false
+        }
     }
-    if os::errno() != libc::EPIPE {
-        os::fail(b"standard output");
-    }
-    false
 }
 
 // A text for people, on standard error.
-pub fn report(text: &[u8]) -> bool {
-    io::write_all(STDERR_FILENO, text)
+pub fn report(rt: &impl System, text: &[u8]) -> bool {
+    Print::write_all(&rt.errors(), text).is_ok()
 }
 
-// The status byte, where the caller gave the argument.
-pub fn tell_status(status: u8) {
-    if 1 < os::arg_count() {
+// A line on standard error: what failed, as the caller names it, a colon and the system's words.
+pub fn fail(rt: &impl System, what: &[u8], why: &Error) {
+    let mut said = Cursor::new([0u8; 256]);
+    let _ = write!(said, "{why}");
+    report(rt, what);
+    report(rt, b": ");
+    report(rt, words_of(&said.into_inner()));
+    report(rt, b"\n");
+}
+
+// The system's words for an error, without the error's number that std puts after them in brackets, or the zeros after both.
+fn words_of(said: &[u8]) -> &[u8] {
+    for n in 0..said.len() {
+        if (said[n] == 0) | said[n..].starts_with(b" (os error ") {
+            return &said[..n];
+        }
+    }
+    said
+}
+
+// Whether the program was started with an argument i, its own name being 0.
+pub fn has_argument(rt: &impl System, i: usize) -> bool {
+    let mut none = [0u8; 0];
+    !matches!(rt.arg(i, &mut none), Err(FillError::NotPresent))
+}
+
+// The status byte, where the caller gave the argument. std has no handle for its descriptor.
+pub fn tell_status(rt: &impl System, status: u8) {
+    if has_argument(rt, 1) {
         io::write_all(STATUS_FILENO, &[status]);
     }
 }
 
 // One read. A read that fails gives no byte.
-fn read_once(fd: i32, name: &[u8], buf: &mut [u8]) -> Input
+fn read_once<R: System, I: Read>(rt: &R, from: &mut I, name: &[u8], buf: &mut [u8]) -> Input
     ensures { IsPrefixLen result.len buf.new }
 {
-    let got = libc::read(fd, buf);
-    if got < 0 {
-        os::fail(name);
-        return Input {
-            len: 0,
-            good: false,
-        };
-    }
-    Input {
-        len: io::count(got, buf),
-        good: true,
+    match from.read(buf) {
+        Ok(len) => Input { len, good: true },
+        Err(why) => {
+            fail(rt, name, &why);
+            Input {
+                len: 0,
+                good: false,
+            }
+        }
     }
 }
 
 // Reads up to the input's end, or until the buffer is full; a read that fails is reported by the input's name. A proved loop has to end:
 // each read takes a byte, or is the last.
-pub fn read_all(fd: i32, name: &[u8], buf: &mut [u8]) -> Input
+pub fn read_all<R: System, I: Read>(rt: &R, from: &mut I, name: &[u8], buf: &mut [u8]) -> Input
     ensures { IsPrefixLen result.len buf.new }
 {
     let mut n = 0;
     while n < buf.len() {
-        let part = read_once(fd, name, &mut buf[n..]);
+        let part = read_once(rt, from, name, &mut buf[n..]);
         let more = at_most(part.len, buf.len() - n);
         if more == 0 {
             return Input {
