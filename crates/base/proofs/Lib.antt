@@ -1,3 +1,4 @@
+pub mod Bytes
 pub mod OneAnswer
 pub mod Signed
 pub mod Slices

@@ -10,6 +10,8 @@ use Rattle.base.proofs.first_of.Kinds as front
 use Rattle.base.proofs.first_of.Reads as front-contract
 use Rattle.base.proofs.rest_of.Kinds as back
 use Rattle.base.proofs.rest_of.Reads as back-contract
+use Rattle.base.proofs.find.Kinds as place
+use Rattle.base.proofs.find.Reads as place-contract
 
 pub least-asks-nothing : AsksNothing lesser.ps lesser-contract.Asked
 least-asks-nothing κs args = tt
@@ -32,3 +34,10 @@ one-first-of κs args f g e e' p q = p ∙ sym q
 -- The others.
 pub one-rest-of : TwoAnswers back.ps back.r back-contract.Learnt (λ κs args f g e e'. f.now ≡ g.now)
 one-rest-of κs args f g e e' p q = p ∙ sym q
+
+pub find-asks-nothing : AsksNothing place.ps place-contract.Asked
+find-asks-nothing κs args = tt
+
+-- Where a byte stands.
+pub one-find : OneAnswer place.ps place.r place-contract.Learnt
+one-find κs args f g e e' p q = p.0 ∙ sym q.0

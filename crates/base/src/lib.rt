@@ -2,6 +2,7 @@
 #![tactic(auto)]
 
 ghost use Rattle.std.specs.Prelude.{◌≡◌, ◌≤◌, min, length, take, drop};
+ghost use Rattle.base.specs.Bytes.{index_of};
 ghost use Rattle.base.specs.Choice.{one_more_lem};
 
 pub fn least(a: usize, b: usize) -> usize
@@ -31,4 +32,19 @@ pub fn rest_of(s: &[u8], n: usize) -> &[u8]
     ensures { result.now ≡ drop n s.now }
 {
     &s[n..]
+}
+
+// Where the first b stands, or the length where there is none.
+pub fn find(s: &[u8], b: u8) -> usize
+    ensures value { result ≡ index_of b s.now }
+    ensures upper_bound { result ≤ length s.now }
+{
+    let mut i = 0;
+    while i < s.len() {
+        if s[i] == b {
+            return i;
+        }
+        i += 1;
+    }
+    i
 }

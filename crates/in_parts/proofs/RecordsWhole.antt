@@ -11,7 +11,7 @@ use borrow.Author.Tests.{ne_eqb, eqb-true, eqb-false, leb-true}
 use lib.Dec.{eqb, leb}
 use lib.ListN.{length, take, drop, length-append, length-drop, take-append-drop}
 use Rattle.base.proofs.Tests.{by-test, lt-or-ge, and_l, and_r, neither}
-use Rattle.bytes.specs.Bytes.{index_of, index_after}
+use Rattle.base.specs.Bytes.{index_of, index_after}
 use Rattle.typed_words.specs.Words.{nth_part}
 use Rattle.names.specs.Names.{kind_table, no_row, kind_name}
 use Rattle.account.specs.declared.Account.{Account}

@@ -8,7 +8,7 @@ use mathlib.Core.List.{List, [], ◌∷◌}
 use lib.ListN.{length, drop}
 use lib.Dec.{T, eqb, leb, leb→le}
 use Rattle.base.specs.Choice.{pick}
-use Rattle.bytes.specs.Bytes.{index_of, index_after}
+use Rattle.base.specs.Bytes.{index_of, index_after}
 use Rattle.codec.specs.Table.{table, fields, last_row}
 use Rattle.typed_words.specs.Words.{nth_part, nth_word, leading_of, same_text_lem}
 use Rattle.printing.specs.Ascii.{ascii}

@@ -8,7 +8,7 @@ use lib.Dec.{T, eqb, leb, leb→le}
 use Rattle.base.specs.Choice.{pick}
 use Rattle.codec.specs.Table.{table, fields, row_kind}
 use Rattle.codec.specs.Codec.{first_bad}
-use Rattle.bytes.specs.Bytes.{index_of, index_after}
+use Rattle.base.specs.Bytes.{index_of, index_after}
 use Rattle.typed_words.specs.Words.{leading_of, nth_word, same_text_lem, lowered, nth_part}
 use Rattle.typed_words.specs.Amounts.{number_from, amount_of}
 use Rattle.names.specs.Names.{kind_table, field_table, expected_table, choice_table, chosen_from, decimals_table}

@@ -1,7 +1,7 @@
 -- Texts as they are told: the lines of the tables stand where their kinds and numbers say.
 use mathlib.Core.Path.{◌≡◌, refl}
 use mathlib.Core.List.{[], ◌∷◌}
-use Rattle.bytes.specs.Bytes.{index_of, index_after}
+use Rattle.base.specs.Bytes.{index_of, index_after}
 use Rattle.typed_words.specs.Words.{leading_of, nth_part, nth_word, same_text_lem, lowered}
 use Rattle.printing.specs.Ascii.{ascii}
 use Rattle.printing.specs.Decimal.{digits_by, decimal, without_last, last_digits, pointed}

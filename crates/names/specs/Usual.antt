@@ -2,7 +2,7 @@
 -- matter, Ym 6.5 per cent) and document 002 (tables A4-12, A4-14 and A4-19 to A4-24), taken wide.
 use Rattle.std.specs.Prelude.{ℕ, ◌-◌, Bool, List, [], ◌++◌, length, ltb, eqb}
 use Rattle.base.specs.Choice.{pick}
-use Rattle.bytes.specs.Bytes.{index_of}
+use Rattle.base.specs.Bytes.{index_of}
 use Rattle.typed_words.specs.Words.{nth_part, nth_word}
 use Rattle.typed_words.specs.Amounts.{amount_of}
 use Rattle.printing.specs.Ascii.{ascii}

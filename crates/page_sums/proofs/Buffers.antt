@@ -14,7 +14,7 @@ use Rattle.base.proofs.Tests.{by-test}
 use Rattle.printing.specs.Ascii.{ascii, thin_space}
 use Rattle.printing.specs.Decimal.{digit, decimal}
 use Rattle.printing.proofs.Digits.{length-u64}
-use Rattle.bytes.specs.Bytes.{index_of}
+use Rattle.base.specs.Bytes.{index_of}
 use Rattle.typed_words.specs.Words.{leading_of, trimmed, nth_word, nth_part}
 use Rattle.names.specs.Names.{no_row, table_line, choice_table, choices_of, class_name}
 use Rattle.grams.specs.Round.{round_div}

@@ -9,7 +9,7 @@ use lib.Dec.{eqb, ltb}
 use borrow.Author.Tests.{eq-eqb, ne_eqb, eqb-true}
 use Rattle.base.specs.Choice.{pick, one_more_lem}
 use Rattle.base.proofs.Tests.{and-false, by-test}
-use Rattle.bytes.specs.Bytes.{index_of}
+use Rattle.base.specs.Bytes.{index_of}
 use Rattle.codec.specs.Table.{record_most}
 use Rattle.text_lines.specs.Lines.{kept, lines_of, unmarked}
 use Rattle.text_lines.specs.Parts.{Numbered, numbered}

@@ -11,7 +11,7 @@ use lib.Dec.{leb, ltb, eqb}
 use borrow.Author.Tests.{leb-true, ltb-true, eqb-true}
 use Rattle.base.specs.Choice.{pick}
 use Rattle.base.proofs.Tests.{and_l, and_r, lt-or-ge, not-true}
-use Rattle.bytes.specs.Bytes.{index_of, index_after}
+use Rattle.base.specs.Bytes.{index_of, index_after}
 use Rattle.typed_words.specs.declared.Whole.{Whole}
 use Rattle.typed_words.specs.Words.{nth_part, nth_word, leading_of, same_text_lem, lowered}
 use Rattle.typed_words.specs.Amounts.{a_whole, number_from, amount_of}

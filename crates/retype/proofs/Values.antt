@@ -9,7 +9,7 @@ use mathlib.Core.List.{List, [], ◌∷◌, ◌++◌}
 use lib.ListN.{length, get_or, length-append}
 use borrow.Author.Tests.{lt-ltb, ne_eqb}
 use Rattle.base.proofs.Tests.{of-choice}
-use Rattle.bytes.specs.Bytes.{index_of}
+use Rattle.base.specs.Bytes.{index_of}
 use Rattle.typed_words.specs.Words.{leading_of, nth_word}
 use Rattle.typed_words.specs.Amounts.{a_whole}
 use Rattle.text_lines.specs.Lines.{has}

@@ -8,7 +8,7 @@ use mathlib.Core.List.{List, [], ◌∷◌, ◌++◌}
 use lib.ListN.{length}
 use lib.Seq.{take_at, drop_at}
 use borrow.Author.Tests.{ne_eqb}
-use Rattle.bytes.specs.Bytes.{index_of}
+use Rattle.base.specs.Bytes.{index_of}
 use Rattle.typed_words.specs.Words.{is_blank, leading_of, first_word, past_word}
 use Rattle.text_lines.specs.Lines.{has}
 use Rattle.text_lines.proofs.Bytes.{index-other, has-not}

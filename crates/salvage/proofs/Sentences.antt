@@ -10,7 +10,7 @@ use lib.Dec.{T, leb, eqb, leb→le}
 use lib.ListN.{length}
 use lib.Ieee.Fits.{and_l as and_left, and_r as and_right}
 use Rattle.base.proofs.Tests.{true-or-false}
-use Rattle.bytes.specs.Bytes.{index_of, index_after}
+use Rattle.base.specs.Bytes.{index_of, index_after}
 use Rattle.typed_words.specs.Words.{nth_part}
 use Rattle.names.specs.Names.{table_line, sentence_table, sentence}
 

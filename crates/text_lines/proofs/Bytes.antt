@@ -10,7 +10,7 @@ use lib.Seq.{take_all, take-append-le, take-append-add}
 use lib.Dec.{eqb}
 use borrow.Author.Tests.{lt-ltb, le-ltb, ltb-true, ltb-false, eqb-true}
 use Rattle.base.proofs.Tests.{by-test}
-use Rattle.bytes.specs.Bytes.{index_of, index_after}
+use Rattle.base.specs.Bytes.{index_of, index_after}
 use Rattle.text_lines.specs.Lines.{before, has}
 
 -- ---- the index of a byte

@@ -8,7 +8,7 @@ use mathlib.Core.List.{List, [], ◌∷◌, ◌++◌, append-nil, append_assoc}
 use lib.ListN.{length, take, length-append}
 use lib.Seq.{take-nil}
 use Rattle.base.proofs.Tests.{by-test}
-use Rattle.bytes.specs.Bytes.{index_of}
+use Rattle.base.specs.Bytes.{index_of}
 use Rattle.text_lines.specs.Lines.{most, uncommented, has, kept, keep_more, comment_after}
 use Rattle.text_lines.proofs.Bytes.{before-all, before-behind, before-within}
 

@@ -11,7 +11,7 @@ use lib.Dec.{eqb, ltb}
 use borrow.Author.Tests.{ltb-true}
 use Rattle.base.specs.Choice.{pick}
 use Rattle.base.proofs.Tests.{and-false, by-test}
-use Rattle.bytes.specs.Bytes.{index_of, slice}
+use Rattle.base.specs.Bytes.{index_of, slice}
 use Rattle.printing.specs.Decimal.{Put}
 use Rattle.text_lines.specs.Lines.{before, room, stored, cutting_of, cut_in, is_marked, unmarked}
 use Rattle.text_lines.specs.declared.Cut.{Cut}

@@ -1,7 +1,7 @@
 -- The lines of document 02's typed text (W1: "Advisers now type a book into one program"): where a line ends, and what is kept of it.
 use Rattle.std.specs.Prelude.{ℕ, ◌+◌, ◌-◌, min, Bool, false, ◌&&◌, ◌||◌, List, [], ◌∷◌, ◌++◌, length, get_or, take, drop, eqb, ltb}
 use Rattle.base.specs.Choice.{pick, one_more_lem}
-use Rattle.bytes.specs.Bytes.{index_of}
+use Rattle.base.specs.Bytes.{index_of}
 use Rattle.text_lines.specs.declared.Cut.{Cut}
 use Rattle.text_lines.specs.declared.Cutting.{Cutting}
 

@@ -10,7 +10,7 @@ use lib.Seq.{drop-cons}
 use lib.Dec.{leb, ltb, eqb, leb→le}
 use lib.Ieee.Fits.{and_l, and_r}
 use borrow.Author.Tests.{not-true, not-false, lt-ltb, le-ltb, ne_eqb}
-use Rattle.bytes.specs.Bytes.{index_of, index_after}
+use Rattle.base.specs.Bytes.{index_of, index_after}
 use Rattle.typed_words.specs.declared.Whole.{Whole}
 use Rattle.typed_words.specs.Numbers.{no_whole, goes_on_lem}
 use Rattle.typed_words.specs.Amounts.{is_digit, with_digit, a_whole, number_from, amount_of}

@@ -7,7 +7,7 @@ use lib.ListN.{length, take, drop}
 use lib.Dec.{leb, ltb, leb→le}
 use lib.Ieee.{Float}
 use lib.Ieee.Fits.{and_r}
-use Rattle.bytes.specs.Bytes.{index_of, slice}
+use Rattle.base.specs.Bytes.{index_of, slice}
 use Rattle.typed_words.specs.Numbers.{digits_from, double, +0, pick_double, decimal_of}
 use Rattle.typed_words.specs.declared.Whole.{Whole}
 use Rattle.typed_words.proofs.Names.{found}

@@ -2,7 +2,7 @@
 use mathlib.Core.Path.{◌≡◌, refl}
 use mathlib.Core.Bool.{true}
 use mathlib.Core.List.{[], ◌∷◌}
-use Rattle.bytes.specs.Bytes.{index_of, index_after}
+use Rattle.base.specs.Bytes.{index_of, index_after}
 use Rattle.typed_words.specs.Numbers.{no_whole}
 use Rattle.typed_words.specs.Words.{lowered, same_text_lem, nth_part}
 use Rattle.typed_words.specs.Amounts.{a_whole, number_from, amount_of}

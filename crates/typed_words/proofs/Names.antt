@@ -7,7 +7,7 @@ use mathlib.Core.List.{List, [], ◌∷◌}
 use lib.ListN.{length, get_or, take, drop}
 use lib.Seq.{take-length}
 use borrow.Author.Tests.{le-leb, lt-leb}
-use Rattle.bytes.specs.Bytes.{index_of, slice}
+use Rattle.base.specs.Bytes.{index_of, slice}
 use Rattle.typed_words.specs.Words.{small_letter, lowered, same_text_lem, nth_part}
 use Rattle.typed_words.proofs.Same.{other_length, goes_on, differs, at-end}
 

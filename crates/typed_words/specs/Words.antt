@@ -1,7 +1,7 @@
 -- The words of a line that a person types for document 01's what-if slip or book, names in capitals or not, and the pieces of a text.
 use Rattle.std.specs.Prelude.{ℕ, zero, suc, ◌+◌, Bool, true, false, ◌&&◌, ◌||◌, List, [], ◌∷◌, take, drop, eqb, leb}
 use Rattle.std.specs.Bool.{beq}
-use Rattle.bytes.specs.Bytes.{index_of}
+use Rattle.base.specs.Bytes.{index_of}
 
 -- a space, a tab or a carriage return
 abbrev pub is_blank : ℕ → Bool

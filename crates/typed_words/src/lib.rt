@@ -5,7 +5,7 @@ ghost use Rattle.std.specs.Prelude.{◌≡◌, ◌+◌, ◌^◌, ◌≤◌, ◌<
 ghost use Rattle.typed_words.specs.Words.{is_blank, leading_of, trimmed, first_word, past_word, nth_word, same_text_lem, small_letter, lowered, nth_part};
 ghost use Rattle.typed_words.specs.Numbers.{takes, digits_from, whole_of, decimal_of, double};
 ghost use Rattle.typed_words.specs.Amounts.{is_digit, with_digit, number_from, a_whole, amount_of};
-ghost use Rattle.bytes.specs.Bytes.{index_of};
+ghost use Rattle.base.specs.Bytes.{index_of};
 
 use base::{first_of, rest_of};
 

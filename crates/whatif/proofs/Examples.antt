@@ -2,7 +2,7 @@
 -- Assumes nothing.
 use Rattle.std.proofs.Common.{◌≡◌, true, refl}
 use lib.Ieee.{Float, round, le}
-use Rattle.bytes.specs.Bytes.{index_of, index_after}
+use Rattle.base.specs.Bytes.{index_of, index_after}
 use Rattle.printing.specs.Ascii.{ascii}
 use Rattle.names.specs.Names.{all_printed}
 use Rattle.typed_words.specs.Words.{leading_of, nth_word, nth_part, same_text_lem, lowered}

@@ -2,7 +2,7 @@
 -- Assumes nothing.
 use mathlib.Core.Path.{◌≡◌, refl}
 use mathlib.Core.List.{[], ◌∷◌}
-use Rattle.bytes.specs.Bytes.{index_of, index_after}
+use Rattle.base.specs.Bytes.{index_of, index_after}
 use Rattle.printing.specs.Ascii.{ascii}
 use Rattle.typed_words.specs.Words.{leading_of, nth_word, same_text_lem, lowered, nth_part}
 use Rattle.typed_words.specs.Amounts.{number_from, amount_of}

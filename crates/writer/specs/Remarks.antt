@@ -2,7 +2,7 @@
 -- verdict.
 use Rattle.std.specs.Prelude.{ℕ, ◌+◌, ◌-◌, ◌*◌, min, Bool, true, false, ◌&&◌, ◌||◌, not, List, [], ◌++◌, length, get_or, drop, eqb, leb, ltb}
 use Rattle.base.specs.Choice.{pick}
-use Rattle.bytes.specs.Bytes.{index_of}
+use Rattle.base.specs.Bytes.{index_of}
 use Rattle.printing.specs.Ascii.{ascii}
 use Rattle.printing.specs.Decimal.{decimal, pointed}
 use Rattle.typed_words.specs.Words.{nth_word, nth_part}
