@@ -2,15 +2,14 @@
 use Prim.Native.Nat.{ℕ, suc, ◌+◌, ◌-◌, ◌<◌, ◌≤◌}
 use native.Mathlib.Numerals.{add-one}
 use native.Mathlib.Omega.{arith}
-use mathlib.Core.Path.{◌≡◌, refl, sym, ap, ◌∙◌}
-use mathlib.Core.Bool.{Bool, true, false, not, ◌&&◌, ◌||◌}
+use mathlib.Core.Path.{◌≡◌, refl, sym, ◌∙◌}
+use mathlib.Core.Bool.{Bool, true, false, ◌&&◌, ◌||◌}
 use mathlib.Core.List.{List, [], ◌∷◌, ◌++◌}
 use lib.ListN.{length, get_or, take, drop, replicate, drop_of_length-le}
 use lib.Seq.{drop-cons}
 use lib.Dec.{leb, ltb, eqb, leb→le}
 use lib.Ieee.Fits.{and_l, and_r}
-use borrow.Author.Tests.{not-true, not-false, lt-ltb, le-ltb, ne_eqb}
-use Rattle.base.specs.Bytes.{index_of, index_after}
+use Rattle.base.specs.Bytes.{index_of}
 use Rattle.typed_words.specs.declared.Whole.{Whole}
 use Rattle.typed_words.specs.Numbers.{no_whole, goes_on_lem}
 use Rattle.typed_words.specs.Amounts.{is_digit, with_digit, a_whole, number_from, amount_of}
@@ -20,16 +19,16 @@ at_byte : (v : ℕ) (s : List ℕ) (i : ℕ) → i < length s
 unfolding number_from
 at_byte v s i h = rw (add-one, drop-cons s i 0 h)
 
-pub low : (b : ℕ) (r : Bool) → r ≡ is_digit b → not r ≡ false → 48 ≤ b
-low b r e t = leb→le 48 b (and_l (leb 48 b) (leb b 57) (rw (← e, not-false r t) tt))
+pub low : (b : ℕ) (r : Bool) → r ≡ is_digit b → r ≡ true → 48 ≤ b
+low b r e t = leb→le 48 b (and_l (leb 48 b) (leb b 57) (rw (← e, t) tt))
 
 -- r is what the test of the byte at i told
 module _ (v : ℕ) (s : List ℕ) (i : ℕ) (h : i < length s) (r : Bool) (e : r ≡ is_digit (get_or s i 0)) where
-  pub goes_on : not r ≡ false → number_from v (drop i s) ≡ number_from (with_digit v (get_or s i 0)) (drop (i + 1) s)
-  goes_on t = at_byte v s i h ∙ rw (← e, not-false r t)
+  pub goes_on : r ≡ true → number_from v (drop i s) ≡ number_from (with_digit v (get_or s i 0)) (drop (i + 1) s)
+  goes_on t = at_byte v s i h ∙ rw (← e, t)
 
-  pub breaks-off : not r ≡ true → number_from v (drop i s) ≡ no_whole
-  breaks-off t = at_byte v s i h ∙ rw (← e, not-true r t)
+  pub breaks-off : r ≡ false → number_from v (drop i s) ≡ no_whole
+  breaks-off t = at_byte v s i h ∙ rw (← e, t)
 
 pub at-end : (v : ℕ) (s : List ℕ) (i : ℕ) → length s ≤ i → number_from v (drop i s) ≡ a_whole v
 unfolding number_from

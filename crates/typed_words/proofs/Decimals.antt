@@ -7,10 +7,9 @@ use lib.ListN.{length, take, drop}
 use lib.Dec.{leb, ltb, leb→le}
 use lib.Ieee.{Float}
 use lib.Ieee.Fits.{and_r}
-use Rattle.base.specs.Bytes.{index_of, slice}
+use Rattle.base.specs.Bytes.{index_of}
 use Rattle.typed_words.specs.Numbers.{digits_from, double, +0, pick_double, decimal_of}
 use Rattle.typed_words.specs.declared.Whole.{Whole}
-use Rattle.typed_words.proofs.Names.{found}
 
 abbrev pub passes : ℕ → Whole → Whole → List ℕ → Bool
 passes p w a f = ((ltb 0 p && w.good) && a.good) && leb (length f) 15
@@ -19,11 +18,11 @@ pub few-places : (p : ℕ) (w a : Whole) (f : List ℕ) → passes p w a f ≡ t
 few-places p w a f e = leb→le (length f) 15 (and_r ((ltb 0 p && w.good) && a.good) (leb (length f) 15) (rw e tt))
 
 module _ (s : List ℕ) {b f : List ℕ} {p : ℕ} {w a : Whole}
-    (find : p ≡ 0 + index_of 46 (slice 0 (length s) s)) (before : b ≡ take p s) (whole : w ≡ digits_from 0 b)
+    (find : p ≡ index_of 46 s) (before : b ≡ take p s) (whole : w ≡ digits_from 0 b)
     (behind : f ≡ drop (p + 1) s) (all : a ≡ digits_from w.value f) where
   parts : decimal_of s ≡ pick_double (passes p w a f) (double a.value (10 ^ length f))
   unfolding decimal_of
-  parts = let point = found 46 s p find in rw (← point, ← before, ← whole, ← behind, ← all)
+  parts = rw (← find, ← before, ← whole, ← behind, ← all)
 
   pub is-decimal : (x : Float) → passes p w a f ≡ true → x ≡ double a.value (10 ^ length f) → record { good = true; value = x } ≡ decimal_of s
   is-decimal x t e = sym (parts ∙ rw (t, ← e))

@@ -5,9 +5,8 @@ use mathlib.Core.Path.{◌≡◌, refl, sym, ap, ◌∙◌}
 use mathlib.Core.Bool.{true, false}
 use mathlib.Core.List.{List, [], ◌∷◌}
 use lib.ListN.{length, get_or, take, drop}
-use lib.Seq.{take-length}
 use borrow.Author.Tests.{le-leb, lt-leb}
-use Rattle.base.specs.Bytes.{index_of, slice}
+use Rattle.base.specs.Bytes.{index_of}
 use Rattle.typed_words.specs.Words.{small_letter, lowered, same_text_lem, nth_part}
 use Rattle.typed_words.proofs.Same.{other_length, goes_on, differs, at-end}
 
@@ -47,11 +46,6 @@ module _ (w name : List ℕ) (i : ℕ) (m : i < length w) (n : i < length name) 
 
 pub name-ends : (w name : List ℕ) (i : ℕ) → length w ≤ i → length name ≤ i → same_text_lem (drop i (lowered w)) (drop i name) ≡ true
 name-ends w name i m n = at-end (lowered w) name i (omega (arith, length-lowered w)) n
-
--- the byte is looked for in all of s
-pub found : (b : ℕ) (s : List ℕ) (p : ℕ) → p ≡ 0 + index_of b (slice 0 (length s) s) → p ≡ index_of b s
-unfolding slice
-found b s p e = let t : index_of b (take (length s) s) ≡ index_of b s = rw take-length in omega arith
 
 pub no-others : (sep n : ℕ) (s : List ℕ) → n ≡ 0 → nth_part sep n s ≡ take (index_of sep s) s
 unfolding nth_part

@@ -10,13 +10,13 @@ use mathlib.Core.Logic.{◌⊎◌, ⊎_elim, inl, inr}
 use mathlib.Core.List.{List, [], ◌∷◌, ◌++◌, append-nil, append_assoc}
 use lib.ListN.{length, take, drop, replicate, drop_of_length-le}
 use lib.Seq.{take_all, take_at, length-take-le}
-use lib.Dec.{leb, ltb, eqb, leb→le}
+use lib.Dec.{leb, ltb, eqb}
 use borrow.Author.Tests.{lt-ltb, le-leb, eq-eqb, ne_eqb, ltb-true, leb-true, eqb-true, eqb-false}
 use Rattle.base.proofs.Tests.{and_l, and_r, by-test}
 use Rattle.base.specs.Bytes.{index_of, index_after}
 use Rattle.typed_words.specs.declared.Whole.{Whole}
 use Rattle.typed_words.specs.Numbers.{goes_on_lem, before_point, behind_point}
-use Rattle.typed_words.specs.Amounts.{is_digit, with_digit, a_whole, number_from, places_fit, filled_up, amount_of, all_digits, value_after_lem, Writes, WritesOne}
+use Rattle.typed_words.specs.Amounts.{is_digit, a_whole, number_from, places_fit, filled_up, amount_of, all_digits, value_after_lem, Writes, WritesOne}
 
 -- the largest number that a word is read as
 abbrev pub all_more : ℕ

@@ -2,13 +2,12 @@
 use Prim.Native.Nat.{ℕ, ◌+◌, ◌-◌, ◌*◌, ◌<◌, ◌≤◌}
 use native.Mathlib.Numerals.{add-one}
 use mathlib.Core.Path.{◌≡◌, ◌∙◌}
-use mathlib.Core.Bool.{Bool, not, true, false, ◌&&◌}
+use mathlib.Core.Bool.{Bool, true, false, ◌&&◌}
 use mathlib.Core.List.{List}
 use lib.ListN.{length, get_or, drop, drop_of_length-le}
 use lib.Seq.{drop-cons}
 use lib.Dec.{T, leb, ltb, leb→le, ltb→lt}
 use lib.Ieee.Fits.{and_l, and_r}
-use borrow.Author.Tests.{not-true, not-false}
 use Rattle.typed_words.specs.Numbers.{takes, no_whole, goes_on_lem, digits_from}
 
 at_byte : (v : ℕ) (s : List ℕ) (i : ℕ) → i < length s
@@ -31,16 +30,16 @@ taken-if v b t =
       few = ltb→lt v 100000000000000 (and_r (leb 48 b && leb b 57) (ltb v 100000000000000) t);
     }
 
-pub taken : (v b : ℕ) (r : Bool) → r ≡ takes v b → not r ≡ false → Taken v b
-taken v b r e t = taken-if v b (rw (← e, not-false r t) tt)
+pub taken : (v b : ℕ) (r : Bool) → r ≡ takes v b → r ≡ true → Taken v b
+taken v b r e t = taken-if v b (rw (← e, t) tt)
 
 -- r is what the test of the byte at i told
 module _ (v : ℕ) (s : List ℕ) (i : ℕ) (h : i < length s) (r : Bool) (e : r ≡ takes v (get_or s i 0)) where
-  pub goes_on : not r ≡ false → digits_from v (drop i s) ≡ digits_from (v * 10 + (get_or s i 0 - 48)) (drop (i + 1) s)
-  goes_on t = at_byte v s i h ∙ rw (← e, not-false r t)
+  pub goes_on : r ≡ true → digits_from v (drop i s) ≡ digits_from (v * 10 + (get_or s i 0 - 48)) (drop (i + 1) s)
+  goes_on t = at_byte v s i h ∙ rw (← e, t)
 
-  pub breaks-off : not r ≡ true → digits_from v (drop i s) ≡ no_whole
-  breaks-off t = at_byte v s i h ∙ rw (← e, not-true r t)
+  pub breaks-off : r ≡ false → digits_from v (drop i s) ≡ no_whole
+  breaks-off t = at_byte v s i h ∙ rw (← e, t)
 
 pub at-end : (v : ℕ) (s : List ℕ) (i : ℕ) → length s ≤ i → digits_from v (drop i s) ≡ record { good = true; value = v }
 unfolding digits_from

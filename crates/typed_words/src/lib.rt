@@ -7,7 +7,7 @@ ghost use Rattle.typed_words.specs.Numbers.{takes, digits_from, whole_of, decima
 ghost use Rattle.typed_words.specs.Amounts.{is_digit, with_digit, number_from, a_whole, amount_of};
 ghost use Rattle.base.specs.Bytes.{index_of};
 
-use base::{first_of, rest_of};
+use base::{find, first_of, rest_of};
 
 // A whole number below 10^15; 0 where the text is none.
 #[derive(Clone, Copy)]
@@ -156,7 +156,7 @@ fn behind_point(s: &[u8], p: usize) -> &[u8]
 pub fn read_decimal(s: &[u8]) -> Double
     ensures { result ≡ decimal_of s.now }
 {
-    let p = bytes::scan::find(s, 0, s.len(), b'.');
+    let p = find(s, b'.');
     let whole = digits(0, first_of(s, p));
     let fraction = behind_point(s, p);
     let all = digits(whole.value, fraction);
@@ -235,7 +235,7 @@ pub fn index_of(s: &[u8], b: u8) -> usize
     ensures value { result ≡ index_of b s.now }
     ensures upper_bound { result ≤ length s.now }
 {
-    bytes::scan::find(s, 0, s.len(), b)
+    find(s, b)
 }
 
 fn is_digit(b: u8) -> bool
