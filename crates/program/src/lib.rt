@@ -6,17 +6,23 @@ ghost use Rattle.io.specs.Counts.{IsPrefixLen};
 ghost use Rattle.program.specs.Beginning.{unread};
 
 use std::env::{Env, FillError};
-use std::io::{Cursor, Error, ErrorKind, Read, Stderr, Write};
+use std::io::{Cursor, Error, ErrorKind, Read, Stderr, Stdin, Write};
 
 // Where a caller that gives an argument, the word `status`, wants the status byte.
 pub const STATUS_FILENO: i32 = 3;
 
-// What every program reaches of the system: standard output and input, its arguments, and standard error for bytes, which need not be text.
-pub trait System: Print + std::io::Input + Env {
+// What every program reaches of the system: its arguments, standard output, and the handles of standard input and error.
+pub trait System: Print + Env {
+    fn input(&self) -> Stdin;
+
     fn errors(&self) -> Stderr;
 }
 
 impl System for HostRuntime {
+    fn input(&self) -> Stdin {
+        self.stdin()
+    }
+
     fn errors(&self) -> Stderr {
         self.stderr()
     }
@@ -124,14 +130,24 @@ fn words_of(said: &[u8]) -> &[u8] {
 }
 
 // Whether the program was started with an argument i, its own name being 0.
-pub fn has_argument(rt: &impl System, i: usize) -> bool {
+fn has_arg(rt: &impl System, i: usize) -> bool {
     let mut none = [0u8; 0];
     !matches!(rt.arg(i, &mut none), Err(FillError::NotPresent))
 }
 
+// How many arguments the program was started with, its own name among them.
+pub fn arg_count(rt: &impl System) -> usize {
+    for i in 0..usize::MAX {
+        if !has_arg(rt, i) {
+            return i;
+        }
+    }
+    usize::MAX
+}
+
 // The status byte, where the caller gave the argument. std has no handle for its descriptor.
 pub fn tell_status(rt: &impl System, status: u8) {
-    if has_argument(rt, 1) {
+    if 1 < arg_count(rt) {
         io::write_all(STATUS_FILENO, &[status]);
     }
 }
