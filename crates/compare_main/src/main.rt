@@ -7,11 +7,14 @@ ghost use Rattle.compare.specs.Steps.{beginning, step_of};
 ghost use Rattle.compare_main.specs.Series.{Goes};
 
 use compare::{Cursor, remarks};
-use libc::STDIN_FILENO;
 use names::hints::look;
-use program::send;
+use program::{System, send};
+use std::fs::File;
+use std::io::Read;
+use std::rt::Files;
 
-const NEW_FILENO: i32 = 5;
+// The new book is on descriptor 5, which std opens by its name among the files.
+const NEW_FILE: &str = "/dev/fd/5";
 
 // How many bytes of a book are compared record by record.
 const MOST: usize = 114716;
@@ -42,9 +45,15 @@ fn book_buffer() -> [u8; 114716]
 }
 
 // The next bytes of both books, as many as the buffers hold.
-fn read_on(so_far: bool, left: &mut [u8], right: &mut [u8]) -> Later {
-    let old = program::read_all(STDIN_FILENO, b"the old book", left);
-    let new = program::read_all(NEW_FILENO, b"the new book", right);
+fn read_on<R: System, I: Read>(
+    rt: &R,
+    from: &mut I,
+    so_far: bool,
+    left: &mut [u8],
+    right: &mut [u8],
+) -> Later {
+    let old = program::read_all(rt, &mut rt.input(), b"the old book", left);
+    let new = program::read_all(rt, from, b"the new book", right);
     let n = old.len;
     let m = new.len;
     Later {
@@ -56,7 +65,7 @@ fn read_on(so_far: bool, left: &mut [u8], right: &mut [u8]) -> Later {
 
 // Whether what comes after the bytes that are compared is the same: read up to the end of either book or to the first part that differs. Where these
 // bytes differ nothing of it is asked.
-fn after(old: &[u8], new: &[u8]) -> Later {
+fn after<R: System, I: Read>(rt: &R, from: &mut I, old: &[u8], new: &[u8]) -> Later {
     let mut left = io::large_buffer();
     let mut right = io::large_buffer();
     let mut a = Later {
@@ -70,7 +79,7 @@ fn after(old: &[u8], new: &[u8]) -> Later {
             return a;
         }
         turns -= 1;
-        a = read_on(a.alike, &mut left, &mut right);
+        a = read_on(rt, from, a.alike, &mut left, &mut right);
     }
     Later {
         alike: false,
@@ -80,7 +89,7 @@ fn after(old: &[u8], new: &[u8]) -> Later {
 }
 
 // A piece of the text, with one write.
-fn turn(mut w: Work, old: &[u8], new: &[u8], alike: bool, text: &mut [u8]) -> Work
+fn turn(rt: &impl System, mut w: Work, old: &[u8], new: &[u8], alike: bool, text: &mut [u8]) -> Work
     ensures { result.cursor ≡ (step_of alike old.now new.now w.cursor).cursor }
 {
     let c = w.cursor;
@@ -88,13 +97,13 @@ fn turn(mut w: Work, old: &[u8], new: &[u8], alike: bool, text: &mut [u8]) -> Wo
     let next = s.cursor;
     let n = s.written;
     w.cursor = next;
-    w.written = send(&text[..n]);
+    w.written = send(rt, &text[..n]);
     w
 }
 
 // A series of steps, each from the cursor that the one before left, until the comparison is at its end or a write fails. A proved loop has to end:
 // the turns count down from a number that no two books use up.
-fn run(from: Work, old: &[u8], new: &[u8], alike: bool, text: &mut [u8]) -> Work
+fn run(rt: &impl System, from: Work, old: &[u8], new: &[u8], alike: bool, text: &mut [u8]) -> Work
     ensures { Goes alike old.now new.now from.cursor result.cursor }
 {
     let mut w = from;
@@ -105,66 +114,76 @@ fn run(from: Work, old: &[u8], new: &[u8], alike: bool, text: &mut [u8]) -> Work
             return w;
         }
         turns -= 1;
-        w = turn(w, old, new, alike, text);
+        w = turn(rt, w, old, new, alike, text);
     }
     w
 }
 
 // What differs, and whether all of it was written.
-fn tell(old: &[u8], new: &[u8], alike: bool) -> bool {
+fn tell(rt: &impl System, old: &[u8], new: &[u8], alike: bool) -> bool {
     let mut text = io::large_buffer();
     let start = compare::begin();
     let first = Work {
         cursor: start,
         written: true,
     };
-    let last = run(first, old, new, alike, &mut text);
+    let last = run(rt, first, old, new, alike, &mut text);
     let c = last.cursor;
     last.written & (c.stage == END)
 }
 
 // A hint where one of the two is no book but a typed text, a sheet or nothing.
-fn tell_hint(new: bool, book: &[u8]) {
+fn tell_hint(rt: &impl System, new: bool, book: &[u8]) {
     let mut text = [0u8; 256];
     let n = remarks::say_hint(&mut text, new, look(book));
-    program::report(&text[..n]);
+    program::report(rt, &text[..n]);
 }
 
-fn tell_status(read: bool, written: bool) {
-    program::tell_status(remarks::status(read, written));
+fn tell_status(rt: &impl System, read: bool, written: bool) {
+    program::tell_status(rt, remarks::status(read, written));
 }
 
-fn answer(old: &[u8], new: &[u8], alike: bool) -> bool {
-    let written = tell(old, new, alike);
-    tell_hint(false, old);
-    tell_hint(true, new);
+fn answer(rt: &impl System, old: &[u8], new: &[u8], alike: bool) -> bool {
+    let written = tell(rt, old, new, alike);
+    tell_hint(rt, false, old);
+    tell_hint(rt, true, new);
     written
 }
 
 // The new book, where the old one was read.
-fn with_new(old: &[u8]) {
+fn with_new<R: System, I: Read>(rt: &R, from: &mut I, old: &[u8]) {
     let mut book = book_buffer();
-    let input = program::read_all(NEW_FILENO, b"the new book", &mut book);
+    let input = program::read_all(rt, from, b"the new book", &mut book);
     if !input.good {
-        tell_status(false, false);
+        tell_status(rt, false, false);
         return;
     }
     let n = input.len;
-    let rest = after(old, &book[..n]);
+    let rest = after(rt, from, old, &book[..n]);
     if !rest.good {
-        tell_status(false, false);
+        tell_status(rt, false, false);
         return;
     }
-    tell_status(true, answer(old, &book[..n], rest.alike));
+    tell_status(rt, true, answer(rt, old, &book[..n], rest.alike));
 }
 
-fn main() {
+fn open_new(rt: &(impl System + Files), old: &[u8]) {
+    match File::open(rt, NEW_FILE) {
+        Ok(mut from) => with_new(rt, &mut from, old),
+        Err(why) => {
+            program::fail(rt, b"the new book", &why);
+            tell_status(rt, false, false);
+        }
+    }
+}
+
+fn main(rt: HostRuntime) {
     let mut book = book_buffer();
-    let input = program::read_all(STDIN_FILENO, b"the old book", &mut book);
+    let input = program::read_all(&rt, &mut rt.input(), b"the old book", &mut book);
     if !input.good {
-        tell_status(false, false);
+        tell_status(&rt, false, false);
         return;
     }
     let n = input.len;
-    with_new(&book[..n]);
+    open_new(&rt, &book[..n]);
 }

@@ -4,8 +4,7 @@
 ghost use Rattle.std.specs.Prelude.{◌≡◌, ◌-◌, ◌≤◌, length};
 ghost use Rattle.input_lines.specs.Beginning.{no_line_lem};
 
-use libc::STDIN_FILENO;
-use program::Reading;
+use program::{Reading, System};
 use text_lines::Cut;
 
 // The line that was cut last, and whether its line feed has come; the last part read, and how many of its bytes are not cut yet; how many lines may
@@ -86,12 +85,13 @@ impl Lines {
     }
 
     // Reads on to a line feed. Where the input ends, or a read fails, before one comes, what stands in line is what there is of the last line.
-    pub fn next(self, line: &mut [u8], part: &mut [u8]) -> Lines
+    pub fn next<R: System>(self, rt: &R, line: &mut [u8], part: &mut [u8]) -> Lines
         ensures { result.left ≤ self.left - 1 }
     {
         let mut cut = opened(self.cut, self.ended);
         let mut input = self.input;
         let mut rest = self.rest;
+        let mut stdin = rt.input();
         while 0 < input.turns {
             let taken = take(line, cut, part, input.len, rest);
             cut = taken.cut;
@@ -105,7 +105,7 @@ impl Lines {
                     left: one_less(self.left),
                 };
             }
-            input = input.next(STDIN_FILENO, b"standard input", part);
+            input = input.next(rt, &mut stdin, b"standard input", part);
             rest = input.len;
         }
         Lines {

@@ -3,8 +3,7 @@
 
 ghost use Rattle.std.specs.Prelude.{◌≤◌, length};
 
-use libc::STDIN_FILENO;
-use program::Reading;
+use program::{Reading, System};
 use text_lines::Cut;
 
 // The line being read, whether every line was right and each remark went out, whether no read failed, and whether the kilograms went out.
@@ -23,20 +22,20 @@ struct Stepped {
 }
 
 // Where kilograms can't go out nothing more is tried.
-fn send(typed: &[u8], mut w: Work) -> Work {
+fn send(rt: &impl System, typed: &[u8], mut w: Work) -> Work {
     let mut out = [0u8; 64];
     let n = kilograms::say_line(&mut out, typed);
-    if !program::send(&out[..n]) {
+    if !program::send(rt, &out[..n]) {
         w.written = false;
     }
     w
 }
 
-fn report(typed: &[u8], mut w: Work) -> Work {
+fn report(rt: &impl System, typed: &[u8], mut w: Work) -> Work {
     let mut out = [0u8; 96];
     let cut = w.cut;
     let n = kilograms::say_remark(&mut out, cut.number, typed);
-    if !program::report(&out[..n]) {
+    if !program::report(rt, &out[..n]) {
         w.right = false;
     }
     if !kilograms::is_right(typed) {
@@ -45,13 +44,13 @@ fn report(typed: &[u8], mut w: Work) -> Work {
     w
 }
 
-fn end_line(line: &[u8], w: Work) -> Work {
+fn end_line(rt: &impl System, line: &[u8], w: Work) -> Work {
     let typed = text_lines::whole(line, w.cut);
-    let sent = send(typed, w);
+    let sent = send(rt, typed, w);
     if !sent.written {
         return sent;
     }
-    report(typed, sent)
+    report(rt, typed, sent)
 }
 
 fn next_line(mut w: Work) -> Work {
@@ -61,7 +60,7 @@ fn next_line(mut w: Work) -> Work {
     w
 }
 
-fn step(line: &mut [u8], rest: &[u8], mut w: Work) -> Stepped
+fn step(rt: &impl System, line: &mut [u8], rest: &[u8], mut w: Work) -> Stepped
     ensures { result.taken ≤ length rest.now }
 {
     let cutting = text_lines::cut_line(line, w.cut, rest);
@@ -73,7 +72,7 @@ fn step(line: &mut [u8], rest: &[u8], mut w: Work) -> Stepped
             taken: cutting.taken,
         };
     }
-    let next = next_line(end_line(line, w));
+    let next = next_line(end_line(rt, line, w));
     Stepped {
         work: next,
         taken: cutting.taken,
@@ -81,13 +80,13 @@ fn step(line: &mut [u8], rest: &[u8], mut w: Work) -> Stepped
 }
 
 // A proved loop has to end: the steps count down from a number that no part uses up, since each takes a byte.
-fn take_part(line: &mut [u8], part: &[u8], from: Work) -> Work {
+fn take_part(rt: &impl System, line: &mut [u8], part: &[u8], from: Work) -> Work {
     let mut w = from;
     let mut i = 0;
     let mut steps = part.len();
     while steps > 0 {
         steps -= 1;
-        let done = step(line, &part[i..], w);
+        let done = step(rt, line, &part[i..], w);
         w = done.work;
         i += done.taken;
         if i == part.len() {
@@ -101,14 +100,15 @@ fn take_part(line: &mut [u8], part: &[u8], from: Work) -> Work {
 }
 
 // Part after part, up to the input's end or to a read or a write that fails.
-fn run(line: &mut [u8], from: Work) -> Work {
+fn run(rt: &impl System, line: &mut [u8], from: Work) -> Work {
     let mut w = from;
     let mut part = io::buffer();
+    let mut stdin = rt.input();
     let mut input = Reading::new();
     while 0 < input.turns {
-        input = input.next(STDIN_FILENO, b"standard input", &mut part);
+        input = input.next(rt, &mut stdin, b"standard input", &mut part);
         let n = input.len;
-        w = take_part(line, &part[..n], w);
+        w = take_part(rt, line, &part[..n], w);
         if !w.written {
             return w;
         }
@@ -118,15 +118,15 @@ fn run(line: &mut [u8], from: Work) -> Work {
 }
 
 // What stands after the last line feed is a line too, unless it is nothing. Where a read failed it may have been cut, so it is not read.
-fn finish(line: &[u8], w: Work) -> Work {
+fn finish(rt: &impl System, line: &[u8], w: Work) -> Work {
     let cut = w.cut;
     if w.read & w.written & (0 < cut.len) {
-        return end_line(line, w);
+        return end_line(rt, line, w);
     }
     w
 }
 
-fn main() {
+fn main(rt: HostRuntime) {
     let mut line = [0u8; 1027];
     let start = Work {
         cut: Cut::new(),
@@ -134,7 +134,10 @@ fn main() {
         read: true,
         written: true,
     };
-    let last = run(&mut line, start);
-    let done = finish(&line, last);
-    program::tell_status(kilograms::status(done.right & done.read & done.written));
+    let last = run(&rt, &mut line, start);
+    let done = finish(&rt, &line, last);
+    program::tell_status(
+        &rt,
+        kilograms::status(done.right & done.read & done.written),
+    );
 }

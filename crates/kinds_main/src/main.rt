@@ -1,16 +1,18 @@
 // The table of kinds for machines, on standard output. It reads nothing.
 #![tactic(auto)]
 
-fn tell_kinds() -> bool {
+use program::System;
+
+fn tell_kinds(rt: &impl System) -> bool {
     let mut text = [0u8; 8192];
     let n = kinds::say_kinds(&mut text);
-    program::send(&text[..n])
+    program::send(rt, &text[..n])
 }
 
-fn main() {
-    if tell_kinds() {
-        program::tell_status(b'0');
+fn main(rt: HostRuntime) {
+    if tell_kinds(&rt) {
+        program::tell_status(&rt, b'0');
     } else {
-        program::tell_status(b'1');
+        program::tell_status(&rt, b'1');
     }
 }

@@ -3,10 +3,9 @@
 ghost use Rattle.std.specs.Prelude.{◌≤◌, length};
 
 use book::State;
-use libc::STDIN_FILENO;
 use line_rows::Form;
 use names::hints::{Given, look};
-use program::{Reading, report, send};
+use program::{Reading, System, report, send};
 
 // The bytes that are read first: by them an input that is no book is known, however it comes.
 const FIRST: usize = 16;
@@ -29,7 +28,7 @@ struct Taken {
 }
 
 // One call of the book, and one write of its rows.
-fn take_once(form: Form, mut w: Work, rest: &[u8], text: &mut [u8]) -> Taken
+fn take_once(rt: &impl System, form: Form, mut w: Work, rest: &[u8], text: &mut [u8]) -> Taken
     ensures { result.taken ≤ length rest.now }
 {
     let state = w.state;
@@ -37,7 +36,7 @@ fn take_once(form: Form, mut w: Work, rest: &[u8], text: &mut [u8]) -> Taken
     let next = listed.state;
     w.state = next;
     let n = listed.written;
-    w.written = send(&text[..n]);
+    w.written = send(rt, &text[..n]);
     Taken {
         work: w,
         taken: listed.taken,
@@ -58,13 +57,13 @@ fn go_on(mut w: Work) -> Work {
 
 // The rows of a part; a part of 2,048 bytes never fills the line buffer, so that one call takes it. A proved loop has to end: the calls count
 // down from a number that no part uses up, since each takes a byte.
-fn take_part(form: Form, from: Work, part: &[u8], text: &mut [u8]) -> Work {
+fn take_part(rt: &impl System, form: Form, from: Work, part: &[u8], text: &mut [u8]) -> Work {
     let mut w = from;
     let mut i = 0;
     let mut calls = part.len();
     while calls > 0 {
         calls -= 1;
-        let done = take_once(form, w, &part[i..], text);
+        let done = take_once(rt, form, w, &part[i..], text);
         w = done.work;
         i += done.taken;
         if (i == part.len()) | is_done(w) {
@@ -75,18 +74,19 @@ fn take_part(form: Form, from: Work, part: &[u8], text: &mut [u8]) -> Work {
 }
 
 // Part after part, up to the end of the input or of the book, or to a read or a write that fails.
-fn read_on(form: Form, from: Work, text: &mut [u8]) -> Work {
+fn read_on(rt: &impl System, form: Form, from: Work, text: &mut [u8]) -> Work {
     let mut w = from;
     let mut part = [0u8; 2048];
+    let mut stdin = rt.input();
     let mut input = Reading::new();
     while 0 < input.turns {
         if !w.more {
             return w;
         }
-        input = input.next(STDIN_FILENO, b"standard input", &mut part);
+        input = input.next(rt, &mut stdin, b"standard input", &mut part);
         w.read = input.good;
         let n = input.len;
-        w = go_on(take_part(form, w, &part[..n], text));
+        w = go_on(take_part(rt, form, w, &part[..n], text));
     }
     w
 }
@@ -111,70 +111,70 @@ fn start(first: &[u8], read: bool, written: bool) -> Work {
 }
 
 // What stands before the rows, even of an empty book, and the rows of the first bytes.
-fn begin(form: Form, first: &[u8], read: bool, text: &mut [u8]) -> Work {
+fn begin(rt: &impl System, form: Form, first: &[u8], read: bool, text: &mut [u8]) -> Work {
     let n = crate::begin(text, form);
-    let begun = start(first, read, send(&text[..n]));
+    let begun = start(first, read, send(rt, &text[..n]));
     if begun.written {
-        return go_on(take_part(form, begun, first, text));
+        return go_on(take_part(rt, form, begun, first, text));
     }
     go_on(begun)
 }
 
 // A last word beside a sheet is for people: whether it goes out changes nothing.
-fn give_last(form: Form, word: &[u8]) -> bool {
+fn give_last(rt: &impl System, form: Form, word: &[u8]) -> bool {
     match form {
-        Form::Listing => send(word),
+        Form::Listing => send(rt, word),
         Form::Sheet => {
-            report(word);
+            report(rt, word);
             true
         }
     }
 }
 
 // The last word, where all was read and written.
-fn end(form: Form, mut w: Work, text: &mut [u8]) -> Work {
+fn end(rt: &impl System, form: Form, mut w: Work, text: &mut [u8]) -> Work {
     let state = w.state;
     let n = last_word::put_last(text, state.account, w.read, w.written);
-    let given = give_last(form, &text[..n]);
+    let given = give_last(rt, form, &text[..n]);
     w.written = w.written & given;
     w
 }
 
-fn remark(w: Work) {
+fn remark(rt: &impl System, w: Work) {
     let mut text = [0u8; 256];
     let state = w.state;
     let given = w.given;
     let n = last_word::say_remark(&mut text, state.account, given);
-    report(&text[..n]);
+    report(rt, &text[..n]);
 }
 
-fn tell_status(w: Work) {
+fn tell_status(rt: &impl System, w: Work) {
     let state = w.state;
-    program::tell_status(last_word::status(state.account, w.read, w.written));
+    program::tell_status(rt, last_word::status(state.account, w.read, w.written));
 }
 
 // The last word is the lister's last row, before its remark; beside a sheet it is the last line that people read, after it.
-fn finish(form: Form, w: Work, text: &mut [u8]) -> Work {
+fn finish(rt: &impl System, form: Form, w: Work, text: &mut [u8]) -> Work {
     match form {
         Form::Listing => {
-            let done = end(form, w, text);
-            remark(done);
+            let done = end(rt, form, w, text);
+            remark(rt, done);
             done
         }
         Form::Sheet => {
-            remark(w);
-            end(form, w, text)
+            remark(rt, w);
+            end(rt, form, w, text)
         }
     }
 }
 
 // The whole program.
-pub fn run(form: Form) {
+pub fn run(rt: &impl System, form: Form) {
     let mut text = io::large_buffer();
     let mut first = [0u8; FIRST];
-    let input = program::read_all(STDIN_FILENO, b"standard input", &mut first);
+    let input = program::read_all(rt, &mut rt.input(), b"standard input", &mut first);
     let n = input.len;
-    let begun = begin(form, &first[..n], input.good, &mut text);
-    let last = read_on(form, begun, &mut text);
-    tell_status(finish(form, last, &mut text));
+    let begun = begin(rt, form, &first[..n], input.good, &mut text);
+    let last = read_on(rt, form, begun, &mut text);
+    tell_status(rt, finish(rt, form, last, &mut text));
 }

@@ -4,9 +4,9 @@
 
 ghost use Rattle.std.specs.Prelude.{◌≡◌, ◌≤◌, length};
 
-use libc::STDIN_FILENO;
 use names::hints::{look, say_hint};
 use page::Survey;
+use program::System;
 use why::{Verdict, remarks};
 
 // The 4,096 records that a book may have and one more, of 28 bytes each: what stands after them changes no page.
@@ -17,43 +17,43 @@ fn book_buffer() -> [u8; 114716]
 }
 
 // The first n bytes, where they do not fill the buffer: a text that does may have been cut off.
-fn send_whole(text: &[u8], n: usize) -> bool
+fn send_whole(rt: &impl System, text: &[u8], n: usize) -> bool
     requires { n ≤ length text.now }
 {
     if n == text.len() {
         return false;
     }
-    program::send(&text[..n])
+    program::send(rt, &text[..n])
 }
 
 // The page up to the rows of its groups, or to why there are none.
-fn tell_first(s: Survey, v: Verdict) -> bool {
+fn tell_first(rt: &impl System, s: Survey, v: Verdict) -> bool {
     let mut text = [0u8; 16384];
     let n = page::say_first(&mut text, s, v);
-    send_whole(&text, n)
+    send_whole(rt, &text, n)
 }
 
 // What stands after them.
-fn tell_last(s: Survey, v: Verdict) -> bool {
+fn tell_last(rt: &impl System, s: Survey, v: Verdict) -> bool {
     let mut text = [0u8; 16384];
     let n = page::say_last(&mut text, s, v);
-    send_whole(&text, n)
+    send_whole(rt, &text, n)
 }
 
-fn tell_why(v: Verdict) -> bool {
+fn tell_why(rt: &impl System, v: Verdict) -> bool {
     let mut text = [0u8; 512];
     let n = remarks::say_second(&mut text, v);
-    send_whole(&text, n)
+    send_whole(rt, &text, n)
 }
 
 // The rows of the groups, one by one: a record of the book at a turn.
-fn tell_rows(book: &[u8], s: Survey) -> bool {
+fn tell_rows(rt: &impl System, book: &[u8], s: Survey) -> bool {
     let mut text = [0u8; 4096];
     let mut place = page::start();
     let mut turns: u64 = 4097;
     while turns > 0 {
         let row = page::next_row(book, place, s, &mut text);
-        if !send_whole(&text, row.written) {
+        if !send_whole(rt, &text, row.written) {
             return false;
         }
         place = row.place;
@@ -66,49 +66,49 @@ fn tell_rows(book: &[u8], s: Survey) -> bool {
 }
 
 // The rows of the groups, or why there are none.
-fn tell_middle(book: &[u8], s: Survey, v: Verdict) -> bool {
+fn tell_middle(rt: &impl System, book: &[u8], s: Survey, v: Verdict) -> bool {
     if s.closed {
-        return tell_rows(book, s);
+        return tell_rows(rt, book, s);
     }
-    tell_why(v)
+    tell_why(rt, v)
 }
 
-fn tell(book: &[u8], s: Survey, v: Verdict) -> bool {
-    if !tell_first(s, v) {
+fn tell(rt: &impl System, book: &[u8], s: Survey, v: Verdict) -> bool {
+    if !tell_first(rt, s, v) {
         return false;
     }
-    if !tell_middle(book, s, v) {
+    if !tell_middle(rt, book, s, v) {
         return false;
     }
-    tell_last(s, v)
+    tell_last(rt, s, v)
 }
 
 // A hint where the input is no book but a typed text, a sheet or nothing.
-fn tell_hint(input: &[u8]) {
+fn tell_hint(rt: &impl System, input: &[u8]) {
     let mut text = [0u8; 256];
     let n = say_hint(&mut text, 0, look(input));
-    program::report(&text[..n]);
+    program::report(rt, &text[..n]);
 }
 
-fn tell_status(closed: bool, written: bool) {
-    program::tell_status(remarks::status(closed, written));
+fn tell_status(rt: &impl System, closed: bool, written: bool) {
+    program::tell_status(rt, remarks::status(closed, written));
 }
 
-fn answer(book: &[u8]) {
+fn answer(rt: &impl System, book: &[u8]) {
     let s = page::figures(book);
     let v = why::why(book);
-    let written = tell(book, s, v);
-    tell_hint(book);
-    tell_status(s.closed, written);
+    let written = tell(rt, book, s, v);
+    tell_hint(rt, book);
+    tell_status(rt, s.closed, written);
 }
 
-fn main() {
+fn main(rt: HostRuntime) {
     let mut book = book_buffer();
-    let input = program::read_all(STDIN_FILENO, b"standard input", &mut book);
+    let input = program::read_all(&rt, &mut rt.input(), b"standard input", &mut book);
     if !input.good {
-        tell_status(false, false);
+        tell_status(&rt, false, false);
         return;
     }
     let n = input.len;
-    answer(&book[..n]);
+    answer(&rt, &book[..n]);
 }

@@ -6,9 +6,8 @@ ghost use Rattle.retype.specs.Book.{retyped_by, line_most};
 ghost use Rattle.retype_main.specs.Series.{Turned, Begins, Goes};
 
 use account::Account;
-use libc::STDIN_FILENO;
 use names::hints::{look, say_hint};
-use program::{Input, report, send};
+use program::{Input, System, report, send};
 
 // The account after the records that were typed, the bytes taken, whether no write failed, and whether more may come.
 #[derive(Clone, Copy)]
@@ -27,7 +26,7 @@ fn book_buffer() -> [u8; 131072]
 }
 
 // The lines of some records, with one write.
-fn turn(mut w: Work, book: &[u8], text: &mut [u8]) -> Work
+fn turn(rt: &impl System, mut w: Work, book: &[u8], text: &mut [u8]) -> Work
     requires { w.at ≤ length book.now }
     ensures turned { Turned (retyped_by (length text.old / line_most) w.account (drop w.at book.now)) w result }
     ensures at_in_bounds { result.at ≤ length book.now }
@@ -39,14 +38,14 @@ fn turn(mut w: Work, book: &[u8], text: &mut [u8]) -> Work
     let n = r.written;
     w.account = next;
     w.at = at + r.taken;
-    w.written = send(&text[..n]);
+    w.written = send(rt, &text[..n]);
     w.more = r.more & w.written;
     w
 }
 
 // A series of calls, each from the account and the bytes that the one before left, until nothing more may come or a write fails: together they print
 // what one call with room for all would. Each turn takes a record, so that there are fewer of them than bytes.
-fn run(from: Work, book: &[u8], text: &mut [u8]) -> Work
+fn run(rt: &impl System, from: Work, book: &[u8], text: &mut [u8]) -> Work
     requires { Begins book.now from × (length book.now ≤ 131072) × (line_most ≤ length text.old) }
     ensures { Goes book.now from result × (result.more ≡ false) }
 {
@@ -57,13 +56,13 @@ fn run(from: Work, book: &[u8], text: &mut [u8]) -> Work
             return w;
         }
         turns -= 1;
-        w = turn(w, book, text);
+        w = turn(rt, w, book, text);
     }
     w
 }
 
 // The last word. Where a read or a write failed there is none: the book was not seen whole, or its lines were not.
-fn end(w: Work, input: Input, book: &[u8]) {
+fn end(rt: &impl System, w: Work, input: Input, book: &[u8]) {
     if !input.good {
         return;
     }
@@ -72,22 +71,25 @@ fn end(w: Work, input: Input, book: &[u8]) {
     }
     let mut text = [0u8; 512];
     let n = retype::say_end(&mut text, w.account, w.at < input.len);
-    report(&text[..n]);
-    tell_hint(book);
+    report(rt, &text[..n]);
+    tell_hint(rt, book);
 }
 
 // A hint where the input is no book but a typed text, a sheet or nothing.
-fn tell_hint(book: &[u8]) {
+fn tell_hint(rt: &impl System, book: &[u8]) {
     let mut text = [0u8; 256];
     let n = say_hint(&mut text, 0, look(book));
-    report(&text[..n]);
+    report(rt, &text[..n]);
 }
 
-fn tell_status(w: Work, input: Input) {
-    program::tell_status(retype::status(w.account, w.at < input.len, input.good, w.written));
+fn tell_status(rt: &impl System, w: Work, input: Input) {
+    program::tell_status(
+        rt,
+        retype::status(w.account, w.at < input.len, input.good, w.written),
+    );
 }
 
-fn answer(book: &[u8], input: Input)
+fn answer(rt: &impl System, book: &[u8], input: Input)
     requires { length book.now ≤ 131072 }
 {
     let mut text = io::large_buffer();
@@ -97,14 +99,14 @@ fn answer(book: &[u8], input: Input)
         written: true,
         more: true,
     };
-    let last = run(start, book, &mut text);
-    end(last, input, book);
-    tell_status(last, input);
+    let last = run(rt, start, book, &mut text);
+    end(rt, last, input, book);
+    tell_status(rt, last, input);
 }
 
-fn main() {
+fn main(rt: HostRuntime) {
     let mut book = book_buffer();
-    let input = program::read_all(STDIN_FILENO, b"standard input", &mut book);
+    let input = program::read_all(&rt, &mut rt.input(), b"standard input", &mut book);
     let n = input.len;
-    answer(&book[..n], input);
+    answer(&rt, &book[..n], input);
 }

@@ -4,12 +4,14 @@
 
 ghost use Rattle.std.specs.Prelude.{◌≡◌, length};
 
-use libc::STDIN_FILENO;
 use names::hints::{look, say_hint};
-use program::{report, send};
+use program::{System, report, send};
 use salvage::how_far::{ReadingEnd, reading_end};
 use salvage::lines::report_lines;
 use salvage::{Reading, Salvaged, remarks};
+use std::fs::OpenOptions;
+use std::io::{Error, Write};
+use std::rt::Files;
 
 // The most bytes that are read, kept or dropped: a full book has 114,688, so that at least 585 dropped records have room beside it.
 const MOST: usize = 131072;
@@ -17,8 +19,8 @@ const MOST: usize = 131072;
 // The bytes that are looked at: a longest record more than the most.
 const LOOKED: usize = 131100;
 
-// Where a caller that gives two arguments wants the list.
-const LIST_FILENO: i32 = 4;
+// Where a caller that gives two arguments wants the list: its descriptor 4, by its name among the files.
+const LIST_FILE: &str = "/dev/fd/4";
 
 // Whether a book was saved and went out, with its list where that is asked for; whether all of the damaged one was read, and whether all was told.
 #[derive(Clone, Copy)]
@@ -66,12 +68,13 @@ fn list_buffer() -> [u8; 196608]
 }
 
 // The bytes after those that were looked at are counted.
-fn count_rest(from: ReadingEnd) -> Rest {
+fn count_rest(rt: &impl System, from: ReadingEnd) -> Rest {
     let mut part = io::large_buffer();
     let mut end = from;
+    let mut stdin = rt.input();
     let mut r = program::Reading::new();
     while r.turns > 0 {
-        r = r.next(STDIN_FILENO, b"standard input", &mut part);
+        r = r.next(rt, &mut stdin, b"standard input", &mut part);
         end = end.followed(r.len);
     }
     Rest {
@@ -81,18 +84,18 @@ fn count_rest(from: ReadingEnd) -> Rest {
 }
 
 // There are none where the input ended before.
-fn rest_after(end: ReadingEnd, looked: usize) -> Rest {
+fn rest_after(rt: &impl System, end: ReadingEnd, looked: usize) -> Rest {
     if looked < LOOKED {
         return Rest {
             end: end,
             good: true,
         };
     }
-    count_rest(end)
+    count_rest(rt, end)
 }
 
 // The lines of some records, with one write.
-fn turn(mut w: Work, damaged: &[u8], text: &mut [u8]) -> Work {
+fn turn(rt: &impl System, mut w: Work, damaged: &[u8], text: &mut [u8]) -> Work {
     let at = w.at;
     if damaged.len() < at {
         w.more = false;
@@ -105,7 +108,7 @@ fn turn(mut w: Work, damaged: &[u8], text: &mut [u8]) -> Work {
     w.reading = next;
     w.at = at + r.taken;
     w.more = r.more;
-    if !report(&text[..n]) {
+    if !report(rt, &text[..n]) {
         w.written = false;
         w.more = false;
     }
@@ -113,7 +116,7 @@ fn turn(mut w: Work, damaged: &[u8], text: &mut [u8]) -> Work {
 }
 
 // Each turn takes a record, so that there are fewer of them than bytes.
-fn run(from: Work, damaged: &[u8], text: &mut [u8]) -> Work {
+fn run(rt: &impl System, from: Work, damaged: &[u8], text: &mut [u8]) -> Work {
     let mut w = from;
     let mut turns: usize = 131100;
     while turns > 0 {
@@ -121,13 +124,13 @@ fn run(from: Work, damaged: &[u8], text: &mut [u8]) -> Work {
             return w;
         }
         turns -= 1;
-        w = turn(w, damaged, text);
+        w = turn(rt, w, damaged, text);
     }
     w
 }
 
 // A line for each dropped record.
-fn tell_lines(damaged: &[u8]) -> bool {
+fn tell_lines(rt: &impl System, damaged: &[u8]) -> bool {
     let mut text = io::large_buffer();
     let reading = Reading::new();
     let start = Work {
@@ -136,47 +139,61 @@ fn tell_lines(damaged: &[u8]) -> bool {
         written: true,
         more: true,
     };
-    let last = run(start, damaged, &mut text);
+    let last = run(rt, start, damaged, &mut text);
     last.written
 }
 
 // The last words.
-fn tell_end(answer: Salvaged, end: ReadingEnd, book: &[u8]) -> bool {
+fn tell_end(rt: &impl System, answer: Salvaged, end: ReadingEnd, book: &[u8]) -> bool {
     let mut text = [0u8; 512];
     let n = remarks::say_end(&mut text, answer, end, book);
-    report(&text[..n])
+    report(rt, &text[..n])
 }
 
-fn tell_too_long() {
+fn tell_too_long(rt: &impl System) {
     let mut text = [0u8; 512];
     let n = remarks::say_too_long(&mut text);
-    report(&text[..n]);
+    report(rt, &text[..n]);
+}
+
+fn write_list(rt: &impl Files, list: &[u8]) -> Result<(), Error> {
+    let mut file = OpenOptions::new().append(true).open(rt, LIST_FILE)?;
+    file.write_all(list)
 }
 
 // The list, where it is asked for.
-fn give_list(list: &[u8]) -> bool {
-    if os::arg_count() < 3 {
+fn give_list(rt: &(impl System + Files), list: &[u8]) -> bool {
+    if program::arg_count(rt) < 3 {
         return true;
     }
-    if io::write_all(LIST_FILENO, list) {
-        return true;
+    match write_list(rt, list) {
+        Ok(()) => true,
+        Err(why) => {
+            program::fail(rt, b"the list", &why);
+            false
+        }
     }
-    os::fail(b"the list");
-    false
 }
 
 // Where the list or the clean book can't go out, nothing more is printed.
-fn give(answer: Salvaged, rest: Rest, damaged: &[u8], book: &[u8], list: &[u8]) -> Done {
+fn give(
+    rt: &(impl System + Files),
+    answer: Salvaged,
+    rest: Rest,
+    damaged: &[u8],
+    book: &[u8],
+    list: &[u8],
+) -> Done {
     let end = rest.end;
     let read = rest.good & end.all_read();
-    if !give_list(list) {
+    if !give_list(rt, list) {
         return unsaved();
     }
-    if !send(book) {
+    if !send(rt, book) {
         return unsaved();
     }
-    let lines = tell_lines(damaged);
-    let last = tell_end(answer, end, book);
+    let lines = tell_lines(rt, damaged);
+    let last = tell_end(rt, answer, end, book);
     Done {
         saved: true,
         read: read,
@@ -192,10 +209,10 @@ fn unsaved() -> Done {
     }
 }
 
-fn save(damaged: &[u8]) -> Done {
+fn save(rt: &(impl System + Files), damaged: &[u8]) -> Done {
     let end = reading_end(damaged);
     if MOST < end.at {
-        tell_too_long();
+        tell_too_long(rt);
         return unsaved();
     }
     let mut book = book_buffer();
@@ -203,42 +220,42 @@ fn save(damaged: &[u8]) -> Done {
     let answer = salvage::salvage(damaged, &mut book, &mut list);
     match answer {
         Salvaged::Saved(l) => {
-            let rest = rest_after(end, damaged.len());
-            give(answer, rest, damaged, &book[..l.book], &list[..l.list])
+            let rest = rest_after(rt, end, damaged.len());
+            give(rt, answer, rest, damaged, &book[..l.book], &list[..l.list])
         }
         Salvaged::Refused(number) => {
-            tell_end(answer, end, b"");
+            tell_end(rt, answer, end, b"");
             unsaved()
         }
     }
 }
 
 // A hint where the input is no book but a typed text, a sheet or nothing.
-fn tell_hint(damaged: &[u8]) {
+fn tell_hint(rt: &impl System, damaged: &[u8]) {
     let mut text = [0u8; 256];
     let n = say_hint(&mut text, 0, look(damaged));
-    report(&text[..n]);
+    report(rt, &text[..n]);
 }
 
-fn tell_status(done: Done) {
-    program::tell_status(remarks::status(done.saved, done.read, done.told));
+fn tell_status(rt: &impl System, done: Done) {
+    program::tell_status(rt, remarks::status(done.saved, done.read, done.told));
 }
 
-fn answer(damaged: &[u8]) -> Done {
-    let done = save(damaged);
+fn answer(rt: &(impl System + Files), damaged: &[u8]) -> Done {
+    let done = save(rt, damaged);
     if !done.saved {
-        tell_hint(damaged);
+        tell_hint(rt, damaged);
     }
     done
 }
 
-fn main() {
+fn main(rt: HostRuntime) {
     let mut damaged = damaged_buffer();
-    let input = program::read_all(STDIN_FILENO, b"standard input", &mut damaged);
+    let input = program::read_all(&rt, &mut rt.input(), b"standard input", &mut damaged);
     if !input.good {
-        tell_status(unsaved());
+        tell_status(&rt, unsaved());
         return;
     }
     let n = input.len;
-    tell_status(answer(&damaged[..n]));
+    tell_status(&rt, answer(&rt, &damaged[..n]));
 }

@@ -4,9 +4,8 @@
 ghost use Rattle.std.specs.Prelude.{◌≡◌, ◌+◌, ◌*◌, length};
 ghost use Rattle.line_bytes.specs.Lines.{figure_count, line_size, total_size};
 
-use libc::STDIN_FILENO;
 use line_bytes::{FIGURES, LINE_SIZE, TOTAL_SIZE};
-use program::{report, send};
+use program::{System, report, send};
 use sheet::{Answer, remarks};
 
 // The most bytes of a book's lines: of 4,096 records the farm's gives none, the close's two where the first heading gave none, each other one.
@@ -36,27 +35,27 @@ fn sheet_buffer() -> [u8; MOST_TEXT]
 }
 
 // A sentence where it is refused, and the last word, which is part of the answer: whether it went out.
-fn tell_end(text: &[u8], answer: Answer) -> bool {
+fn tell_end(rt: &impl System, text: &[u8], answer: Answer) -> bool {
     let mut said = [0u8; 512];
     let n = remarks::say_end(&mut said, text, answer);
-    report(&said[..n])
+    report(rt, &said[..n])
 }
 
-fn tell_too_long() {
+fn tell_too_long(rt: &impl System) {
     let mut said = [0u8; 256];
     let n = remarks::say_lines_too_long(&mut said, MOST);
-    report(&said[..n]);
+    report(rt, &said[..n]);
 }
 
 // Where the sheet can't go out, nothing more is printed.
-fn give(answer: Answer, sheet: &[u8]) -> Done {
-    if !send(sheet) {
+fn give(rt: &impl System, answer: Answer, sheet: &[u8]) -> Done {
+    if !send(rt, sheet) {
         return Done {
             accepted: true,
             written: false,
         };
     }
-    let told = tell_end(sheet, answer);
+    let told = tell_end(rt, sheet, answer);
     Done {
         accepted: true,
         written: told,
@@ -70,33 +69,33 @@ fn refused() -> Done {
     }
 }
 
-fn write_sheet(lines: &[u8]) -> Done {
+fn write_sheet(rt: &impl System, lines: &[u8]) -> Done {
     if MOST < lines.len() {
-        tell_too_long();
+        tell_too_long(rt);
         return refused();
     }
     let mut sheet = sheet_buffer();
     let answer = sheet::export(lines, &mut sheet);
     match answer {
-        Answer::Written(n) => give(answer, &sheet[..n]),
+        Answer::Written(n) => give(rt, answer, &sheet[..n]),
         Answer::Refused(code, row) => {
-            tell_end(b"", answer);
+            tell_end(rt, b"", answer);
             refused()
         }
     }
 }
 
-fn tell_status(done: Done) {
-    program::tell_status(remarks::status(done.accepted, done.written));
+fn tell_status(rt: &impl System, done: Done) {
+    program::tell_status(rt, remarks::status(done.accepted, done.written));
 }
 
-fn main() {
+fn main(rt: HostRuntime) {
     let mut lines = lines_buffer();
-    let input = program::read_all(STDIN_FILENO, b"standard input", &mut lines);
+    let input = program::read_all(&rt, &mut rt.input(), b"standard input", &mut lines);
     if !input.good {
-        tell_status(refused());
+        tell_status(&rt, refused());
         return;
     }
     let n = input.len;
-    tell_status(write_sheet(&lines[..n]));
+    tell_status(&rt, write_sheet(&rt, &lines[..n]));
 }

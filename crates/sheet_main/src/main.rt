@@ -3,6 +3,6 @@
 
 use line_rows::Form;
 
-fn main() {
-    lister::pump::run(Form::Sheet);
+fn main(rt: HostRuntime) {
+    lister::pump::run(&rt, Form::Sheet);
 }

@@ -8,7 +8,6 @@ use account_numbers::{
     NUMBERS, account_of, of_heading, of_refusal, of_start, of_subtotal, of_used,
 };
 use book::{Answer, State};
-use libc::STDOUT_FILENO;
 
 // A state read, and where the next word begins.
 #[derive(Clone, Copy)]
@@ -131,12 +130,12 @@ pub(crate) fn fill(room: &mut [u8]) {
 }
 
 // Writes the answers out where they begin to fill the buffer; how many bytes are left in it.
-pub(crate) fn flushed(out: &[u8], w: usize) -> usize {
+pub(crate) fn flushed(rt: &impl Print, out: &[u8], w: usize) -> usize {
     if w < 32768 {
         return w;
     }
     if w <= out.len() {
-        io::write_all(STDOUT_FILENO, &out[..w]);
+        let _ = rt.write_all(&out[..w]);
     }
     0
 }
@@ -175,6 +174,7 @@ fn step(
 
 // The calls of a trial over the input, whose count stands in the line at at; then the last state.
 fn calls(
+    rt: &impl Print,
     from: State,
     line: &[u8],
     at: usize,
@@ -195,13 +195,14 @@ fn calls(
         state = s.state;
         next = s.next;
         i += s.taken;
-        end = flushed(out, s.w);
+        end = flushed(rt, out, s.w);
     }
     put_state(out, end, state)
 }
 
 // A trial of the reader, from the word behind its letter on; how many bytes of answers are in the buffer.
 pub(crate) fn replay(
+    rt: &impl Print,
     line: &[u8],
     at: usize,
     input: &mut [u8],
@@ -213,6 +214,6 @@ pub(crate) fn replay(
     let state = resumed.state;
     let read = read_bytes(line, resumed.next, input);
     let n = read.n;
-    let end = calls(state, line, read.next, &input[..n], room, out, w);
-    flushed(out, end)
+    let end = calls(rt, state, line, read.next, &input[..n], room, out, w);
+    flushed(rt, out, end)
 }

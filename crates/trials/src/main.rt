@@ -11,7 +11,7 @@ mod written;
 
 ghost use Rattle.std.specs.Prelude.{◌≡◌, ◌≤◌, length};
 
-use libc::{STDIN_FILENO, STDOUT_FILENO};
+use std::io::Read;
 
 // How many bytes of the line at hand are in, and how many of the answers.
 #[derive(Clone, Copy)]
@@ -34,7 +34,14 @@ fn line_buffer() -> [u8; 98304]
 }
 
 // One case, by its first letter.
-fn replay(line: &[u8], input: &mut [u8], room: &mut [u8], out: &mut [u8], w: usize) -> usize {
+fn replay(
+    rt: &impl Print,
+    line: &[u8],
+    input: &mut [u8],
+    room: &mut [u8],
+    out: &mut [u8],
+    w: usize,
+) -> usize {
     if line.len() == 0 {
         return w;
     }
@@ -42,16 +49,17 @@ fn replay(line: &[u8], input: &mut [u8], room: &mut [u8], out: &mut [u8], w: usi
         return slips::replay(line, 2, out, w);
     }
     if line[0] == b'W' {
-        return written::replay(line, 2, room, out, w);
+        return written::replay(rt, line, 2, room, out, w);
     }
     if line[0] == b'D' {
-        return saved::replay(line, 2, input, room, out, w);
+        return saved::replay(rt, line, 2, input, room, out, w);
     }
-    books::replay(line, 2, input, room, out, w)
+    books::replay(rt, line, 2, input, room, out, w)
 }
 
 // One byte more of the cases; a line feed ends one.
 fn take(
+    rt: &impl Print,
     line: &mut [u8],
     h: Held,
     b: u8,
@@ -64,7 +72,7 @@ fn take(
         return h;
     }
     if b == b'\n' {
-        let w = replay(&line[..len], input, room, out, h.answers);
+        let w = replay(rt, &line[..len], input, room, out, h.answers);
         return Held {
             line: 0,
             answers: w,
@@ -81,6 +89,7 @@ fn take(
 }
 
 fn take_part(
+    rt: &impl Print,
     part: &[u8],
     line: &mut [u8],
     h: Held,
@@ -91,29 +100,43 @@ fn take_part(
     let mut held = h;
     let mut i = 0;
     while i < part.len() {
-        held = take(line, held, part[i], input, room, out);
+        held = take(rt, line, held, part[i], input, room, out);
         i += 1;
     }
     held
 }
 
 // Reads once. At the end of the input, or where a read fails, there is no more.
-fn turn(line: &mut [u8], h: Held, input: &mut [u8], room: &mut [u8], out: &mut [u8]) -> Turned {
+fn turn<R: Print, I: Read>(
+    rt: &R,
+    from: &mut I,
+    line: &mut [u8],
+    h: Held,
+    input: &mut [u8],
+    room: &mut [u8],
+    out: &mut [u8],
+) -> Turned {
     let mut part = io::large_buffer();
-    let got = libc::read(STDIN_FILENO, &mut part);
-    if got <= 0 {
+    let n = from.read(&mut part).unwrap_or(0);
+    if n == 0 {
         return Turned {
             held: h,
             more: false,
         };
     }
-    let n = io::count(got, &part);
-    let held = take_part(&part[..n], line, h, input, room, out);
+    let held = take_part(rt, &part[..n], line, h, input, room, out);
     Turned { held, more: true }
 }
 
 // Nothing says that the input ends: the turns count down from a number that no run uses up.
-fn run(line: &mut [u8], input: &mut [u8], room: &mut [u8], out: &mut [u8]) -> Held {
+fn run<R: Print, I: Read>(
+    rt: &R,
+    from: &mut I,
+    line: &mut [u8],
+    input: &mut [u8],
+    room: &mut [u8],
+    out: &mut [u8],
+) -> Held {
     let mut held = Held {
         line: 0,
         answers: 0,
@@ -121,7 +144,7 @@ fn run(line: &mut [u8], input: &mut [u8], room: &mut [u8], out: &mut [u8]) -> He
     let mut turns = u64::MAX;
     while turns > 0 {
         turns -= 1;
-        let done = turn(line, held, input, room, out);
+        let done = turn(rt, from, line, held, input, room, out);
         held = done.held;
         if !done.more {
             return held;
@@ -130,14 +153,21 @@ fn run(line: &mut [u8], input: &mut [u8], room: &mut [u8], out: &mut [u8]) -> He
     held
 }
 
-fn main() {
+fn main(rt: HostRuntime) {
     let mut line = line_buffer();
     let mut input = io::large_buffer();
     let mut room = [0u8; 16384];
     let mut out = io::large_buffer();
-    let last = run(&mut line, &mut input, &mut room, &mut out);
+    let last = run(
+        &rt,
+        &mut rt.stdin(),
+        &mut line,
+        &mut input,
+        &mut room,
+        &mut out,
+    );
     let w = last.answers;
     if w <= 65536 {
-        io::write_all(STDOUT_FILENO, &out[..w]);
+        let _ = rt.write_all(&out[..w]);
     }
 }

@@ -48,6 +48,7 @@ fn save(damaged: &[u8], book: &mut [u8], list: &mut [u8], out: &mut [u8], at: us
 
 // A trial of the salvage, from the word behind its letter on; how many bytes of answers are in the buffer.
 pub(crate) fn replay(
+    rt: &impl Print,
     line: &[u8],
     at: usize,
     input: &mut [u8],
@@ -69,5 +70,5 @@ pub(crate) fn replay(
         out,
         w,
     );
-    flushed(out, end)
+    flushed(rt, out, end)
 }

@@ -46,7 +46,14 @@ fn write(
 }
 
 // A trial of the writer, from the word behind its letter on; how many bytes of answers are in the buffer.
-pub(crate) fn replay(line: &[u8], at: usize, room: &mut [u8], out: &mut [u8], w: usize) -> usize {
+pub(crate) fn replay(
+    rt: &impl Print,
+    line: &[u8],
+    at: usize,
+    room: &mut [u8],
+    out: &mut [u8],
+    w: usize,
+) -> usize {
     let resumed = read_state(line, at);
     let state = resumed.state;
     let mut head = [0u64; 3];
@@ -58,5 +65,5 @@ pub(crate) fn replay(line: &[u8], at: usize, room: &mut [u8], out: &mut [u8], w:
     let wrote = write(state, head[0], &values[..n], &mut room[..size], out, w);
     let after = wrote.state;
     let end = put_state(out, wrote.w, after);
-    flushed(out, end)
+    flushed(rt, out, end)
 }

@@ -4,9 +4,8 @@
 ghost use Rattle.std.specs.Prelude.{◌≡◌, ◌*◌, ◌/◌, length};
 ghost use Rattle.line_bytes.specs.Lines.{total_size};
 
-use libc::STDIN_FILENO;
 use line_bytes::TOTAL_SIZE;
-use program::{report, send};
+use program::{System, report, send};
 use sheet::{Answer, remarks};
 
 // The most bytes of a sheet: a book of 4,096 records has no more rows, the header among them, and none comes to 64 bytes a row.
@@ -36,27 +35,27 @@ fn lines_buffer() -> [u8; MOST_LINES]
 }
 
 // A sentence where it is refused, and the last word, which is part of the answer: whether it went out.
-fn tell_end(text: &[u8], answer: Answer) -> bool {
+fn tell_end(rt: &impl System, text: &[u8], answer: Answer) -> bool {
     let mut said = [0u8; 512];
     let n = remarks::say_end(&mut said, text, answer);
-    report(&said[..n])
+    report(rt, &said[..n])
 }
 
-fn tell_too_long() {
+fn tell_too_long(rt: &impl System) {
     let mut said = [0u8; 256];
     let n = remarks::say_too_long(&mut said, MOST);
-    report(&said[..n]);
+    report(rt, &said[..n]);
 }
 
 // Where the lines can't go out, nothing more is printed.
-fn give(text: &[u8], answer: Answer, lines: &[u8]) -> Done {
-    if !send(lines) {
+fn give(rt: &impl System, text: &[u8], answer: Answer, lines: &[u8]) -> Done {
+    if !send(rt, lines) {
         return Done {
             accepted: true,
             written: false,
         };
     }
-    let told = tell_end(text, answer);
+    let told = tell_end(rt, text, answer);
     Done {
         accepted: true,
         written: told,
@@ -70,33 +69,33 @@ fn refused() -> Done {
     }
 }
 
-fn read_sheet(text: &[u8]) -> Done {
+fn read_sheet(rt: &impl System, text: &[u8]) -> Done {
     if MOST < text.len() {
-        tell_too_long();
+        tell_too_long(rt);
         return refused();
     }
     let mut lines = lines_buffer();
     let answer = sheet::import(text, &mut lines);
     match answer {
-        Answer::Written(n) => give(text, answer, &lines[..n]),
+        Answer::Written(n) => give(rt, text, answer, &lines[..n]),
         Answer::Refused(code, row) => {
-            tell_end(text, answer);
+            tell_end(rt, text, answer);
             refused()
         }
     }
 }
 
-fn tell_status(done: Done) {
-    program::tell_status(remarks::status(done.accepted, done.written));
+fn tell_status(rt: &impl System, done: Done) {
+    program::tell_status(rt, remarks::status(done.accepted, done.written));
 }
 
-fn main() {
+fn main(rt: HostRuntime) {
     let mut sheet = sheet_buffer();
-    let input = program::read_all(STDIN_FILENO, b"standard input", &mut sheet);
+    let input = program::read_all(&rt, &mut rt.input(), b"standard input", &mut sheet);
     if !input.good {
-        tell_status(refused());
+        tell_status(&rt, refused());
         return;
     }
     let n = input.len;
-    tell_status(read_sheet(&sheet[..n]));
+    tell_status(&rt, read_sheet(&rt, &sheet[..n]));
 }

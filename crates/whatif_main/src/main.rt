@@ -3,8 +3,7 @@
 
 ghost use Rattle.std.specs.Prelude.{◌≤◌, length};
 
-use libc::STDIN_FILENO;
-use program::Reading;
+use program::{Reading, System};
 use text_lines::Cut;
 use whatif::Counts;
 
@@ -25,31 +24,31 @@ struct Stepped {
 }
 
 // Where slips can't go out nothing more is tried.
-fn send(text: &[u8], mut w: Work) -> Work {
-    if !program::send(text) {
+fn send(rt: &impl System, text: &[u8], mut w: Work) -> Work {
+    if !program::send(rt, text) {
         w.written = false;
     }
     w
 }
 
-fn report(text: &[u8], mut w: Work) -> Work {
-    if !program::report(text) {
+fn report(rt: &impl System, text: &[u8], mut w: Work) -> Work {
+    if !program::report(rt, text) {
         w.reported = false;
     }
     w
 }
 
-fn answer(typed: &[u8], w: Work) -> Work {
+fn answer(rt: &impl System, typed: &[u8], w: Work) -> Work {
     let mut out = [0u8; 256];
     let n = whatif::say_answer(&mut out, typed);
-    send(&out[..n], w)
+    send(rt, &out[..n], w)
 }
 
-fn remark(typed: &[u8], w: Work) -> Work {
+fn remark(rt: &impl System, typed: &[u8], w: Work) -> Work {
     let mut out = [0u8; 256];
     let cut = w.cut;
     let n = whatif::say_remark(&mut out, cut.number, typed);
-    report(&out[..n], w)
+    report(rt, &out[..n], w)
 }
 
 fn count(typed: &[u8], mut w: Work) -> Work {
@@ -59,13 +58,13 @@ fn count(typed: &[u8], mut w: Work) -> Work {
 }
 
 // A slip that did not go out is not counted.
-fn end_line(line: &[u8], w: Work) -> Work {
+fn end_line(rt: &impl System, line: &[u8], w: Work) -> Work {
     let typed = text_lines::whole(line, w.cut);
-    let answered = answer(typed, w);
+    let answered = answer(rt, typed, w);
     if !answered.written {
         return answered;
     }
-    count(typed, remark(typed, answered))
+    count(typed, remark(rt, typed, answered))
 }
 
 fn next_line(mut w: Work) -> Work {
@@ -75,7 +74,7 @@ fn next_line(mut w: Work) -> Work {
     w
 }
 
-fn step(line: &mut [u8], rest: &[u8], mut w: Work) -> Stepped
+fn step(rt: &impl System, line: &mut [u8], rest: &[u8], mut w: Work) -> Stepped
     ensures { result.taken ≤ length rest.now }
 {
     let cutting = text_lines::cut_line(line, w.cut, rest);
@@ -87,7 +86,7 @@ fn step(line: &mut [u8], rest: &[u8], mut w: Work) -> Stepped
             taken: cutting.taken,
         };
     }
-    let next = next_line(end_line(line, w));
+    let next = next_line(end_line(rt, line, w));
     Stepped {
         work: next,
         taken: cutting.taken,
@@ -95,13 +94,13 @@ fn step(line: &mut [u8], rest: &[u8], mut w: Work) -> Stepped
 }
 
 // A proved loop has to end: the steps count down from a number that no part uses up, since each takes a byte.
-fn take_part(line: &mut [u8], part: &[u8], from: Work) -> Work {
+fn take_part(rt: &impl System, line: &mut [u8], part: &[u8], from: Work) -> Work {
     let mut w = from;
     let mut i = 0;
     let mut steps = part.len();
     while steps > 0 {
         steps -= 1;
-        let done = step(line, &part[i..], w);
+        let done = step(rt, line, &part[i..], w);
         w = done.work;
         i += done.taken;
         if i == part.len() {
@@ -115,14 +114,15 @@ fn take_part(line: &mut [u8], part: &[u8], from: Work) -> Work {
 }
 
 // Part after part, up to the input's end or to a read or a write that fails.
-fn run(line: &mut [u8], from: Work) -> Work {
+fn run(rt: &impl System, line: &mut [u8], from: Work) -> Work {
     let mut w = from;
     let mut part = io::buffer();
+    let mut stdin = rt.input();
     let mut input = Reading::new();
     while 0 < input.turns {
-        input = input.next(STDIN_FILENO, b"standard input", &mut part);
+        input = input.next(rt, &mut stdin, b"standard input", &mut part);
         let n = input.len;
-        w = take_part(line, &part[..n], w);
+        w = take_part(rt, line, &part[..n], w);
         if !w.written {
             return w;
         }
@@ -132,24 +132,27 @@ fn run(line: &mut [u8], from: Work) -> Work {
 }
 
 // The line after the last line feed. Where a read failed it may have been cut, so it is not read.
-fn finish(line: &[u8], w: Work) -> Work {
+fn finish(rt: &impl System, line: &[u8], w: Work) -> Work {
     if w.read & w.written {
-        return end_line(line, w);
+        return end_line(rt, line, w);
     }
     w
 }
 
-fn report_counts(w: Work) -> Work {
+fn report_counts(rt: &impl System, w: Work) -> Work {
     let mut out = [0u8; 256];
     let n = whatif::say_counts(&mut out, w.counts);
-    report(&out[..n], w)
+    report(rt, &out[..n], w)
 }
 
-fn tell_status(w: Work) {
-    program::tell_status(whatif::status(w.counts, w.read & w.written & w.reported));
+fn tell_status(rt: &impl System, w: Work) {
+    program::tell_status(
+        rt,
+        whatif::status(w.counts, w.read & w.written & w.reported),
+    );
 }
 
-fn main() {
+fn main(rt: HostRuntime) {
     let mut line = [0u8; 1027];
     let start = Work {
         cut: Cut::new(),
@@ -163,10 +166,11 @@ fn main() {
         reported: true,
     };
     let headed = report(
+        &rt,
         b"estimate only, put in no book: answer, GE, Ym, head, days, kg CH4, kg before, difference\n",
         start,
     );
-    let last = run(&mut line, headed);
-    let done = finish(&line, last);
-    tell_status(report_counts(done));
+    let last = run(&rt, &mut line, headed);
+    let done = finish(&rt, &line, last);
+    tell_status(&rt, report_counts(&rt, done));
 }

@@ -4,8 +4,8 @@
 
 ghost use Rattle.std.specs.Prelude.{◌≡◌, length};
 
-use libc::STDIN_FILENO;
 use names::hints::{look, say_hint};
+use program::System;
 use why::{Verdict, remarks};
 
 // The 4,096 records that a book may have and one more, of 28 bytes each: what stands after them changes no answer.
@@ -15,51 +15,51 @@ fn book_buffer() -> [u8; 114716]
     [0u8; 114716]
 }
 
-fn tell_first(v: Verdict) -> bool {
+fn tell_first(rt: &impl System, v: Verdict) -> bool {
     let mut text = [0u8; 512];
     let n = remarks::say_first(&mut text, v);
-    program::send(&text[..n])
+    program::send(rt, &text[..n])
 }
 
-fn tell_second(v: Verdict) -> bool {
+fn tell_second(rt: &impl System, v: Verdict) -> bool {
     let mut text = [0u8; 512];
     let n = remarks::say_second(&mut text, v);
-    program::send(&text[..n])
+    program::send(rt, &text[..n])
 }
 
 // Both lines.
-fn tell(v: Verdict) -> bool {
-    if !tell_first(v) {
+fn tell(rt: &impl System, v: Verdict) -> bool {
+    if !tell_first(rt, v) {
         return false;
     }
-    tell_second(v)
+    tell_second(rt, v)
 }
 
 // A hint where the input is no book but a typed text, a sheet or nothing.
-fn tell_hint(input: &[u8]) {
+fn tell_hint(rt: &impl System, input: &[u8]) {
     let mut text = [0u8; 256];
     let n = say_hint(&mut text, 0, look(input));
-    program::report(&text[..n]);
+    program::report(rt, &text[..n]);
 }
 
-fn tell_status(accepted: bool, written: bool) {
-    program::tell_status(remarks::status(accepted, written));
+fn tell_status(rt: &impl System, accepted: bool, written: bool) {
+    program::tell_status(rt, remarks::status(accepted, written));
 }
 
-fn answer(book: &[u8]) {
+fn answer(rt: &impl System, book: &[u8]) {
     let v = why::why(book);
-    let written = tell(v);
-    tell_hint(book);
-    tell_status(remarks::accepted(v), written);
+    let written = tell(rt, v);
+    tell_hint(rt, book);
+    tell_status(rt, remarks::accepted(v), written);
 }
 
-fn main() {
+fn main(rt: HostRuntime) {
     let mut book = book_buffer();
-    let input = program::read_all(STDIN_FILENO, b"standard input", &mut book);
+    let input = program::read_all(&rt, &mut rt.input(), b"standard input", &mut book);
     if !input.good {
-        tell_status(false, false);
+        tell_status(&rt, false, false);
         return;
     }
     let n = input.len;
-    answer(&book[..n]);
+    answer(&rt, &book[..n]);
 }

@@ -5,8 +5,7 @@
 ghost use Rattle.std.specs.Prelude.{◌≤◌, ◌≡◌, length};
 
 use book::State;
-use libc::STDIN_FILENO;
-use program::{Reading, report};
+use program::{Reading, System, report};
 use text_lines::Cut;
 use writer::{Typing, Typist};
 
@@ -29,20 +28,20 @@ fn up_to(s: &[u8], n: usize) -> &[u8] {
 }
 
 // Remarks are part of the answer.
-fn tell(remark: &[u8], mut w: Work) -> Work
+fn tell(rt: &impl System, remark: &[u8], mut w: Work) -> Work
     ensures { result.taken ≡ w.taken }
 {
-    if !report(remark) {
+    if !report(rt, remark) {
         w.told = false;
     }
     w
 }
 
 // Where the bytes can't go out the book would lack a record: nothing more is tried.
-fn write_out(record: &[u8], mut w: Work) -> Work
+fn write_out(rt: &impl System, record: &[u8], mut w: Work) -> Work
     ensures { result.taken ≡ w.taken }
 {
-    if !program::send(record) {
+    if !program::send(rt, record) {
         w.good = false;
         w.sent = false;
     }
@@ -50,14 +49,14 @@ fn write_out(record: &[u8], mut w: Work) -> Work
 }
 
 // The remarks on a line first, then its record.
-fn send(record: &[u8], remark: &[u8], w: Work) -> Work
+fn send(rt: &impl System, record: &[u8], remark: &[u8], w: Work) -> Work
     ensures { result.taken ≡ w.taken }
 {
-    write_out(record, tell(remark, w))
+    write_out(rt, record, tell(rt, remark, w))
 }
 
 // Up to the end of a line, or of what is left of the part.
-fn take_line(line: &mut [u8], rest: &[u8], from: Work) -> Work
+fn take_line(rt: &impl System, line: &mut [u8], rest: &[u8], from: Work) -> Work
     ensures { result.taken ≤ length rest.now }
 {
     let mut out = [0u8; 28];
@@ -68,17 +67,17 @@ fn take_line(line: &mut [u8], rest: &[u8], from: Work) -> Work
     let mut w = from;
     w.typing = next;
     w.taken = r.taken;
-    send(up_to(&out, r.written), up_to(&remarks, r.told), w)
+    send(rt, up_to(&out, r.written), up_to(&remarks, r.told), w)
 }
 
 // A part, line after line. A proved loop has to end: the calls count down from a number that no part uses up, since each takes a byte.
-fn take_part(line: &mut [u8], part: &[u8], from: Work) -> Work {
+fn take_part(rt: &impl System, line: &mut [u8], part: &[u8], from: Work) -> Work {
     let mut w = from;
     let mut i = 0;
     let mut calls = part.len();
     while calls > 0 {
         calls -= 1;
-        w = take_line(line, &part[i..], w);
+        w = take_line(rt, line, &part[i..], w);
         i += w.taken;
         if !w.good {
             return w;
@@ -91,14 +90,15 @@ fn take_part(line: &mut [u8], part: &[u8], from: Work) -> Work {
 }
 
 // Part after part, up to the input's end or to a read or a write that fails.
-fn run(line: &mut [u8], from: Work) -> Work {
+fn run(rt: &impl System, line: &mut [u8], from: Work) -> Work {
     let mut w = from;
     let mut part = io::buffer();
+    let mut stdin = rt.input();
     let mut input = Reading::new();
     while 0 < input.turns {
-        input = input.next(STDIN_FILENO, b"standard input", &mut part);
+        input = input.next(rt, &mut stdin, b"standard input", &mut part);
         let n = input.len;
-        w = take_part(line, &part[..n], w);
+        w = take_part(rt, line, &part[..n], w);
         if !w.good {
             return w;
         }
@@ -108,7 +108,7 @@ fn run(line: &mut [u8], from: Work) -> Work {
 }
 
 // The unfinished line; where a read failed it may have been cut, and is not entered.
-fn last_line(line: &[u8], w: Work) -> Work {
+fn last_line(rt: &impl System, line: &[u8], w: Work) -> Work {
     if !w.good {
         return w;
     }
@@ -124,11 +124,11 @@ fn last_line(line: &[u8], w: Work) -> Work {
     };
     let mut next = w;
     next.typing = moved;
-    send(up_to(&out, l.written), up_to(&remarks, l.told), next)
+    send(rt, up_to(&out, l.written), up_to(&remarks, l.told), next)
 }
 
 // The end of the text: a close that waits is written, where all of it was read. Of a book that can't go out nothing more is said.
-fn end_text(w: Work) -> Work {
+fn end_text(rt: &impl System, w: Work) -> Work {
     if !w.sent {
         return w;
     }
@@ -145,11 +145,11 @@ fn end_text(w: Work) -> Work {
     };
     let mut next = w;
     next.typing = moved;
-    send(up_to(&out, l.written), up_to(&remarks, l.told), next)
+    send(rt, up_to(&out, l.written), up_to(&remarks, l.told), next)
 }
 
 // The verdict, which is part of the answer: whether it went out.
-fn tell_verdict(w: Work) -> bool {
+fn tell_verdict(rt: &impl System, w: Work) -> bool {
     if !w.sent {
         return false;
     }
@@ -157,28 +157,28 @@ fn tell_verdict(w: Work) -> bool {
     let typing = w.typing;
     let t = typing.typist;
     let n = writer::remarks::say_verdict(&mut text, t, w.good);
-    report(up_to(&text, n))
+    report(rt, up_to(&text, n))
 }
 
-fn say_end(w: Work) {
-    let told = tell_verdict(w);
+fn say_end(rt: &impl System, w: Work) {
+    let told = tell_verdict(rt, w);
     let typing = w.typing;
     let t = typing.typist;
-    program::tell_status(writer::remarks::status(t, w.good & w.told & told));
+    program::tell_status(rt, writer::remarks::status(t, w.good & w.told & told));
 }
 
 // The kinds on a screen; the status is 0 where they were written.
-fn show_kinds() {
+fn show_kinds(rt: &impl System) {
     let mut text = [0u8; 4096];
     let n = kinds_screen::say_screen(&mut text);
-    if program::send(up_to(&text, n)) {
-        program::tell_status(b'0');
+    if program::send(rt, up_to(&text, n)) {
+        program::tell_status(rt, b'0');
     } else {
-        program::tell_status(b'1');
+        program::tell_status(rt, b'1');
     }
 }
 
-fn type_book() {
+fn type_book(rt: &impl System) {
     let mut line = [0u8; 1027];
     let typist = Typist::new(State::new());
     let typing = Typing {
@@ -186,6 +186,7 @@ fn type_book() {
         cut: Cut::new(),
     };
     let last = run(
+        rt,
         &mut line,
         Work {
             typing: typing,
@@ -195,14 +196,14 @@ fn type_book() {
             told: true,
         },
     );
-    say_end(end_text(last_line(&line, last)));
+    say_end(rt, end_text(rt, last_line(rt, &line, last)));
 }
 
 // `writer status kinds` shows the kinds.
-fn main() {
-    if os::arg_count() == 3 {
-        show_kinds();
+fn main(rt: HostRuntime) {
+    if program::arg_count(&rt) == 3 {
+        show_kinds(&rt);
     } else {
-        type_book();
+        type_book(&rt);
     }
 }
