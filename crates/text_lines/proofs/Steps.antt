@@ -1,25 +1,19 @@
 -- Laws of the cutter's steps: what the code's parts make together.
 -- Assumes nothing.
-use Prim.Native.Nat.{ℕ, ◌+◌, ◌-◌, ◌≤◌, ◌<◌}
+use Prim.Native.Nat.{ℕ, ◌+◌, ◌≤◌, ◌<◌}
 use native.Mathlib.Omega.{arith}
 use mathlib.Core.Path.{◌≡◌, refl, sym, ap, ◌∙◌}
 use mathlib.Core.Bool.{Bool, true, false, ◌&&◌, ◌||◌}
 use mathlib.Core.List.{List, []}
 use lib.ListN.{length, get_or, take, drop, length-take, take-append-drop, get_or-eq_default}
-use lib.Seq.{take-length}
 use lib.Dec.{eqb, ltb}
 use borrow.Author.Tests.{ltb-true}
 use Rattle.base.specs.Choice.{pick}
 use Rattle.base.proofs.Tests.{and-false, by-test}
-use Rattle.base.specs.Bytes.{index_of, slice}
+use Rattle.base.specs.Bytes.{index_of}
 use Rattle.printing.specs.Decimal.{Put}
 use Rattle.text_lines.specs.Lines.{before, room, stored, cutting_of, cut_in, is_marked, unmarked}
 use Rattle.text_lines.specs.declared.Cut.{Cut}
-
--- the byte is looked for in all of s
-pub found : (b : ℕ) (s : List ℕ) (p : ℕ) → p ≡ 0 + index_of b (slice 0 (length s) s) → p ≡ index_of b s
-unfolding slice
-found b s p e = let t : index_of b (take (length s) s) ≡ index_of b s = rw take-length in omega arith
 
 -- a part of a slice up to its end
 pub too_short : (line : List ℕ) → length line < 3 → false ≡ is_marked line

@@ -5,7 +5,7 @@ ghost use Rattle.std.specs.Prelude.{◌≡◌, ◌+◌, ◌≤◌, min, ltb, [],
 ghost use Rattle.base.specs.Choice.{pick, one_more_lem};
 ghost use Rattle.text_lines.specs.Lines.{before, room, stored, first_cut, next_of, cutting_of, cut_in, is_marked, unmarked};
 
-use base::{least, one_more};
+use base::{find, least, one_more};
 
 // Of a line's bytes before its #, 1,024 and the three of a byte order mark are kept.
 pub const MOST: usize = 1027;
@@ -72,7 +72,7 @@ fn behind(s: &[u8], n: usize) -> &[u8]
 fn before_byte(s: &[u8], b: u8) -> &[u8]
     ensures { result.now ≡ before b s.now }
 {
-    at_most(s, bytes::scan::find(s, 0, s.len(), b))
+    at_most(s, find(s, b))
 }
 
 // Nothing of s in a comment.
