@@ -5,27 +5,8 @@ use Rattle.base.specs.Bytes.{index_of, index_after}
 use Rattle.typed_words.specs.Words.{leading_of, nth_part, nth_word, same_text_lem, lowered}
 use Rattle.printing.specs.Ascii.{ascii}
 use Rattle.printing.specs.Decimal.{digits_by, decimal, without_last, last_digits, pointed}
-use Rattle.names.specs.Names.{
-  kind_table,
-  kind_name,
-  names_from,
-  kind_names,
-  field_table,
-  field_name,
-  expected_table,
-  expected,
-  choice_table,
-  choice_word,
-  chosen_from,
-  chosen,
-  unit_table,
-  unit_text,
-  decimals_table,
-  value_text,
-  class_name,
-  all_printed,
-  shown,
-}
+use Rattle.names.specs.Names.{kind_table, kind_name, names_from, kind_names, field_table, field_name, expected_table, expected}
+use Rattle.names.specs.Names.{choice_table, chosen_from, chosen, unit_table, unit_text, decimals_table, value_text, class_name, all_printed, shown}
 
 kinds-named : (kind_name 3 ≡ ascii "enteric") × (kind_name 8 ≡ ascii "close")
     × (kind_name 9 ≡ ascii "tillage")

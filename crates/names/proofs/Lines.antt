@@ -24,7 +24,8 @@ line-within last k text h = let e : min k last ≡ k = omega arith in rw e
 
 -- ---- the names of all kinds, one after the other
 
-pub names-one : (k : ℕ) → k ≤ last_kind → names_from (suc last_kind - k) k ≡ (ascii ", " ++ kind_name k) ++ names_from (suc last_kind - (k + 1)) (k + 1)
+pub names-one : (k : ℕ) → k ≤ last_kind
+    → names_from (suc last_kind - k) k ≡ (ascii ", " ++ kind_name k) ++ names_from (suc last_kind - (k + 1)) (k + 1)
 unfolding names_from
 names-one k h = let e : suc last_kind - k ≡ suc (suc last_kind - (k + 1)) = omega arith in rw (e, add-one) refl
 

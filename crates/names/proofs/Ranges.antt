@@ -18,7 +18,8 @@ use Rattle.typed_words.specs.Words.{nth_part, nth_word, leading_of}
 use Rattle.typed_words.specs.Amounts.{a_whole, number_from, amount_of}
 use Rattle.codec.specs.declared.Field.{Field}
 use Rattle.codec.specs.Table.{field, table, fields}
-use Rattle.names.specs.Names.{table_line, no_row, field_table, field_names, choice_table, expected_table, expected, decimals_table, decimals_of, decimals_at}
+use Rattle.names.specs.Names.{table_line, no_row, field_table, field_names, choice_table, expected_table, expected}
+use Rattle.names.specs.Names.{decimals_table, decimals_of, decimals_at}
 use Rattle.names.proofs.Lines.{all_below, at-below}
 
 -- word n of what is expected of a field, as a number with the field's decimals
@@ -101,6 +102,7 @@ counts-true k =
     let count : n ≡ length (fields k) = ap length (same-fields k) in
     record {
       names = eqb-true (pieces 44 (field_names k)) n (passed names (and_l names (texts && digits) t)) ∙ count;
-      texts = eqb-true (pieces 59 (table_line no_row k expected_table)) n (passed texts (and_l texts digits (and_r names (texts && digits) t))) ∙ count;
+      texts = eqb-true (pieces 59 (table_line no_row k expected_table)) n (passed texts (and_l texts digits (and_r names (texts && digits) t)))
+          ∙ count;
       digits = eqb-true (length (decimals_of k)) n (passed digits (and_r texts digits (and_r names (texts && digits) t))) ∙ count;
     }

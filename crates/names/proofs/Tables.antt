@@ -1,18 +1,15 @@
 -- Theorems: the words of a choice are as many as its numbers, each is read as its number, and what is usual lies within the field's range.
 -- Assumes nothing.
-use Prim.Native.Nat.{ℕ, suc, ◌<◌, ◌≤◌}
-use native.Mathlib.Omega.{arith}
-use mathlib.Core.Path.{◌≡◌}
+use Prim.Native.Nat.{ℕ, suc}
 use mathlib.Core.Bool.{Bool, ◌&&◌, ◌||◌, not}
-use mathlib.Core.List.{List}
 use lib.ListN.{length}
 use lib.Dec.{T, leb, eqb}
 use Rattle.base.specs.Bytes.{index_of, index_after}
 use Rattle.typed_words.specs.Words.{leading_of, nth_part, nth_word, same_text_lem, lowered}
 use Rattle.typed_words.specs.Amounts.{number_from, amount_of}
 use Rattle.codec.specs.Table.{table, fields, field_at}
-use Rattle.names.specs.Names.{no_row, choice_table, is_choice, choice_word, chosen_from, chosen, decimals_table, decimals_at}
-use Rattle.names.specs.Usual.{usual_table, usual_ranges, usual_in, usual_of}
+use Rattle.names.specs.Names.{no_row, choice_table, is_choice, choice_word, chosen_from, chosen, decimals_table}
+use Rattle.names.specs.Usual.{usual_table, usual_in, usual_of}
 use Rattle.names.proofs.Lines.{all_below}
 
 -- the word for v is one, and is read as v

@@ -9,7 +9,6 @@ use lib.Dec.{ltb}
 use Rattle.typed_words.specs.Words.{nth_word}
 use Rattle.typed_words.specs.Amounts.{amount_of}
 use Rattle.printing.specs.Ascii.{ascii}
-use Rattle.names.specs.declared.usual.Usual.{Usual}
 use Rattle.names.specs.Usual.{goes_by, range_for, usual_in, for_text}
 
 -- b is whether the ranges go by class or column, range the one for `who`

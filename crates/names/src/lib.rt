@@ -9,8 +9,8 @@ ghost use Rattle.codec.specs.Table.{fields};
 ghost use Rattle.printing.specs.Ascii.{ascii};
 ghost use Rattle.printing.specs.Said.{Said};
 ghost use Rattle.typed_words.specs.Words.{same_text_lem, lowered};
-ghost use Rattle.names.specs.Names.{table_line, kind_name, kind_names, field_names, field_name, cell_of, is_choice, choices_of, word_for, choice_word};
-ghost use Rattle.names.specs.Names.{choices_most, chosen_from, chosen, label_of, unit_of, help_of};
+ghost use Rattle.names.specs.Names.{table_line, kind_name, kind_names, field_names, field_name, cell_of, is_choice, choices_of, word_for};
+ghost use Rattle.names.specs.Names.{choice_word, choices_most, chosen_from, chosen, label_of, unit_of, help_of};
 ghost use Rattle.names.specs.Names.{expected_table, choices_text, expected, decimals_at, unit_text, value_text, class_name};
 ghost use Rattle.names.specs.Names.{sentence_table, sentence, printed_byte, shown};
 

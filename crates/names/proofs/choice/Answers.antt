@@ -1,0 +1,6 @@
+use Rattle.names.specs.Names.{choice_table}
+use Rattle.names.proofs.choice.Goals as goal
+
+pub returns : goal.returns
+unfolding choice_table
+returns c = rw c.cell.ensures at c.choice_in.ensures

@@ -1,0 +1,5 @@
+use mathlib.Core.Path.{refl, ◌∙◌}
+use Rattle.names.proofs.nth_choice.Goals as goal
+
+pub returns : goal.returns
+returns c = c.word.ensures ∙ rw (c.part.ensures, c.less_one.ensures) refl

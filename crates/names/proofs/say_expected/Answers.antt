@@ -1,0 +1,7 @@
+-- One text after another. Assumes nothing.
+use Rattle.printing.proofs.Sayings.{◌⟫◌}
+use Rattle.names.proofs.say_expected.Goals as goal
+
+pub returns : goal.returns
+returns c =
+    c.say_range-range.ensures ⟫ c.say_bracketed.ensures

@@ -1,0 +1,25 @@
+use mathlib.Core.Path.{refl}
+use native.Mathlib.Omega.{arith}
+use native.Mathlib.Nat.{add-zero}
+use lib.ListN.{length-set}
+use Rattle.printing.proofs.Puts.{none}
+use Rattle.names.proofs.Shown.{one_more, all_shown}
+use Rattle.names.proofs.say_shown.Goals as goal
+
+pub loop-i-preserved : goal.loop-i-preserved
+loop-i-preserved c =
+    let l = c.loop-i in
+    let word = c.args.word.now in (
+      omega arith,
+      simp length-set l.invariant.1,
+      one_more word l.i c.printed.result c.printed.ensures (omega arith) (omega arith) l.invariant.2 (omega arith),
+    )
+
+pub loop-i-init : goal.loop-i-init
+loop-i-init c = (omega arith, refl, rw add-zero (none _ _ (omega arith)))
+
+pub returns : goal.returns
+returns c =
+    let l = c.loop-i in
+    let word = c.args.word.now in
+    all_shown word l.i (omega arith) l.invariant.1 l.invariant.2

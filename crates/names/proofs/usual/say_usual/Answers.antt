@@ -1,0 +1,14 @@
+use Rattle.printing.proofs.Sayings.{◌⟫◌}
+use Rattle.names.specs.Usual.{usual_text}
+use Rattle.names.proofs.usual.say_usual.Goals as goal
+
+pub returns : goal.returns
+unfolding usual_text
+returns c =
+    rw c.usual_range-u.ensures at (
+    c.say-word.ensures
+    ⟫ c.say_for-whom.ensures
+    ⟫ c.say-is.ensures
+    ⟫ c.say_value-low.ensures
+    ⟫ c.say_to.ensures
+    )
