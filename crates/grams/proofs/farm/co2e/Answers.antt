@@ -1,9 +1,9 @@
 -- `grams::farm::co2e` meets its contract. Assumes nothing.
-use Rattle.std.proofs.Common.{◌≡◌, ℕ, ◌*◌, ◌^◌, ◌≤◌, pos, ap, ◌∙◌}
+use Rattle.std.proofs.Common.{◌≡◌, ℕ, ◌*◌, ◌^◌, ◌≤◌, pos, ap, ◌∙◌, arith}
 use Rattle.grams.specs.declared.units.Co2.{Co2}
 use Rattle.grams.specs.Units.{grams_co2, plus_co2, Co2Within}
 use Rattle.grams.specs.Farm.{co2e_of}
-use Rattle.grams.proofs.Bounds.{◌⊗◌, ◌⊕◌, fits}
+use Rattle.grams.proofs.Bounds.{◌⊗◌, fits}
 use Rattle.grams.proofs.Carbon.{within-grams}
 use Rattle.grams.proofs.farm.Small.{others-most}
 use Rattle.grams.proofs.farm.co2e.Goals as goal
@@ -14,27 +14,25 @@ counted c grams e h = rw e (within-grams (pos grams) 49152 h)
 
 pub returns : goal.returns
 unfolding co2e_of
-returns c = let g = c in
-    rw (← g.grams-2.ensures, ← g.grams.ensures) (c.plus.ensures
-    ∙ ap (plus_co2 g.args.co2) c.of.ensures)
+returns c = c.plus.ensures ∙ ap (plus_co2 c.args.co2) c.of.ensures
+    ∙ ap (λ (n : ℕ). plus_co2 c.args.co2 (grams_co2 (pos n))) (rw (c.grams.ensures, c.grams-2.ensures) (omega arith))
 
 pub overflow_mul-others : goal.overflow_mul-others
 overflow_mul-others c = let p = c.requires in fits (p.0.ch4-most ⊗ p.1.ch4-in) tt
 
 pub overflow_mul-others-2 : goal.overflow_mul-others-2
-overflow_mul-others-2 c = let p = c.requires in rw c.grams.ensures (fits (p.0.n2o-most ⊗ p.1.n2o-in) tt)
+overflow_mul-others-2 c = let p = c.requires in rw c.grams.ensures (omega (arith, p.0.n2o-most ⊗ p.1.n2o-in))
 
 pub overflow_add-others : goal.overflow_add-others
-overflow_add-others c = let p = c.requires in rw c.grams.ensures (fits (p.0.ch4-most ⊗ p.1.ch4-in ⊕ p.0.n2o-most ⊗ p.1.n2o-in) tt)
+overflow_add-others c = let p = c.requires in rw c.grams.ensures (omega (arith, p.0.ch4-most ⊗ p.1.ch4-in, p.0.n2o-most ⊗ p.1.n2o-in))
 
 pub overflow_add-others-2 : goal.overflow_add-others-2
 overflow_add-others-2 c = let p = c.requires in
-    rw (c.grams-2.ensures, c.grams.ensures) (fits (others-most p.0 p.1.ch4-in p.1.n2o-in p.1.grazing-in) tt)
+    rw (c.grams-2.ensures, c.grams.ensures) (omega (arith, others-most p.0 p.1.ch4-in p.1.n2o-in p.1.grazing-in))
 
 pub plus-requires : goal.plus-requires
-plus-requires c = let g = c in
-    let p = g.requires in (
-      p.1.co2-in,
-      counted _ _ c.of.ensures (rw (g.grams-2.ensures, g.grams.ensures)
-          (others-most p.0 p.1.ch4-in p.1.n2o-in p.1.grazing-in)),
-    )
+plus-requires c = let p = c.requires in (
+  p.1.co2-in,
+  counted _ _ c.of.ensures (rw (c.grams-2.ensures, c.grams.ensures)
+      (omega (arith, others-most p.0 p.1.ch4-in p.1.n2o-in p.1.grazing-in))),
+)
