@@ -1,12 +1,12 @@
 -- Laws of a word's sign.
 -- Assumes nothing.
-use Prim.Native.Nat.{ℕ, suc, ◌≤◌}
+use Prim.Native.Nat.{ℕ, ◌≤◌}
 use native.Mathlib.Omega.{arith}
 use mathlib.Core.Path.{◌≡◌, refl, sym}
 use mathlib.Core.Bool.{true, false, true≢false}
 use mathlib.Core.List.{List, [], ◌∷◌}
 use lib.ListN.{length}
-use Rattle.kilograms.specs.Kilograms.{is_below, digits_in}
+use Rattle.kilograms.specs.Kilograms.{is_below}
 
 pub none_below : (w : List ℕ) → length w ≡ 0 → false ≡ is_below w
 none_below [] e = refl

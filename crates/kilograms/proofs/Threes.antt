@@ -1,12 +1,12 @@
 -- Laws of digits in threes: the first of them, then the space before the others, then these.
 -- Assumes nothing.
-use Prim.Native.Nat.{ℕ, zero, suc, ◌+◌, ◌-◌, ◌≤◌, ◌<◌}
+use Prim.Native.Nat.{ℕ, suc, ◌+◌, ◌-◌, ◌≤◌, ◌<◌}
 use native.Mathlib.Omega.{arith}
-use mathlib.Core.Path.{◌≡◌, refl, ap, sym, ◌∙◌}
+use mathlib.Core.Path.{◌≡◌, refl, ap, ◌∙◌}
 use mathlib.Core.List.{List, [], ◌∷◌, ◌++◌}
-use lib.ListN.{length, take, drop, replicate, length-drop, drop_of_length-le}
+use lib.ListN.{length, take, drop, length-drop, drop_of_length-le}
 use lib.Seq.{drop-drop, length-take-le}
-use Rattle.kilograms.specs.Kilograms.{space_before, in_threes, filled, pointed_before, amount_text}
+use Rattle.kilograms.specs.Kilograms.{space_before, in_threes, pointed_before, amount_text}
 
 split : (ds : List ℕ) → 0 < length ds → in_threes ds ≡ take 1 ds ++ (space_before (length ds - 1) ++ in_threes (drop 1 ds))
 unfolding in_threes

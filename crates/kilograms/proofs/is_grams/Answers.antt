@@ -1,0 +1,7 @@
+-- The digits, and the number that they write. Assumes nothing.
+use Rattle.kilograms.specs.Kilograms.{is_grams}
+use Rattle.kilograms.proofs.is_grams.Goals as goal
+
+pub returns : goal.returns
+unfolding is_grams
+returns c = rw (c.read_amount-amount.ensures, c.digits_in-digits.ensures)
