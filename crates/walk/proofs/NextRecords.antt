@@ -1,8 +1,8 @@
 -- The next record of a walk: by the front of the bytes, and as the run of rule 2 has it.
 -- Assumes nothing.
 use Prim.Native.Nat.{ℕ, ◌+◌, ◌≤◌, ◌<◌}
-use mathlib.Core.Path.{◌≡◌, refl, sym, ap, ◌∙◌}
-use mathlib.Core.List.{List, [], ◌∷◌, ◌++◌}
+use mathlib.Core.Path.{◌≡◌, refl, ap, ◌∙◌}
+use mathlib.Core.List.{List, [], ◌++◌}
 use native.Mathlib.Omega.{arith}
 use borrow.Author.Tests.{lt-ltb, le-ltb}
 use lib.ListN.{length, take, drop}
@@ -12,7 +12,7 @@ use Rattle.account.specs.declared.Account.{Account}
 use Rattle.account.specs.declared.Judged.{Judged}
 use Rattle.account.specs.Range.{AccountInRange}
 use Rattle.account.specs.Judge.{judge}
-use Rattle.account.specs.Line.{joined, bytes_of}
+use Rattle.account.specs.Line.{bytes_of}
 use Rattle.account.specs.Told.{TellsIn}
 use Rattle.account.proofs.Told.{tells-fit, lines-short}
 use Rattle.account.proofs.Keeps.{in-range-judge, in-range-length}

@@ -1,22 +1,21 @@
 -- What a caller learns from the next record of a walk, and how the accepted records go on with it.
 -- Assumes nothing.
-use Prim.Native.Nat.{ℕ, zero, suc, ◌+◌, ◌≤◌, ◌<◌}
-use mathlib.Core.Path.{◌≡◌, refl, sym, ap, ◌∙◌}
+use Prim.Native.Nat.{ℕ, zero, suc, ◌≤◌, ◌<◌}
+use mathlib.Core.Path.{◌≡◌, refl, ap, ◌∙◌}
 use mathlib.Core.List.{List, [], ◌∷◌}
-use mathlib.Core.Bool.{Bool, true, false, ◌||◌}
+use mathlib.Core.Bool.{true, ◌||◌}
 use mathlib.Core.Logic.{⊎_elim}
 use native.Mathlib.Omega.{arith}
 use borrow.Author.Tests.{lt-ltb, le-ltb, eq-eqb, ne_eqb, eqb-true, eqb-false}
 use lib.Dec.{eqb}
 use lib.ListN.{length, take, drop}
-use Rattle.base.specs.Choice.{pick}
 use Rattle.base.proofs.Tests.{lt-or-ge, by-test}
 use Rattle.account.specs.declared.Account.{Account}
 use Rattle.account.specs.Judge.{judge}
 use Rattle.walk.specs.declared.Next.{Next}
 use Rattle.book.specs.Front.{Front, unfinished, bad_length, whole, need, front}
 use Rattle.book.specs.WholeRecords.{Ready, begins_with, records_by, records_of}
-use Rattle.walk.specs.Walk.{record_at, lines_of, at_front, next_of, lines_next, accepts, entry_of, records_in, entries_from, entries_after, run_by}
+use Rattle.walk.specs.Walk.{lines_of, at_front, next_of, lines_next, accepts, entry_of, records_in, entries_from, entries_after, run_by}
 use Rattle.book.proofs.Fronts.{meaning, front-none}
 use Rattle.book.proofs.WholeRecords.{records-whole}
 use Rattle.book.specs.Run.{book}
