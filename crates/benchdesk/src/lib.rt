@@ -39,8 +39,7 @@ fn number(code: u64, w: usize) -> u64
 
 // Code times 2^32, plus the bytes written: as herd_desk, but for 18, since nothing is offered after the close. The parts of the state go from call to
 // call as locals of their own, so that the compiler keeps no second state in memory.
-#[unsafe(no_mangle)]
-pub extern "C" fn bench_parts(book: &[u8], lines: &mut [u8], part: usize) -> u64
+pub fn bench_parts(book: &[u8], lines: &mut [u8], part: usize) -> u64
     ensures number { result ≡ number_of (benched book.now part (length lines.old)) }
     ensures lines { lines.new ≡ laid_by (benched book.now part (length lines.old)) lines.old }
 {

@@ -1,4 +1,5 @@
-// The herd desk: a whole book and a line buffer from a C program, one number back; or an image that it keeps, and a part of a book.
+// The herd desk: a whole book and a line buffer from a C program, one number back; or an image that it keeps, and a part of a book. desk_c has its
+// functions for C.
 #![tactic(auto)]
 
 ghost use Rattle.std.specs.Prelude.{◌≡◌, ◌≤◌, length};
@@ -22,8 +23,7 @@ fn code_of(answer: Answer, left: usize) -> u64
 }
 
 // Code times 2^32, plus the bytes written.
-#[unsafe(no_mangle)]
-pub extern "C" fn herd_desk(book: &[u8], lines: &mut [u8]) -> u64
+pub fn herd_desk(book: &[u8], lines: &mut [u8]) -> u64
     ensures number { result ≡ desk_number book.now (length lines.old) }
     ensures lines { lines.new ≡ lines_laid (desk_call book.now (length lines.old)) lines.old }
 {
@@ -36,8 +36,7 @@ pub extern "C" fn herd_desk(book: &[u8], lines: &mut [u8]) -> u64
 }
 
 // The image of no record yet: 0, or 13 times 2^32 where its length is another, and the image untouched.
-#[unsafe(no_mangle)]
-pub extern "C" fn herd_start(image: &mut [u8]) -> u64
+pub fn herd_start(image: &mut [u8]) -> u64
     ensures number { result ≡ start_number image.old }
     ensures image { image.new ≡ started image.old }
 {
@@ -45,8 +44,7 @@ pub extern "C" fn herd_start(image: &mut [u8]) -> u64
 }
 
 // A part of a book, read on from an image: code times 2^32, plus the bytes written.
-#[unsafe(no_mangle)]
-pub extern "C" fn herd_call(image: &mut [u8], part: &[u8], lines: &mut [u8], taken: &mut u64) -> u64
+pub fn herd_call(image: &mut [u8], part: &[u8], lines: &mut [u8], taken: &mut u64) -> u64
     ensures number { result ≡ call_number (call_on image.old part.now (length lines.old)) }
     ensures taken { taken.new ≡ (call_on image.old part.now (length lines.old)).taken }
     ensures image { image.new ≡ image_after image.old part.now (length lines.old) }
