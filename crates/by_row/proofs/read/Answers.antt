@@ -12,61 +12,47 @@ use Rattle.by_row.proofs.read.Goals as goal
 
 pub number-requires : goal.number-requires
 number-requires c =
-    let field-there : c.loop-i.i < length (fields c.args.row) = omega (arith, c.values_of-n.ensures) in
-    let bytes-there : c.loop-i.p + c.width-w.result ≤ length c.args.s.now = let k = c.loop-i in
-    let left = size-left (fields c.args.row) k.i (field-there) in
-    omega (arith, c.width-w.ensures, left, k.invariant.2) in
-    let row = c.args.row in
-    (bytes-there, rw c.width-w.ensures (narrow row c.loop-i.i (field-there)))
+    let k = c.loop-i in
+    let there : k.i < length (fields c.args.row) = omega (arith, c.values_of-n.ensures) in
+    let left = size-left (fields c.args.row) k.i there in
+    (omega (arith, c.width-w.ensures, left, k.invariant.2), rw c.width-w.ensures (narrow c.args.row k.i there))
 
 pub loop-i-preserved : goal.loop-i-preserved
 loop-i-preserved c =
-    let field-there : c.loop-i.i < length (fields c.args.row) = omega (arith, c.values_of-n.ensures) in
+    let k = c.loop-i in
     let w = c.width-w.ensures in
-    let l = c in
-    let k = l.loop-i in
-    let row = l.args.row in
-    let f = field-there in (
+    let row = c.args.row in
+    let there : k.i < length (fields row) = omega (arith, c.values_of-n.ensures) in (
       omega arith,
       length-set k.v k.i c.number.result ∙ k.invariant.1,
-      omega (arith, w, size-left (fields row) k.i f, k.invariant.2),
-      rw c.number.ensures (read-turn (fields row) k.i f w _ k.v k.p ∙ k.invariant.3),
+      omega (arith, w, size-left (fields row) k.i there, k.invariant.2),
+      rw c.number.ensures (read-turn (fields row) k.i there w _ k.v k.p ∙ k.invariant.3),
     )
 
 pub returns : goal.returns
-returns c = let k = c.loop-i in
-    let start = c in
-    let row = start.args.row in
-    let n = c.values_of-n.ensures in
-    let few = values_length (fields row) start.args.s.now start.args.at in
-    sym (all_read (fields row) k.i (omega (arith, n)) _ k.v k.p) ∙ k.invariant.3
-    ∙ in-twelve (values_at (fields row) start.args.s.now start.args.at) (omega (arith, few, fields-few row))
+returns c =
+    let k = c.loop-i in
+    let row = c.args.row in
+    let few = values_length (fields row) c.args.s.now c.args.at in
+    sym (all_read (fields row) k.i (omega (arith, c.values_of-n.ensures)) _ k.v k.p) ∙ k.invariant.3
+    ∙ in-twelve (values_at (fields row) c.args.s.now c.args.at) (omega (arith, few, fields-few row))
 
 pub loop-i-init : goal.loop-i-init
 loop-i-init c = (omega arith, refl, c.requires.1, refl)
 
+-- no row has more than twelve fields
 pub width-w-requires : goal.width-w-requires
-width-w-requires c =
-    let field-there : c.loop-i.i < length (fields c.args.row) = omega (arith, c.values_of-n.ensures) in
-    let one-of-twelve : c.loop-i.i < 12 = omega (arith, field-there, fields-few c.args.row) in
-    (c.requires.0, one-of-twelve)
+width-w-requires c = (c.requires.0, omega (arith, c.values_of-n.ensures, fields-few c.args.row))
 
 pub offset_bounds-v-i : goal.offset_bounds-v-i
-offset_bounds-v-i c =
-    let field-there : c.loop-i.i < length (fields c.args.row) = omega (arith, c.values_of-n.ensures) in
-    let one-of-twelve : c.loop-i.i < 12 = omega (arith, field-there, fields-few c.args.row) in
-    omega (arith, one-of-twelve)
+offset_bounds-v-i c = omega (arith, c.values_of-n.ensures, fields-few c.args.row)
 
 pub bounds-v-i : goal.bounds-v-i
-bounds-v-i c =
-    let field-there : c.loop-i.i < length (fields c.args.row) = omega (arith, c.values_of-n.ensures) in
-    let one-of-twelve : c.loop-i.i < 12 = omega (arith, field-there, fields-few c.args.row) in
-    one-of-twelve
+bounds-v-i c = omega (arith, c.values_of-n.ensures, fields-few c.args.row)
 
 pub overflow_add-p : goal.overflow_add-p
 overflow_add-p c =
-    let field-there : c.loop-i.i < length (fields c.args.row) = omega (arith, c.values_of-n.ensures) in
-    let bytes-there : c.loop-i.p + c.width-w.result ≤ length c.args.s.now = let k = c.loop-i in
-    let left = size-left (fields c.args.row) k.i (field-there) in
-    omega (arith, c.width-w.ensures, left, k.invariant.2) in
-    omega (arith, bytes-there)
+    let k = c.loop-i in
+    let left = size-left (fields c.args.row) k.i (omega (arith, c.values_of-n.ensures)) in
+    let there : k.p + c.width-w.result ≤ length c.args.s.now = omega (arith, c.width-w.ensures, left, k.invariant.2) in
+    omega (arith, there)

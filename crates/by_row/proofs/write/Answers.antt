@@ -7,17 +7,16 @@ use Rattle.codec.proofs.Stores.{record-stored}
 use Rattle.by_row.proofs.write.Goals as goal
 
 pub returns : goal.returns
-returns c = let k = c in
-    let b = k in
-    let size : b.bytes_of.result - 2 ≡ length_of b.args.row = omega (arith, b.bytes_of.ensures) in
+returns c =
+    let size : c.bytes_of.result - 2 ≡ length_of c.args.row = omega (arith, c.bytes_of.ensures) in
     rw (
       record-stored,
       c.put_fields.ensures,
       c.put_versioned.ensures,
-      k.kind_of-kind.ensures,
-      k.version_of-version.ensures,
+      c.kind_of-kind.ensures,
+      c.version_of-version.ensures,
       size,
     ) refl
 
 pub put_fields-requires : goal.put_fields-requires
-put_fields-requires c = let p = c.requires in (omega (arith, p.0), p.1)
+put_fields-requires c = (omega (arith, c.requires.0), c.requires.1)

@@ -6,10 +6,6 @@ use Rattle.codec.proofs.Within.{too-high, none-bad}
 use native.Mathlib.Omega.{arith}
 use Rattle.values.proofs.close.first_bad.Goals as goal
 
-pub bounds-v-0 : goal.bounds-v-0
-unfolding table
-bounds-v-0 c = omega arith
-
 pub returns-then-v-gt65535 : goal.returns-then-v-gt65535
 unfolding table
 returns-then-v-gt65535 c = too-high 0 (fields 8) _ 0 (omega arith) (lit< tt) (omega arith)

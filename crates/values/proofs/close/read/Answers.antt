@@ -5,10 +5,6 @@ use Rattle.codec.proofs.Values.{values-read}
 use native.Mathlib.Omega.{arith}
 use Rattle.values.proofs.close.read.Goals as goal
 
-pub be16-before-requires : goal.be16-before-requires
-unfolding table
-be16-before-requires c = omega arith
-
 pub returns : goal.returns
 unfolding table
 returns c = values-read _ _ _ _ _ _ (omega arith) tt

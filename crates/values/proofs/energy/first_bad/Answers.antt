@@ -6,33 +6,17 @@ use Rattle.codec.proofs.Within.{too-low, too-high, none-bad}
 use native.Mathlib.Omega.{arith}
 use Rattle.values.proofs.energy.first_bad.Goals as goal
 
-pub bounds-v-0 : goal.bounds-v-0
-unfolding table
-bounds-v-0 c = omega arith
-
 pub returns-then-v-lt1 : goal.returns-then-v-lt1
 unfolding table
 returns-then-v-lt1 c = too-low 0 (fields 6) _ 0 (omega arith) (lit< tt) (omega arith)
-
-pub bounds-v-0-2 : goal.bounds-v-0-2
-unfolding table
-bounds-v-0-2 c = omega arith
 
 pub returns-then-v-gt8 : goal.returns-then-v-gt8
 unfolding table
 returns-then-v-gt8 c = too-high 0 (fields 6) _ 0 (omega arith) (lit< tt) (omega arith)
 
-pub bounds-v-1 : goal.bounds-v-1
-unfolding table
-bounds-v-1 c = omega arith
-
 pub returns-then-v-gt10000000 : goal.returns-then-v-gt10000000
 unfolding table
 returns-then-v-gt10000000 c = too-high 1 (fields 6) _ 0 (omega arith) (lit< tt) (omega arith)
-
-pub bounds-v-2 : goal.bounds-v-2
-unfolding table
-bounds-v-2 c = omega arith
 
 pub returns-then-v-gt10000000-2 : goal.returns-then-v-gt10000000-2
 unfolding table

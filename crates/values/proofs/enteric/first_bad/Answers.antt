@@ -8,41 +8,21 @@ use Rattle.codec.proofs.Within.{too-low, too-high, none-bad}
 use native.Mathlib.Omega.{arith}
 use Rattle.values.proofs.enteric.first_bad.Goals as goal
 
-pub in_ranges-requires : goal.in_ranges-requires
-unfolding table
-in_ranges-requires c = tt
-
 pub returns-then-in_ranges : goal.returns-then-in_ranges
 unfolding table
 returns-then-in_ranges c = sym (eqb-true _ 0 (sym c.in_ranges.ensures ∙ c.if-in_ranges.true))
-
-pub bounds-v-0 : goal.bounds-v-0
-unfolding table
-bounds-v-0 c = omega arith
 
 pub returns-then-v-lt1 : goal.returns-then-v-lt1
 unfolding table
 returns-then-v-lt1 c = too-low 0 (fields 3) _ 0 (omega arith) (lit< tt) (omega arith)
 
-pub bounds-v-0-2 : goal.bounds-v-0-2
-unfolding table
-bounds-v-0-2 c = omega arith
-
 pub returns-then-v-gt366 : goal.returns-then-v-gt366
 unfolding table
 returns-then-v-gt366 c = too-high 0 (fields 3) _ 0 (omega arith) (lit< tt) (omega arith)
 
-pub bounds-v-1 : goal.bounds-v-1
-unfolding table
-bounds-v-1 c = omega arith
-
 pub returns-then-v-gt100000 : goal.returns-then-v-gt100000
 unfolding table
 returns-then-v-gt100000 c = too-high 1 (fields 3) _ 0 (omega arith) (lit< tt) (omega arith)
-
-pub bounds-v-2 : goal.bounds-v-2
-unfolding table
-bounds-v-2 c = omega arith
 
 pub returns-then-v-gt2000 : goal.returns-then-v-gt2000
 unfolding table

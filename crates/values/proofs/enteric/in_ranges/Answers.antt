@@ -1,26 +1,9 @@
 -- `values::enteric::in_ranges` meets its contract. Assumes nothing.
 use mathlib.Core.Path.{refl}
-use native.Mathlib.Omega.{arith}
 use lib.ListN.{drop}
 use Rattle.codec.specs.Table.{table, fields}
 use Rattle.values.proofs.AllIn.{all_told}
 use Rattle.values.proofs.enteric.in_ranges.Goals as goal
-
-pub bounds-v-0 : goal.bounds-v-0
-unfolding table
-bounds-v-0 c = omega arith
-
-pub bounds-v-0-2 : goal.bounds-v-0-2
-unfolding table
-bounds-v-0-2 c = omega arith
-
-pub bounds-v-1 : goal.bounds-v-1
-unfolding table
-bounds-v-1 c = omega arith
-
-pub bounds-v-2 : goal.bounds-v-2
-unfolding table
-bounds-v-2 c = omega arith
 
 pub returns : goal.returns
 unfolding table

@@ -6,41 +6,21 @@ use Rattle.codec.proofs.Within.{too-low, too-high, none-bad}
 use native.Mathlib.Omega.{arith}
 use Rattle.values.proofs.farm.first_bad.Goals as goal
 
-pub bounds-v-0 : goal.bounds-v-0
-unfolding table
-bounds-v-0 c = omega arith
-
 pub returns-then-v-gt4294967295 : goal.returns-then-v-gt4294967295
 unfolding table
 returns-then-v-gt4294967295 c = too-high 0 (fields 1) _ 0 (omega arith) (lit< tt) (omega arith)
-
-pub bounds-v-1 : goal.bounds-v-1
-unfolding table
-bounds-v-1 c = omega arith
 
 pub returns-then-v-lt1900 : goal.returns-then-v-lt1900
 unfolding table
 returns-then-v-lt1900 c = too-low 1 (fields 1) _ 0 (omega arith) (lit< tt) (omega arith)
 
-pub bounds-v-1-2 : goal.bounds-v-1-2
-unfolding table
-bounds-v-1-2 c = omega arith
-
 pub returns-then-v-gt2200 : goal.returns-then-v-gt2200
 unfolding table
 returns-then-v-gt2200 c = too-high 1 (fields 1) _ 0 (omega arith) (lit< tt) (omega arith)
 
-pub bounds-v-2 : goal.bounds-v-2
-unfolding table
-bounds-v-2 c = omega arith
-
 pub returns-then-v-lt1 : goal.returns-then-v-lt1
 unfolding table
 returns-then-v-lt1 c = too-low 2 (fields 1) _ 0 (omega arith) (lit< tt) (omega arith)
-
-pub bounds-v-2-2 : goal.bounds-v-2-2
-unfolding table
-bounds-v-2-2 c = omega arith
 
 pub returns-then-v-gt2 : goal.returns-then-v-gt2
 unfolding table

@@ -6,49 +6,25 @@ use Rattle.codec.proofs.Within.{too-low, too-high, none-bad}
 use native.Mathlib.Omega.{arith}
 use Rattle.values.proofs.grazing.first_bad.Goals as goal
 
-pub bounds-v-0 : goal.bounds-v-0
-unfolding table
-bounds-v-0 c = omega arith
-
 pub returns-then-v-lt1 : goal.returns-then-v-lt1
 unfolding table
 returns-then-v-lt1 c = too-low 0 (fields 10) _ 0 (omega arith) (lit< tt) (omega arith)
-
-pub bounds-v-0-2 : goal.bounds-v-0-2
-unfolding table
-bounds-v-0-2 c = omega arith
 
 pub returns-then-v-gt7 : goal.returns-then-v-gt7
 unfolding table
 returns-then-v-gt7 c = too-high 0 (fields 10) _ 0 (omega arith) (lit< tt) (omega arith)
 
-pub bounds-v-1 : goal.bounds-v-1
-unfolding table
-bounds-v-1 c = omega arith
-
 pub returns-then-v-lt1-2 : goal.returns-then-v-lt1-2
 unfolding table
 returns-then-v-lt1-2 c = too-low 1 (fields 10) _ 0 (omega arith) (lit< tt) (omega arith)
-
-pub bounds-v-1-2 : goal.bounds-v-1-2
-unfolding table
-bounds-v-1-2 c = omega arith
 
 pub returns-then-v-gt3 : goal.returns-then-v-gt3
 unfolding table
 returns-then-v-gt3 c = too-high 1 (fields 10) _ 0 (omega arith) (lit< tt) (omega arith)
 
-pub bounds-v-2 : goal.bounds-v-2
-unfolding table
-bounds-v-2 c = omega arith
-
 pub returns-then-v-gt2000 : goal.returns-then-v-gt2000
 unfolding table
 returns-then-v-gt2000 c = too-high 2 (fields 10) _ 0 (omega arith) (lit< tt) (omega arith)
-
-pub bounds-v-3 : goal.bounds-v-3
-unfolding table
-bounds-v-3 c = omega arith
 
 pub returns-then-v-gt10000 : goal.returns-then-v-gt10000
 unfolding table

@@ -6,41 +6,21 @@ use Rattle.codec.proofs.Within.{too-low, too-high, none-bad}
 use native.Mathlib.Omega.{arith}
 use Rattle.values.proofs.heading.first_bad.Goals as goal
 
-pub bounds-v-0 : goal.bounds-v-0
-unfolding table
-bounds-v-0 c = omega arith
-
 pub returns-then-v-lt1 : goal.returns-then-v-lt1
 unfolding table
 returns-then-v-lt1 c = too-low 0 (fields 2) _ 0 (omega arith) (lit< tt) (omega arith)
-
-pub bounds-v-0-2 : goal.bounds-v-0-2
-unfolding table
-bounds-v-0-2 c = omega arith
 
 pub returns-then-v-gt65535 : goal.returns-then-v-gt65535
 unfolding table
 returns-then-v-gt65535 c = too-high 0 (fields 2) _ 0 (omega arith) (lit< tt) (omega arith)
 
-pub bounds-v-1 : goal.bounds-v-1
-unfolding table
-bounds-v-1 c = omega arith
-
 pub returns-then-v-lt1-2 : goal.returns-then-v-lt1-2
 unfolding table
 returns-then-v-lt1-2 c = too-low 1 (fields 2) _ 0 (omega arith) (lit< tt) (omega arith)
 
-pub bounds-v-1-2 : goal.bounds-v-1-2
-unfolding table
-bounds-v-1-2 c = omega arith
-
 pub returns-then-v-gt4 : goal.returns-then-v-gt4
 unfolding table
 returns-then-v-gt4 c = too-high 1 (fields 2) _ 0 (omega arith) (lit< tt) (omega arith)
-
-pub bounds-v-2 : goal.bounds-v-2
-unfolding table
-bounds-v-2 c = omega arith
 
 pub returns-then-v-gt20000 : goal.returns-then-v-gt20000
 unfolding table

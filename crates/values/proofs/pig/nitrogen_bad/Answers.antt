@@ -7,57 +7,29 @@ use Rattle.codec.specs.Table.{table, fields}
 use Rattle.codec.proofs.Within.{too-high, none-bad}
 use Rattle.values.proofs.pig.nitrogen_bad.Goals as goal
 
-pub bounds-v-5 : goal.bounds-v-5
-unfolding table
-bounds-v-5 c = omega arith
-
 pub returns-then-v-gt4000 : goal.returns-then-v-gt4000
 unfolding table
 returns-then-v-gt4000 c = too-high 0 (drop 5 (fields 5)) _ 5 (omega arith) (lit< tt) (omega arith)
-
-pub bounds-v-6 : goal.bounds-v-6
-unfolding table
-bounds-v-6 c = omega arith
 
 pub returns-then-v-gt2000 : goal.returns-then-v-gt2000
 unfolding table
 returns-then-v-gt2000 c = too-high 1 (drop 5 (fields 5)) _ 5 (omega arith) (lit< tt) (omega arith)
 
-pub bounds-v-7 : goal.bounds-v-7
-unfolding table
-bounds-v-7 c = omega arith
-
 pub returns-then-v-gt10000 : goal.returns-then-v-gt10000
 unfolding table
 returns-then-v-gt10000 c = too-high 2 (drop 5 (fields 5)) _ 5 (omega arith) (lit< tt) (omega arith)
-
-pub bounds-v-8 : goal.bounds-v-8
-unfolding table
-bounds-v-8 c = omega arith
 
 pub returns-then-v-gt1000 : goal.returns-then-v-gt1000
 unfolding table
 returns-then-v-gt1000 c = too-high 3 (drop 5 (fields 5)) _ 5 (omega arith) (lit< tt) (omega arith)
 
-pub bounds-v-9 : goal.bounds-v-9
-unfolding table
-bounds-v-9 c = omega arith
-
 pub returns-then-v-gt10000-2 : goal.returns-then-v-gt10000-2
 unfolding table
 returns-then-v-gt10000-2 c = too-high 4 (drop 5 (fields 5)) _ 5 (omega arith) (lit< tt) (omega arith)
 
-pub bounds-v-10 : goal.bounds-v-10
-unfolding table
-bounds-v-10 c = omega arith
-
 pub returns-then-v-gt1000-2 : goal.returns-then-v-gt1000-2
 unfolding table
 returns-then-v-gt1000-2 c = too-high 5 (drop 5 (fields 5)) _ 5 (omega arith) (lit< tt) (omega arith)
-
-pub bounds-v-11 : goal.bounds-v-11
-unfolding table
-bounds-v-11 c = omega arith
 
 pub returns-then-v-gt10000-3 : goal.returns-then-v-gt10000-3
 unfolding table

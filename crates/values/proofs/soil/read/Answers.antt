@@ -5,10 +5,6 @@ use Rattle.codec.proofs.Values.{values-read}
 use native.Mathlib.Omega.{arith}
 use Rattle.values.proofs.soil.read.Goals as goal
 
-pub be32-area-requires : goal.be32-area-requires
-unfolding table
-be32-area-requires c = omega arith
-
 pub returns : goal.returns
 unfolding table
 returns c = values-read _ _ _ _ _ _ (omega arith) tt
