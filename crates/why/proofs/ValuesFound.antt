@@ -4,14 +4,14 @@ use Prim.Native.Nat.{ℕ, ◌+◌, ◌-◌, ◌≤◌, ◌<◌}
 use mathlib.Core.Path.{◌≡◌, refl, sym, ap, ◌∙◌}
 use mathlib.Core.List.{List}
 use mathlib.Core.Bool.{true, false, ◌||◌}
-use mathlib.Core.Logic.{◌⊎◌, inl, inr, ⊎_elim}
+use mathlib.Core.Logic.{inl, inr, ⊎_elim}
 use native.Mathlib.Omega.{arith}
 use borrow.Author.Tests.{eq-eqb, ne_eqb, lt-ltb, le-ltb, ltb-false}
 use lib.Dec.{ltb}
 use lib.ListN.{length, get_or, take, get_or-eq_default}
 use lib.Seq.{length-take-le}
 use Rattle.base.proofs.Tests.{lt-or-ge, or_r}
-use Rattle.codec.specs.Table.{field, table, fields, size, length_of, last_kind, last_row}
+use Rattle.codec.specs.Table.{table, fields, size, length_of, last_kind, last_row}
 use Rattle.codec.specs.Codec.{val_at, values_at, in_twelve}
 use Rattle.codec.proofs.BigEndian.{one_byte}
 use Rattle.codec.proofs.Within.{ranges}

@@ -1,0 +1,13 @@
+use Rattle.printing.proofs.Sayings.{◌⟫◌, said-none}
+use Rattle.why.proofs.remarks.say_group.Goals as goal
+
+pub returns-then-is_of_group-group : goal.returns-then-is_of_group-group
+returns-then-is_of_group-group c = rw (
+  ← c.is_of_group.ensures,
+  c.if-is_of_group-group.true,
+) (
+    c.say-a.ensures
+    ⟫ c.say_number.ensures)
+
+pub returns : goal.returns
+returns c = rw (← c.is_of_group.ensures, c.if-is_of_group-group.false) (said-none c.requires)
