@@ -1,7 +1,6 @@
 -- One answer of each public function (base, specs/Answers). All but put_slip, which asks for room, ask nothing of their callers. Assumes nothing.
 use Rattle.std.proofs.Common.{sym, ◌∙◌}
 use Rattle.base.specs.Answers.{AsksNothing, OneAnswer, OneAnswerWith}
-use Rattle.whatif.specs.declared.Asked.{Asked}
 use Rattle.printing.proofs.Examples.{one-put}
 use Rattle.whatif.proofs.put_slip.Kinds as slip
 use Rattle.whatif.proofs.put_slip.Reads as slip-contract

@@ -1,10 +1,9 @@
 -- Laws of `shown` and `difference`: the ways to them.
-use Rattle.std.proofs.Common.{◌≡◌, ℕ, ◌+◌, ◌-◌, ◌*◌, ◌^◌, ◌<◌, ◌≤◌, true, false, not, ◌&&◌, T, List, [], ◌∷◌, ◌++◌, pos, arith, ltb→lt, lt→ltb, le-ltb, lt-ltb, eq-eqb, ne_eqb}
+use Rattle.std.proofs.Common.{◌≡◌, ℕ, ◌+◌, ◌-◌, ◌*◌, ◌^◌, ◌<◌, ◌≤◌, true, false, ◌&&◌, T, List, [], ◌∷◌, ◌++◌, pos, arith, ltb→lt, lt→ltb, le-ltb, lt-ltb, eq-eqb, ne_eqb}
 use lib.Ieee.{Float, nan, inf, fin, binary64, round, up, down, lt, to_unsigned}
 use lib.Ieee.Fits.{and_l, and_r, down_pos}
 use Rattle.printing.specs.Decimal.{thousandths, Put}
 use Rattle.printing.specs.Ascii.{ascii}
-use borrow.Author.Tests.{not-true, not-false}
 use Rattle.slip.specs.declared.Slip.{Slip}
 use Rattle.whatif.specs.declared.Grams.{Grams}
 use Rattle.whatif.specs.Shown.{scaled, showable, grams_of, shown, spaced_shown, difference, compared}
@@ -45,15 +44,15 @@ module _ (x : Float) where
 
 -- a and b are two numbers in thousandths
 module _ (x y : Float) {a b : Grams} (is_a : a ≡ grams_of x) (is_b : b ≡ grams_of y) {xs zs : List ℕ} {at r : ℕ} where
-  pub put-none : not (a.good && b.good) ≡ true → Put xs zs at (45 ∷ []) r → Put xs zs at (difference x y) r
-  put-none e p = rw (← is_a, ← is_b, not-true (a.good && b.good) e) p
+  pub put-none : a.good && b.good ≡ false → Put xs zs at (45 ∷ []) r → Put xs zs at (difference x y) r
+  put-none e p = rw (← is_a, ← is_b, e) p
 
-  module _ (both : not (a.good && b.good) ≡ false) where
+  module _ (both : a.good && b.good ≡ true) where
     pub put-less : a.value < b.value → Put xs zs at (45 ∷ thousandths (b.value - a.value)) r → Put xs zs at (difference x y) r
-    put-less h p = rw (← is_a, ← is_b, not-false (a.good && b.good) both, lt-ltb a.value b.value h) p
+    put-less h p = rw (← is_a, ← is_b, both, lt-ltb a.value b.value h) p
 
     pub put-more : b.value ≤ a.value → Put xs zs at (thousandths (a.value - b.value)) r → Put xs zs at (difference x y) r
-    put-more h p = rw (← is_a, ← is_b, not-false (a.good && b.good) both, le-ltb a.value b.value h) p
+    put-more h p = rw (← is_a, ← is_b, both, le-ltb a.value b.value h) p
 
 -- a slip's code says whether there is a difference
 module _ (s : Slip) (before : Float) {xs zs : List ℕ} {at r : ℕ} where

@@ -1,0 +1,8 @@
+-- A piece of the table. Assumes nothing.
+use Rattle.whatif.specs.Told.{ranges}
+use Rattle.printing.proofs.Sayings.{◌⟫◌}
+use Rattle.whatif.proofs.telling.say_expected.Goals as goal
+
+pub returns : goal.returns
+unfolding ranges
+returns c = c.say-end.ensures ⟫ (rw c.part.ensures at c.say.ensures)
