@@ -98,12 +98,12 @@ stale() {
     [ -n "$(cd "$root/crates" && find $(needed) -name '*.rt' -newer "$program")" ]
 }
 
-# places OF: of what rt prints, a line for each crate that it proves, with its place among so many.
+# places OF: of what prove.sh prints, a line for each crate that it proves, with its place among so many.
 places() {
     place=0
     while IFS= read -r line; do
-        case $line in 'rt: '*' proved ('*')') ;; *) continue ;; esac
-        place=$((place + 1)) crate=${line#rt: } took=${line##*(}
+        case $line in 'prove: '*' proved ('*')') ;; *) continue ;; esac
+        place=$((place + 1)) crate=${line#prove: } took=${line##*(}
         case $took in *' s)') say "$place of $1: ${crate%% *} proved, ${took%)}" ;; esac # the others were proved before
     done
 }
@@ -112,15 +112,14 @@ places() {
 build() {
     command -v rt >/dev/null || stop 1 "the program is to be built, and the Rattle kit's command rt is not there: see README.md"
     log=$root/target/log/bin-$name.txt
-    { mkdir -p "${log%/*}" && true >>"$root/target/lock" && true >>"$log"; } 2>/dev/null ||
+    { mkdir -p "${log%/*}" "${program%/*}" && true >>"$root/target/lock" && true >>"$log"; } 2>/dev/null ||
         stop 1 "the program is to be built, and $root/target can't be written"
     exec 9>>"$root/target/lock"
     ! command -v flock >/dev/null || flock 9 # in a pipe two programs may want to be built
     if stale; then
         say "building, which takes some minutes the first time; each crate is reported when it is proved"
-        [ -x "$program" ] || rm -f "$root/target/stamp/${name}_main" # rt does not make again what it made and somebody removed
         touch "$root/target/lock"
-        # rt runs the program on its stored input, and the descriptors of this script are none of that run's: a status or a second book
+        # rt runs the program on no input, and the descriptors of this script are none of that run's: a status or a second book
         failed=$({ { "$here/prove.sh" "${name}_main" </dev/null 2>&1 3>&- 5<&- 9>&- || echo failed >&3; } |
             tee "$log" | places "$(needed | wc -l)"; } 3>&1 >&2)
         [ -z "$failed" ] || { tail -n 20 "$log" >&2; stop 1 "the build failed: $log has all of it"; }

@@ -1,9 +1,8 @@
-# Sourced by bench/run, second/compare, .ci/edits and ports/: the kit's folders, and C for x86-64 by its own clang and linker, run by its loader, on
-# Arm by its emulator. host/machine.sh has C of the machine itself.
-kit=$(dirname "$(dirname "$(rt doc)")")/on/$(uname -m)
+# Sourced by bench/run, second/compare and ports/: the kit's folders, and C for x86-64 by its own clang and linker, run by its loader.
+# host/machine.sh has C of the machine itself.
+kit=$(dirname "$(rt doc)")
 tools=$kit/toolchain
-emulator=$tools/bin/qemu-x86_64
-[ -x "$emulator" ] || emulator=
+emulator=
 
 # kit_compile SOURCE OBJECT [FLAGS]
 kit_compile() {
