@@ -1,6 +1,6 @@
 -- The walk to a book's end, record by record, and the total line of the account that it comes to.
 -- Assumes nothing.
-use Rattle.std.proofs.Common.{◌≡◌, ℕ, ◌+◌, ◌<◌, ◌≤◌, List, [], ◌++◌, length, get_or, take, drop, sym, refl, ap, ◌∙◌, ⊎_elim, append-nil, arith, length-drop, drop_of_length-le, drop-drop}
+use Rattle.std.proofs.Common.{◌≡◌, ℕ, ◌+◌, ◌<◌, ◌≤◌, List, [], ◌++◌, length, get_or, drop, sym, refl, ap, ◌∙◌, ⊎_elim, append-nil, arith, length-drop, drop_of_length-le, drop-drop}
 use lib.Seq.{sets, sets-eq}
 use Rattle.base.proofs.Tests.{lt-or-ge}
 use Rattle.codec.specs.Codec.{be, bytes_of, values_at}
@@ -14,14 +14,14 @@ use Rattle.account.specs.Account.{no_record}
 use Rattle.account.specs.Line.{total_with}
 use Rattle.account.proofs.Told.{total-long}
 use Rattle.account.proofs.Keeps.{in-range-none}
-use Rattle.book.specs.Front.{Front, unfinished, bad_length, whole, need, front}
+use Rattle.book.specs.Front.{Front, unfinished, bad_length, whole, front}
 use Rattle.book.specs.Run.{Run, book, run}
 use Rattle.book.proofs.Fronts.{front-none}
 use Rattle.book.proofs.Runs.{book-ended, book-unfinished, book-bad, book-whole}
 use Rattle.walk.specs.declared.Next.{Next}
 use Rattle.walk.specs.Walk.{at_front, next_of}
 use Rattle.walk.proofs.NextRecords.{next-ended, next-open}
-use Rattle.walk.proofs.Walks.{Stands, stands}
+use Rattle.walk.proofs.Walks.{stands}
 use Rattle.table.specs.Seen.{end_of}
 
 -- at bytes of the book xs are gone through, and a is the account after them: the rest comes to the same end

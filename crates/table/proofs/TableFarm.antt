@@ -1,15 +1,15 @@
 -- Theorem: farm number and year stand in a row exactly where a record was accepted, and then they are those of the first, which is a farm record.
 -- Assumes nothing.
-use Rattle.std.proofs.Common.{◌≡◌, ℕ, zero, suc, ◌+◌, ◌<◌, ◌≤◌, Bool, true, false, not, ◌&&◌, eqb, ◌⊎◌, List, [], ◌∷◌, length, get_or, take, drop, sym, refl, ap, ◌∙◌, inl, inr, ⊎_elim, arith, length-take-le, le-ltb, ne_eqb, eqb-true}
+use Rattle.std.proofs.Common.{◌≡◌, ℕ, zero, suc, ◌+◌, ◌<◌, ◌≤◌, true, eqb, ◌⊎◌, List, [], ◌∷◌, length, get_or, take, drop, sym, refl, ap, ◌∙◌, inl, inr, ⊎_elim, arith, length-take-le, le-ltb, ne_eqb, eqb-true}
 use borrow.Author.Tests.{eqb-false}
-use Rattle.base.proofs.Tests.{of-choice, by-test, no_bool, not-false, or_cases, and-false, lt-or-ge}
+use Rattle.base.proofs.Tests.{of-choice, by-test, no_bool, not-false, or_cases, and-false}
 use Rattle.codec.specs.Table.{table, fields, size, length_of, last_row}
 use Rattle.codec.specs.Codec.{val_at, values_at}
 use Rattle.codec.proofs.BigEndian.{val_at-same}
 use Rattle.account.specs.declared.Account.{Account}
 use Rattle.account.specs.Account.{no_record}
 use Rattle.account.specs.Sorts.{is_farm, sort_of}
-use Rattle.account.specs.Judge.{record_row, values_of, heading_serves, in_place_lem, WholeRecord, refusals, first, Step, accepted, judge}
+use Rattle.account.specs.Judge.{record_row, heading_serves, in_place_lem, refusals, first, Step, accepted, judge}
 use Rattle.account.proofs.Refusals.{judged-passes}
 use Rattle.account.proofs.Sorts.{by-sort}
 use Rattle.book.specs.Front.{Front, unfinished, bad_length, whole, need, front}
@@ -17,7 +17,7 @@ use Rattle.book.specs.Run.{book, run}
 use Rattle.book.proofs.Runs.{book-ended, book-unfinished, book-bad, book-whole}
 use Rattle.book.proofs.RecordRuns.{record-in, record-whole}
 use Rattle.walk.specs.Walk.{record_at}
-use Rattle.table.specs.Seen.{end_of, farm_values, seen_of, FarmShown}
+use Rattle.table.specs.Seen.{farm_values, seen_of, FarmShown}
 
 -- a record that is refused is not counted
 kept : (a : Account) (r : List ℕ) → a.stage < 2 → (judge a r).account.stage ≡ 3 → (judge a r).account.records ≡ a.records

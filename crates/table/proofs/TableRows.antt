@@ -1,20 +1,18 @@
 -- Theorem: the figures in the row of a closed book are those of the last line of its run, its total, as a sheet has them; and each is a word.
 -- Assumes nothing.
-use Rattle.std.proofs.Common.{◌≡◌, ℕ, zero, suc, ◌+◌, ◌^◌, ◌<◌, ◌≤◌, Bool, true, ◌&&◌, eqb, leb, List, [], ◌∷◌, ◌++◌, length, get_or, drop, replicate, sym, refl, ap, ◌∙◌, arith, get_or-drop, eq-eqb, leb-true}
-use Rattle.base.specs.Choice.{pick}
+use Rattle.std.proofs.Common.{◌≡◌, ℕ, zero, suc, ◌+◌, ◌^◌, ◌<◌, ◌≤◌, Bool, true, ◌&&◌, leb, List, [], ◌∷◌, ◌++◌, get_or, drop, replicate, sym, refl, ap, ◌∙◌, arith, get_or-drop, eq-eqb, leb-true}
 use Rattle.base.proofs.Tests.{and_l, and_r}
 use Rattle.codec.specs.declared.Field.{Field}
 use Rattle.codec.specs.Codec.{bytes_hold, val_at, be, values_at, bytes_of, Bytes}
 use Rattle.codec.proofs.BigEndian.{val_at-lt}
 use Rattle.codec.proofs.Values.{bytes-bytes}
-use Rattle.line_bytes.specs.Lines.{figure_count, total_fields, total_bytes, is_total, total_values}
+use Rattle.line_bytes.specs.Lines.{total_fields, total_bytes, is_total, total_values}
 use Rattle.line_rows.specs.declared.Form.TheVariants.{Sheet}
-use Rattle.line_rows.specs.Rows.{line_numbers, column_text, columns_text, ending, row_text, line_row}
+use Rattle.line_rows.specs.Rows.{line_numbers, column_text, columns_text, row_text, line_row}
 use Rattle.printing.specs.Ascii.{ascii}
 use Rattle.printing.specs.Decimal.{digits_by, decimal}
 use Rattle.grams.specs.Units.{co2_word}
 use Rattle.grams.specs.declared.units.Co2.{Co2}
-use Rattle.account.specs.declared.Account.{Account}
 use Rattle.account.specs.declared.Figures.{Figures}
 use Rattle.account.specs.Figures.{listed}
 use Rattle.account.specs.Line.{co2e_in, total_with, total_of}
@@ -23,7 +21,7 @@ use Rattle.book.specs.Run.{run}
 use Rattle.promises.specs.Totals.{last_of}
 use Rattle.promises.proofs.StaysInRange.{new-in-range}
 use Rattle.promises.proofs.Totals.{ends-with-total}
-use Rattle.table.specs.Seen.{end_of, seen_of, is_closed}
+use Rattle.table.specs.Seen.{end_of, seen_of}
 use Rattle.table.specs.Rows.{cells_text, figures_text}
 use Rattle.table.proofs.Ends.{total-kind}
 

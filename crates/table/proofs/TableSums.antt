@@ -1,18 +1,16 @@
 -- Theorem: the last row, which the program makes of running sums in words of 64 bits, has the whole-number sums over the closed books, each empty
 -- where it does not fit eight bytes; so what is printed is the table.
 -- Assumes nothing.
-use Rattle.std.proofs.Common.{◌≡◌, ℕ, zero, suc, ◌+◌, ◌^◌, ◌<◌, ◌≤◌, Bool, true, false, List, [], ◌∷◌, ◌++◌, length, get_or, drop, replicate, sym, refl, ap, ◌∙◌, zero-add, add-one, arith, lt-ltb}
-use lib.ListN.{length-replicate}
-use Rattle.base.specs.Choice.{pick, one_more_lem}
+use Rattle.std.proofs.Common.{◌≡◌, ℕ, zero, suc, ◌+◌, ◌^◌, ◌<◌, ◌≤◌, true, false, List, [], ◌∷◌, ◌++◌, length, get_or, drop, replicate, sym, refl, ap, ◌∙◌, zero-add, add-one, arith, lt-ltb}
+use Rattle.base.specs.Choice.{one_more_lem}
 use Rattle.base.proofs.Tests.{by-test}
 use Rattle.line_bytes.specs.Lines.{figure_count}
 use Rattle.line_rows.specs.Rows.{is_signed}
 use Rattle.printing.specs.Ascii.{ascii}
-use Rattle.printing.specs.Decimal.{decimal}
 use Rattle.table.specs.declared.Seen.{Seen}
 use Rattle.table.specs.declared.sums.Sum.{Sum}
 use Rattle.table.specs.declared.sums.Totals.{Totals}
-use Rattle.table.specs.Seen.{seen_of, is_closed}
+use Rattle.table.specs.Seen.{is_closed}
 use Rattle.table.specs.Sums.{no_sum, sum_with, sums_with, no_totals, totals_with, fits}
 use Rattle.table.specs.Rows.{header_text, cell_text, sums_text, last_text}
 use Rattle.table.specs.Whole.{File, book, unreadable, seen_in, rows_of, closed_of, words_of, whole_sum, signed_sum, sum_text, whole_sums, all_text}

@@ -1,6 +1,6 @@
 -- The running sums over the closed books, a column each, in words of 64 bits. What they stand for in whole numbers is said in specs/Whole.
 -- Assumes nothing.
-use Rattle.std.specs.Prelude.{ℕ, suc, ◌+◌, ◌-◌, ◌%◌, ◌^◌, Bool, true, false, ◌&&◌, List, [], ◌∷◌, replicate, ◌==◌, nat_le, nat_lt, slice_index}
+use Rattle.std.specs.Prelude.{ℕ, suc, ◌+◌, ◌-◌, ◌%◌, ◌^◌, Bool, false, ◌&&◌, List, [], ◌∷◌, replicate, ◌==◌, nat_le, nat_lt, slice_index}
 use Rattle.base.specs.Choice.{pick, one_more_lem}
 use Rattle.line_bytes.specs.Lines.{figure_count}
 use Rattle.line_rows.specs.Rows.{is_signed}
