@@ -27,7 +27,7 @@ Near d r c s t =
     let q = c * (s.minus + t.plus) in
     (r * d + q ≤ p + 2 * d) × (p ≤ r * d + q + 2 * d)
 
--- the mg are within 2 of |lumCmax| × 1000 × (e^(−k(y−1)) − e^(−ky)), on lum_cmax's side of zero
+-- the mg are within 2 of |lumCmax| × 1000 × (e^(−k(y−1)) − e^(−ky)), on lumCmax's side of zero
 pub record WithinTwo (lum : ℤ) (k y : ℕ) : Type 0 where
   -- at both ends of its enclosure
   pub low : Near (over 21) (nat_abs (mg_of lum k y)) (nat_abs lum * 1000) (lower (k * (y - 1))) (upper (k * y))
