@@ -9,4 +9,4 @@ bench-parts-asks-nothing κs args = tt
 
 -- The number, and the line buffer at the end (the second parameter, lines).
 pub one-bench-parts : OneAnswerWith bench.ps bench.r bench-contract.Learnt (λ κs e. e.1.0.now)
-one-bench-parts κs args f g e e' p q = (p.number ∙ sym q.number, p.lines ∙ sym q.lines)
+one-bench-parts κs args f g e e' p q = (p.0 ∙ sym q.0, p.1 ∙ sym q.1)

@@ -14,14 +14,14 @@ herd-desk-asks-nothing κs args = tt
 
 -- Two calls of herd_desk over the same bytes: the number, and the line buffer at the end (the second parameter, lines).
 pub one-herd-desk : OneAnswerWith desk.ps desk.r desk-contract.Learnt (λ κs e. e.1.0.now)
-one-herd-desk κs args f g e e' p q = (p.number ∙ sym q.number, p.lines ∙ sym q.lines)
+one-herd-desk κs args f g e e' p q = (p.0 ∙ sym q.0, p.1 ∙ sym q.1)
 
 pub herd-start-asks-nothing : AsksNothing start.ps start-contract.Asked
 herd-start-asks-nothing κs args = tt
 
 -- The number, and the image.
 pub one-herd-start : OneAnswerWith start.ps start.r start-contract.Learnt (λ κs e. e.0.now)
-one-herd-start κs args f g e e' p q = (p.number ∙ sym q.number, p.image ∙ sym q.image)
+one-herd-start κs args f g e e' p q = (p.0 ∙ sym q.0, p.1 ∙ sym q.1)
 
 pub herd-call-asks-nothing : AsksNothing call.ps call-contract.Asked
 herd-call-asks-nothing κs args = tt
@@ -31,4 +31,4 @@ pub one-herd-call : TwoAnswers call.ps call.r call-contract.Learnt
     (λ κs args f g e e'. (f ≡ g) × ((e.1.1.1.0.now ≡ e'.1.1.1.0.now) × ((e.0.now ≡ e'.0.now)
     × (e.1.1.0.now ≡ e'.1.1.0.now))))
 one-herd-call κs args f g e e' p q =
-    (p.number ∙ sym q.number, (p.taken ∙ sym q.taken, (p.image ∙ sym q.image, p.lines ∙ sym q.lines)))
+    (p.0 ∙ sym q.0, (p.1.0 ∙ sym q.1.0, (p.1.1.0 ∙ sym q.1.1.0, p.1.1.1 ∙ sym q.1.1.1)))
