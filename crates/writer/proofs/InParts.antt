@@ -96,7 +96,8 @@ typed-in-parts line h s parts =
 pub bytes-typed : (t : Typist) (ls : List Numbered) → (output t ls).bytes ≡ bytes_typed (typed_by t ls).turns
 unfolding output typed_by bytes_typed
 bytes-typed t [] = refl
-bytes-typed t (l ∷ ls) = ap (λ (r : List ℕ). (line_by t l.number (unmarked l.number l.bytes) 28).bytes ++ r) (bytes-typed _ ls)
+bytes-typed t (l ∷ ls) = ap (λ (r : List ℕ). (line_by t l.number (unmarked l.number l.bytes) 28).bytes ++ r)
+    (bytes-typed (line_by t l.number (unmarked l.number l.bytes) 28).typist ls)
 
 -- and so with the end of the text
 pub whole-in-parts : (line : List ℕ) → most ≤ length line → (s : State) (parts : List (List ℕ))
@@ -111,4 +112,4 @@ whole-in-parts line h s parts =
 pub typist-typed : (t : Typist) (ls : List Numbered) → (output t ls).typist ≡ (typed_by t ls).typist
 unfolding output typed_by
 typist-typed t [] = refl
-typist-typed t (l ∷ ls) = typist-typed _ ls
+typist-typed t (l ∷ ls) = typist-typed (line_by t l.number (unmarked l.number l.bytes) 28).typist ls

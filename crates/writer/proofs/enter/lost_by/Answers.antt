@@ -1,0 +1,10 @@
+-- By the test. Assumes nothing.
+use mathlib.Core.Path.{refl, sym, ap, ◌∙◌}
+use borrow.Author.Rules.{rules}
+use Rattle.writer.proofs.enter.lost_by.Goals as goal
+
+pub returns-then-may : goal.returns-then-may
+returns-then-may c = rw c.if-may.true refl
+
+pub returns : goal.returns
+returns c = rw c.if-may.false refl

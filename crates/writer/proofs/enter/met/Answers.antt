@@ -1,0 +1,7 @@
+use mathlib.Core.Path.{refl, sym, ap, ◌∙◌}
+use Rattle.writer.specs.Typist.{early}
+use borrow.Author.Rules.{rules}
+use Rattle.writer.proofs.enter.met.Goals as goal
+
+pub returns : goal.returns
+returns c = c.early.ensures ∙ ap early c.hears.ensures

@@ -1,0 +1,13 @@
+-- Field by field. Assumes nothing.
+use mathlib.Core.Path.{refl, sym, ap, ◌∙◌}
+use borrow.Author.Rules.{rules}
+use Rattle.writer.proofs.enter.not_read.Goals as goal
+
+pub returns : goal.returns
+returns c = rw (
+      c.first_failed.ensures,
+      c.one_unread-counted.ensures,
+      c.lost_by-lost.ensures,
+      c.chosen.ensures,
+      c.may_head.ensures,
+    ) refl

@@ -1,0 +1,7 @@
+-- Field by field. Assumes nothing.
+use mathlib.Core.Path.{refl, sym, ap, ◌∙◌}
+use borrow.Author.Rules.{rules}
+use Rattle.writer.proofs.enter.one_refused.Goals as goal
+
+pub returns : goal.returns
+returns c = rw (c.one_more-2.ensures, c.one_more.ensures) refl

@@ -1,0 +1,13 @@
+-- Field by field. Assumes nothing.
+use mathlib.Core.Path.{refl, sym, ap, ◌∙◌}
+use borrow.Author.Rules.{rules}
+use Rattle.writer.proofs.enter.written_as.Goals as goal
+
+pub returns : goal.returns
+returns c = rw (
+      c.chosen.ensures,
+      c.days_of_year.ensures,
+      c.one_written-counted.ensures,
+      c.unusual_after.ensures,
+      c.lost_by-lost.ensures,
+    ) refl

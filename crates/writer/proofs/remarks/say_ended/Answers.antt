@@ -1,0 +1,13 @@
+-- A heading or the close. Assumes nothing.
+use Rattle.printing.proofs.Sayings.{said-none}
+use Rattle.writer.specs.Remarks.{ended_text}
+use borrow.Author.Rules.{rules}
+use Rattle.writer.proofs.remarks.say_ended.Goals as goal
+
+pub returns-then-kind : goal.returns-then-kind
+unfolding ended_text
+returns-then-kind c = rw c.if-kind.true c.say_group.ensures
+
+pub returns : goal.returns
+unfolding ended_text
+returns c = rw c.if-kind.false (said-none c.requires)

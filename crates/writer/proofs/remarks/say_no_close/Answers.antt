@@ -1,0 +1,10 @@
+-- By the test. Assumes nothing.
+use Rattle.printing.proofs.Sayings.{said-none}
+use borrow.Author.Rules.{rules}
+use Rattle.writer.proofs.remarks.say_no_close.Goals as goal
+
+pub returns-then-h : goal.returns-then-h
+returns-then-h c = rw c.if-h.true c.say.ensures
+
+pub returns : goal.returns
+returns c = rw c.if-h.false (said-none c.requires)

@@ -1,0 +1,11 @@
+-- The first twenty. Assumes nothing.
+use Rattle.printing.proofs.Sayings.{said-none}
+use borrow.Author.Rules.{rules}
+use Rattle.writer.proofs.unusual.say_one.Goals as goal
+
+pub returns-then-is_unusual-count : goal.returns-then-is_unusual-count
+returns-then-is_unusual-count c = rw (rw c.is_unusual.ensures at c.if-is_unusual-count.true)
+    c.say_value_remark.ensures
+
+pub returns : goal.returns
+returns c = rw (rw c.is_unusual.ensures at c.if-is_unusual-count.false) (said-none c.requires.0)

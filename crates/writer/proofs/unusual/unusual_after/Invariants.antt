@@ -1,0 +1,15 @@
+-- The invariant: counting the fields that are left makes the whole count. Assumes nothing.
+use Prim.Native.Nat.{◌-◌, ◌≤◌}
+use mathlib.Core.Path.{◌≡◌, refl, sym, ap, ◌∙◌}
+use native.Mathlib.Omega.{arith}
+use Rattle.codec.proofs.Rows.{fields-few}
+use Rattle.writer.specs.Unusual.{unusual_from}
+use Rattle.writer.proofs.Unusuals.{one_field, no_field}
+use borrow.Author.Rules.{rules}
+use Rattle.writer.proofs.unusual.unusual_after.Given as goal
+
+abbrev pub invariant-loop-i : goal.invariant-loop-i
+invariant-loop-i l = (l.i ≤ l.n) × (unusual_from (l.n - l.i) l.i l.who l.e l.count ≡ unusual_from l.n 0 l.who l.e l.before)
+
+abbrev pub decreases-loop-i : goal.decreases-loop-i
+decreases-loop-i l = l.n - l.i
