@@ -1,6 +1,7 @@
 -- Laws of what is gathered over a book: the account, and what the records of a kind add to its sums.
 -- Assumes nothing.
-use Rattle.std.proofs.Common.{◌≡◌, ℕ, ◌+◌, ◌<◌, ◌≤◌, true, false, ◌||◌, eqb, List, [], length, get_or, take, drop, sym, refl, ap, ◌∙◌, subst, arith, length-drop, drop_of_length-le, get_or-take, drop-drop}
+use Rattle.std.proofs.Common.{◌≡◌, ℕ, ◌+◌, ◌≤◌, true, false, ◌||◌, eqb, List, [], length, take, drop, sym, refl, ap, ◌∙◌, subst, arith, length-drop}
+use Rattle.std.proofs.Common.{drop_of_length-le, get_or-take, drop-drop}
 use borrow.Author.Tests.{eqb-false}
 use Rattle.base.specs.Choice.{pick}
 use Rattle.base.proofs.Tests.{of-choice, or_l}

@@ -1,6 +1,6 @@
 -- Laws of the farm's number and year: known where the book has a record, which is the farm's.
 -- Assumes nothing.
-use Rattle.std.proofs.Common.{◌≡◌, ℕ, ◌+◌, ◌≤◌, Bool, true, false, not, ◌&&◌, ◌||◌, eqb, ltb, leb, List, length, get_or, refl, ap, arith, ltb-false, ltb-true, le-leb}
+use Rattle.std.proofs.Common.{◌≡◌, ℕ, ◌+◌, ◌≤◌, Bool, true, false, ◌||◌, eqb, ltb, List, length, get_or, refl, ltb-false, ltb-true, le-leb}
 use borrow.Author.Tests.{lt-leb}
 use Rattle.base.specs.Choice.{pick}
 use Rattle.base.proofs.Tests.{by-test, or_l, or_r, or_right}
@@ -29,5 +29,6 @@ known-none a xs h = rw (not_known a xs h) (refl, (refl, refl))
 
 pub known_some : (a : Account) (xs : List ℕ) → Unknown a xs ≡ false → {v : List ℕ} → v ≡ farm_values xs
     → (true ≡ farm_known a xs)
-    × ((get_or v 0 0 ≡ pick (farm_known a xs) (get_or (farm_values xs) 0 0) 0) × (get_or v 1 0 ≡ pick (farm_known a xs) (get_or (farm_values xs) 1 0) 0))
+    × ((get_or v 0 0 ≡ pick (farm_known a xs) (get_or (farm_values xs) 0 0) 0)
+    × (get_or v 1 0 ≡ pick (farm_known a xs) (get_or (farm_values xs) 1 0) 0))
 known_some a xs h e = rw (is_known a xs h, e) (refl, (refl, refl))

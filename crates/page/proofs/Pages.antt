@@ -1,11 +1,11 @@
 -- Laws of the page: by whether the book is closed, and row by row.
 -- Assumes nothing.
-use Rattle.std.proofs.Common.{◌≡◌, ℕ, ◌+◌, ◌≤◌, Bool, true, false, not, ◌&&◌, ◌||◌, eqb, ltb, leb, List, [], length, drop, sym, refl, ap, ◌∙◌, arith, length-drop, ltb-false, ltb-true, le-leb}
+use Rattle.std.proofs.Common.{◌≡◌, ℕ, ◌+◌, ◌≤◌, Bool, true, false, not, ◌&&◌, ◌||◌, eqb, ltb, leb, List, [], length, drop, sym, refl, ap, ◌∙◌, arith}
+use Rattle.std.proofs.Common.{length-drop, ltb-false, ltb-true, le-leb}
 use borrow.Author.Tests.{eqb-false, lt-leb}
 use Rattle.base.specs.Choice.{pick}
 use Rattle.base.proofs.Tests.{or_l, or_r}
 use Rattle.account.specs.Range.{account_in_range}
-use Rattle.account.specs.declared.Account.{Account}
 use Rattle.walk.specs.declared.Next.{Next}
 use Rattle.walk.specs.Walk.{next_of}
 use Rattle.walk.proofs.Walks.{Stands, stands}

@@ -1,12 +1,12 @@
 -- What is promised of the member's page: the rows in parts are the rows of the book; a row's figures are those of its subtotal line; the page of a
 -- book that is not closed has no figure.
 -- Assumes nothing.
-use Rattle.std.proofs.Common.{◌≡◌, ℕ, zero, suc, ◌+◌, ◌-◌, ◌≤◌, Bool, true, false, not, ◌&&◌, ◌||◌, eqb, leb, List, [], ◌∷◌, ◌++◌, length, take, drop, sym, refl, ap, ◌∙◌, append_assoc, append-nil, arith, length-drop, drop_of_length-le, get_or-take, drop-drop, le-leb}
-use borrow.Author.Tests.{eqb-false}
+use Rattle.std.proofs.Common.{◌≡◌, ℕ, zero, suc, ◌+◌, ◌-◌, ◌≤◌, Bool, true, false, not, ◌&&◌, ◌||◌, eqb, List, [], ◌∷◌, ◌++◌, length, take, drop, sym}
+use Rattle.std.proofs.Common.{refl, ap, ◌∙◌, append_assoc, append-nil, arith, drop_of_length-le, get_or-take, drop-drop, le-leb}
 use Rattle.base.specs.Choice.{pick}
 use Rattle.base.proofs.Tests.{by-test}
 use Rattle.account.specs.declared.Account.{Account}
-use Rattle.account.specs.Range.{AccountInRange, account_in_range}
+use Rattle.account.specs.Range.{AccountInRange}
 use Rattle.account.specs.Judge.{kind_byte, judge}
 use Rattle.account.proofs.Clauses.{in-range-test}
 use Rattle.account.proofs.Keeps.{in-range-none, in-range-judge}
@@ -14,26 +14,27 @@ use Rattle.account.specs.Line.{subtotals}
 use Rattle.book.specs.WholeRecords.{records_of}
 use Rattle.walk.specs.declared.Next.{Next}
 use Rattle.walk.specs.Walk.{accepts, next_of}
-use Rattle.walk.proofs.Walks.{Stands, stands}
+use Rattle.walk.proofs.Walks.{Stands}
 use Rattle.why.specs.Why.{why_of}
 use Rattle.why.specs.Remarks.{people_text}
 use Rattle.page.specs.declared.Place.{Place}
 use Rattle.page.specs.declared.Scale.{Scale}
 use Rattle.page.specs.declared.Survey.{Survey}
-use Rattle.page.specs.Over.{over, over_bytes}
+use Rattle.page.specs.Over.{over}
 use Rattle.page.specs.Figures.{group_step, group_of, survey_of, group_scale}
 use Rattle.page.specs.Parts.{name_text, title_text, head_text, top_text, rest_text, before_text, after_text}
 use Rattle.page.specs.Page.{Rows, row_by, next_rows, rows_from, rows_of, is_refused, page_of}
 use Rattle.page.specs.Page.{no_place, goes_on_lem, kind_at, stopped_at, moved_by, place_after, row_at}
 use Rattle.page.specs.Promised.{rows_by, subtotal_of, SameBook}
 use Rattle.page.proofs.Overs.{over-nil, over-end, over-next}
-use Rattle.page.proofs.Pages.{row_stays, next-stands, next-inside}
+use Rattle.page.proofs.Pages.{next-stands, next-inside}
 
 -- ---- no figures
 
 -- of a book that is not closed
 pub page-not-closed : (xs : List ℕ) → (survey_of xs).closed ≡ false
-    → page_of xs ≡ before_text (survey_of xs) (is_refused (why_of xs)) ++ (people_text (why_of xs) ++ after_text (survey_of xs) (is_refused (why_of xs)))
+    → page_of xs ≡ before_text (survey_of xs) (is_refused (why_of xs))
+    ++ (people_text (why_of xs) ++ after_text (survey_of xs) (is_refused (why_of xs)))
 unfolding page_of
 page-not-closed xs e =
     let s = survey_of xs in
@@ -74,7 +75,8 @@ module _ (sc : Scale) (from grazed : ℕ) (a : Account) (r : List ℕ) (rs : Lis
   row = row_by sc from grazed a (kind_byte r)
 
   rows_step : (u : List ℕ)
-      → ((v : List ℕ) → rows_with sc from_next grazed_next v (judge a r).account rs ≡ v ++ rows_with sc from_next grazed_next [] (judge a r).account rs)
+      → ((v : List ℕ) → rows_with sc from_next grazed_next v (judge a r).account rs
+      ≡ v ++ rows_with sc from_next grazed_next [] (judge a r).account rs)
       → rows_with sc from grazed u a (r ∷ rs) ≡ u ++ rows_with sc from grazed [] a (r ∷ rs)
   unfolding over
   rows_step u ih =
@@ -87,7 +89,9 @@ rows-after : (sc : Scale) (from grazed : ℕ) (u : List ℕ) (a : Account) (rs :
     → rows_with sc from grazed u a rs ≡ u ++ rows_with sc from grazed [] a rs
 unfolding over
 rows-after sc from grazed u a [] = sym (append-nil u)
-rows-after sc from grazed u a (r ∷ rs) = rows_step sc from grazed a r rs u (λ v. rows-after sc _ _ v (judge a r).account rs)
+rows-after sc from grazed u a (r ∷ rs) =
+    rows_step sc from grazed a r rs u
+    (λ v. rows-after sc (from_next sc from grazed a r rs) (grazed_next sc from grazed a r rs) v (judge a r).account rs)
 
 -- a place in a book
 module _ (sc : Scale) (xs : List ℕ) (p : Place) where

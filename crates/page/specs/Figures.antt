@@ -1,6 +1,6 @@
 -- The figures of the member's page, all of them functions of a book's accepted records and of the accounts that stand between them.
 -- Assumes nothing.
-use Rattle.std.specs.Prelude.{ℕ, ◌+◌, ◌-◌, ◌*◌, ◌^◌, ◌≤◌, Bool, true, false, not, ◌&&◌, ◌||◌, List, length, ◌==◌, nat_le, slice_index}
+use Rattle.std.specs.Prelude.{ℕ, ◌+◌, ◌-◌, ◌≤◌, Bool, true, false, not, ◌&&◌, ◌||◌, List, length, ◌==◌, nat_le, slice_index}
 use Rattle.base.specs.Choice.{pick}
 use Rattle.codec.specs.Table.{fields}
 use Rattle.codec.specs.Codec.{values_at}

@@ -5,7 +5,7 @@ use Rattle.base.specs.Choice.{pick}
 use Rattle.account.specs.declared.Account.{Account}
 use Rattle.account.specs.Account.{no_record}
 use Rattle.account.specs.Range.{account_in_range}
-use Rattle.account.specs.Judge.{kind_byte, judge}
+use Rattle.account.specs.Judge.{kind_byte}
 use Rattle.walk.specs.Walk.{next_of}
 use Rattle.why.specs.declared.Verdict.{Verdict}
 use Rattle.why.specs.declared.Verdict.TheVariants.{Accepted, Missing, NextLength, Refused}

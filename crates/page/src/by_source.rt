@@ -1,7 +1,8 @@
 // The table of the sources.
 ghost use Rattle.std.specs.Prelude.{◌<◌, ◌≤◌, length};
 ghost use Rattle.printing.specs.Said.{Said};
-ghost use Rattle.page.specs.Parts.{animals_text, gases_text, land_text, source_head, source_name, source_text, sources_foot, sources_text, words_text};
+ghost use Rattle.page.specs.Parts.{animals_text, gases_text, land_text, source_head, source_name, source_text, sources_foot, sources_text};
+ghost use Rattle.page.specs.Parts.{words_text};
 
 use crate::bars::scale;
 use crate::rows::{say_bars, say_together};

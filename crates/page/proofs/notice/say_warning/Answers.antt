@@ -1,0 +1,11 @@
+-- One of two texts. Assumes nothing.
+use Rattle.page.specs.Parts.{warning_text}
+use Rattle.page.proofs.notice.say_warning.Goals as goal
+
+pub returns-then-refused : goal.returns-then-refused
+unfolding warning_text
+returns-then-refused c = rw c.if-refused.true c.say.ensures
+
+pub returns : goal.returns
+unfolding warning_text
+returns c = rw c.if-refused.false c.say-2.ensures

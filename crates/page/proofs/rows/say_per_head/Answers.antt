@@ -1,0 +1,17 @@
+-- Nothing without head. Assumes nothing.
+use Rattle.std.proofs.Common.{arith, eq-eqb, ne_eqb}
+use Rattle.printing.proofs.Sayings.{said-none}
+use Rattle.page.specs.Parts.{per_head}
+use Rattle.page.proofs.rows.say_per_head.Goals as goal
+
+pub returns-then-head-eq0 : goal.returns-then-head-eq0
+unfolding per_head
+returns-then-head-eq0 c = rw (eq-eqb _ _ c.if-head-eq0.true) (said-none c.requires)
+
+pub round_div-requires : goal.round_div-requires
+unfolding per_head
+round_div-requires c = omega (arith, c.if-head-eq0.false)
+
+pub returns : goal.returns
+unfolding per_head
+returns c = rw (ne_eqb _ _ c.if-head-eq0.false) (rw c.round_div.ensures at c.say_kilograms.ensures)
