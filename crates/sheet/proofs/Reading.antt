@@ -15,7 +15,7 @@ use Rattle.codec.specs.declared.Field.{Field}
 use Rattle.line_bytes.specs.Lines.{figure, figure_count, line_fields, total_fields, number_width}
 use Rattle.line_bytes.proofs.AnyLine.{figure-width}
 use Rattle.line_rows.specs.Rows.{is_signed}
-use Rattle.base.proofs.Tests.{by-test, no_bool, and_l, and_r}
+use Rattle.base.proofs.Tests.{by-test, and_l, and_r}
 use Rattle.sheet.specs.declared.numbers.Read.{Read}
 use Rattle.sheet.specs.declared.rows.Column.{Column}
 use Rattle.sheet.specs.Numbers.{half, Cell}

@@ -1,7 +1,7 @@
 -- THE PROMISES of document 02, W13: "Line to text to line gives the same bytes, and accepted text comes back the same."
 use Prim.Native.Nat.{ℕ, zero, suc, ◌+◌, ◌-◌, ◌%◌, ◌<◌, ◌≤◌}
 use native.Mathlib.Omega.{arith}
-use mathlib.Core.Bool.{Bool, true, false, ◌&&◌}
+use mathlib.Core.Bool.{true, false, ◌&&◌}
 use mathlib.Core.Path.{◌≡◌, refl, sym, ap, ◌∙◌}
 use mathlib.Core.List.{List, [], ◌∷◌, ◌++◌, append_assoc}
 use lib.ListN.{length, get_or, take, drop, replicate, length-append, length-drop, take-append-drop}
@@ -16,7 +16,7 @@ use Rattle.printing.specs.Decimal.{decimal}
 use Rattle.sheet.specs.declared.rows.Column.{Column}
 use Rattle.sheet.specs.Numbers.{Cell}
 use Rattle.codec.specs.declared.Field.{Field}
-use Rattle.line_bytes.specs.Lines.{figure, figure_count, line_fields, size_of_kind, front_size, is_line_kind, numbers_bytes, is_line}
+use Rattle.line_bytes.specs.Lines.{figure, figure_count, line_fields, size_of_kind, front_size, is_line_kind, is_line}
 use Rattle.line_rows.specs.declared.Form.TheVariants.{Sheet}
 use Rattle.line_rows.specs.Rows.{is_signed, line_row, header}
 use Rattle.sheet.specs.Rows.{highest_of, column_count, column_of, columns_from, empty, columns, starts_with, read_cell, read_row, kind_in}
