@@ -2,7 +2,7 @@
 -- Assumes nothing.
 use Prim.Native.Nat.{ℕ, zero, suc, ◌+◌, ◌-◌, ◌≤◌, ◌<◌, min}
 use mathlib.Core.Path.{◌≡◌, refl, sym, ap, ◌∙◌}
-use mathlib.Core.List.{List, [], ◌∷◌, ◌++◌}
+use mathlib.Core.List.{List, ◌∷◌, ◌++◌}
 use mathlib.Core.Bool.{Bool, true, false}
 use native.Mathlib.Omega.{arith}
 use lib.ListN.{length, take, drop, length-append, length-drop}
@@ -20,7 +20,7 @@ use Rattle.book.specs.WholeRecords.{records_of}
 use Rattle.book.proofs.WholeRecords.{records-whole, rest-short}
 use Rattle.salvage.specs.declared.Reading.{Reading}
 use Rattle.salvage.specs.declared.turns.Turn.{Turn}
-use Rattle.salvage.specs.Salvage.{Entry, Found, nothing, with, dropped_by, ends, reading_after, start, found, found_in, salvage_of}
+use Rattle.salvage.specs.Salvage.{Found, nothing, with, dropped_by, ends, reading_after, start, found_in, salvage_of}
 use Rattle.salvage.specs.Promised.{read_by}
 use Rattle.salvage.specs.HowFar.{goes_on_lem, reached, reached_in, bytes_read, close_bytes, ending_at, end_at, end_of, followed_by}
 use Rattle.salvage.specs.Inner.{Open, Turned, Reaches}

@@ -11,7 +11,7 @@ use lib.ListN.{length, drop}
 use Rattle.base.specs.Choice.{pick}
 use Rattle.base.proofs.Tests.{lt-or-ge, of-choice}
 use Rattle.account.specs.Judge.{kind_byte}
-use Rattle.book.specs.Front.{Front, unfinished, bad_length, whole, need, front}
+use Rattle.book.specs.Front.{Front, unfinished, bad_length, whole, front}
 use Rattle.walk.specs.Walk.{record_at}
 use Rattle.book.proofs.Fronts.{meaning}
 use Rattle.salvage.specs.declared.Reading.{Reading}

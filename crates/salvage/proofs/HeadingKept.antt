@@ -15,7 +15,7 @@ use Rattle.codec.specs.Codec.{record_bytes}
 use Rattle.account.specs.Sorts.{sort_of, is_of_group}
 use Rattle.account.specs.Judge.{WholeRecord, version_of, kind_byte, first}
 use Rattle.account.specs.Line.{joined}
-use Rattle.book.specs.Front.{whole, need}
+use Rattle.book.specs.Front.{need}
 use Rattle.book.proofs.Fronts.{front-none, length-append-two}
 use Rattle.book.specs.WholeRecords.{records_by, records_of}
 use Rattle.book.proofs.WholeRecords.{records-whole}

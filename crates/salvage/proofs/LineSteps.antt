@@ -1,23 +1,21 @@
 -- The lines of dropped records, some records at a time: laws of one record and of the loop over records.
 -- Assumes nothing.
-use Prim.Native.Nat.{ℕ, suc, ◌+◌, ◌-◌, ◌*◌, ◌^◌, ◌≤◌, ◌<◌, min}
+use Prim.Native.Nat.{ℕ, suc, ◌+◌, ◌-◌, ◌*◌, ◌^◌, ◌≤◌, ◌<◌}
 use native.Mathlib.Omega.{arith}
 use native.Mathlib.Nat.{zero-add, add-zero}
 use mathlib.Core.Path.{◌≡◌, refl, sym, ap, ◌∙◌}
-use mathlib.Core.Bool.{Bool, true, false, ◌&&◌}
-use mathlib.Core.List.{List, [], ◌∷◌, ◌++◌, append-nil, append_assoc}
-use lib.Dec.{ltb, leb, eqb}
-use lib.ListN.{length, get_or, take, drop, length-append, length-drop}
+use mathlib.Core.Bool.{true, false, ◌&&◌}
+use mathlib.Core.List.{List, [], ◌++◌, append-nil, append_assoc}
+use lib.Dec.{ltb, eqb}
+use lib.ListN.{length, get_or, drop, length-append, length-drop}
 use lib.Seq.{drop-drop, take_all, get_or-take}
 use borrow.Author.Tests.{le-ltb, lt-ltb, ltb-true, ltb-false}
-use Rattle.base.specs.Choice.{pick}
 use Rattle.base.proofs.Tests.{by-test, of-choice}
 use Rattle.printing.specs.Ascii.{ascii}
 use Rattle.printing.specs.Decimal.{decimal, Put}
 use Rattle.printing.specs.Said.{Said}
 use Rattle.printing.proofs.Puts.{none, put-length, and-then}
 use Rattle.printing.proofs.Digits.{length-u64}
-use Rattle.names.specs.Names.{sentence}
 use Rattle.account.specs.Judge.{kind_byte}
 use Rattle.account.specs.Sorts.{is_of_group}
 use Rattle.book.specs.Front.{whole, need, front}
@@ -26,7 +24,7 @@ use Rattle.book.proofs.Fronts.{meaning}
 use Rattle.salvage.specs.declared.Reading.{Reading}
 use Rattle.salvage.specs.declared.turns.Turn.{Turn}
 use Rattle.salvage.specs.declared.lines.Reported.{Reported}
-use Rattle.salvage.specs.Salvage.{reading_after, dropped_by}
+use Rattle.salvage.specs.Salvage.{reading_after}
 use Rattle.salvage.specs.HowFar.{goes_on_lem}
 use Rattle.salvage.specs.Lines.{dropped_text, heading_text, words_for, line_for, line_of, Telling, stopped, behind, tell_by, Tells, line_most}
 use Rattle.salvage.specs.Inner.{Open, Turned}

@@ -6,7 +6,7 @@ use mathlib.Core.Path.{◌≡◌, refl, sym, ap, ◌∙◌}
 use mathlib.Core.Bool.{Bool, true, false, ◌&&◌, not}
 use mathlib.Core.Logic.{inl, inr}
 use mathlib.Core.List.{List, [], ◌∷◌, ◌++◌, append_assoc}
-use borrow.Author.Tests.{eqb-true, ltb-true, lt-ltb, leb-true, le-leb, ne_eqb}
+use borrow.Author.Tests.{ltb-true, lt-ltb, leb-true, le-leb, ne_eqb}
 use lib.Dec.{ltb, leb, eqb}
 use lib.ListN.{length, drop, length-drop}
 use lib.Seq.{drop-drop}
@@ -25,7 +25,7 @@ use Rattle.salvage.specs.declared.Reading.{Reading}
 use Rattle.salvage.specs.Salvage.{one_of, would_get, drops, dropped_by, ends, reading_after, start, Entry, Found, nothing, with, found, found_in}
 use Rattle.salvage.specs.HowFar.{goes_on_lem}
 use Rattle.salvage.specs.Lines.{dropped_text, words_for, line_for, line_of, lines_from, words_from, entries_text, Listed, HeadingsListed}
-use Rattle.salvage.specs.Lines.{Telling, stopped, behind, tell_by, usable, told_by, series}
+use Rattle.salvage.specs.Lines.{Telling, behind, tell_by, usable, told_by, series}
 use Rattle.salvage.specs.Inner.{Open}
 use Rattle.salvage.proofs.Fates.{open_after}
 use Rattle.salvage.proofs.OneTurn.{goes-whole, stops-by, found-ends, found-goes}

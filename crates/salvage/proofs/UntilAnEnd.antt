@@ -1,10 +1,10 @@
 -- The reading goes on until one of W5's ends stands there.
 -- Assumes nothing.
-use Prim.Native.Nat.{ℕ, suc, ◌+◌, ◌≤◌}
-use mathlib.Core.Path.{◌≡◌, refl, sym, ap, ◌∙◌}
+use Prim.Native.Nat.{ℕ, ◌+◌}
+use mathlib.Core.Path.{◌≡◌, refl, ◌∙◌}
 use mathlib.Core.List.{List, [], ◌∷◌}
-use mathlib.Core.Bool.{Bool, true, false, ◌&&◌, ◌||◌}
-use mathlib.Core.Logic.{◌⊎◌, inl, inr, ⊎_elim}
+use mathlib.Core.Bool.{Bool, true, false, ◌&&◌}
+use mathlib.Core.Logic.{inl, inr, ⊎_elim}
 use native.Mathlib.Omega.{arith}
 use borrow.Author.Tests.{eqb-true, leb-true}
 use lib.Dec.{leb, eqb}
@@ -12,14 +12,12 @@ use lib.ListN.{length, drop}
 use Rattle.base.specs.Choice.{pick}
 use Rattle.base.proofs.Tests.{and_l, and_r, or_cases}
 use Rattle.account.specs.Judge.{kind_byte}
-use Rattle.account.specs.Line.{joined}
 use Rattle.book.specs.WholeRecords.{records_of}
 use Rattle.salvage.specs.declared.Reading.{Reading}
 use Rattle.salvage.specs.Salvage.{dropped_by, ends, reading_after, start, Found, nothing, with, found, found_in}
 use Rattle.salvage.specs.Promised.{read_by, EndAt}
 use Rattle.salvage.specs.HowFar.{reached, reached_in}
 use Rattle.salvage.proofs.Fates.{records-after}
-use Rattle.salvage.proofs.OneTurn.{found-ends, found-goes}
 use Rattle.salvage.proofs.OnePass.{kept-count}
 use Rattle.salvage.proofs.AfterEnd.{one_more}
 

@@ -13,7 +13,7 @@ use lib.ListN.{length, get_or, take, drop, length-drop, take-append-drop}
 use lib.Seq.{get_or-drop}
 use Rattle.base.specs.Choice.{pick}
 use Rattle.base.proofs.Tests.{or_left, lt-or-ge}
-use Rattle.codec.specs.Table.{table, size, length_of}
+use Rattle.codec.specs.Table.{table, length_of}
 use Rattle.codec.specs.Codec.{values_at, record_bytes, Bytes}
 use Rattle.codec.proofs.BigEndian.{one_byte}
 use Rattle.codec.proofs.Round.{record-again}

@@ -1,7 +1,7 @@
 -- Document 02, W5: "Make a salvage tool that writes a clean book and a list of what was dropped". It is one fold over the whole records of the
 -- damaged bytes, with the account of the kept ones; what a record would get is the reader's own list of refusals.
 -- Assumes nothing.
-use Rattle.std.specs.Prelude.{ℕ, ◌+◌, ◌≤◌, List, [], ◌∷◌, ◌++◌, Bool, true, false, ◌&&◌, ◌||◌, not, length, drop, ltb, leb, eqb}
+use Rattle.std.specs.Prelude.{ℕ, ◌+◌, ◌≤◌, List, [], ◌∷◌, ◌++◌, Bool, false, ◌&&◌, ◌||◌, not, length, drop, ltb, leb, eqb}
 use Rattle.base.specs.Choice.{pick}
 use Rattle.codec.specs.Codec.{be, record_bytes}
 use Rattle.account.specs.declared.Account.{Account}

@@ -1,7 +1,0 @@
-use borrow.Author.Rules.{rules}
-use borrow.Author.Tests.{eq-eqb, ne_eqb}
-use Rattle.salvage.proofs.turns.heading_by.Statement.{statement}
-use Rattle.salvage.proofs.turns.heading_by.Tie as tie
-
-pub heading-by-spec : {M : Type 1} → statement M
-heading-by-spec = tie.close (tie.spec (λ c. search rules) (λ c. rw (eq-eqb _ _ c.if1.true)) (λ c. rw (ne_eqb _ _ c.if1.false)))
