@@ -1,30 +1,27 @@
 -- Theorem: each of the three tables on the page of a closed book adds up to the total line, and so do the columns of the groups and of the sources.
 -- Assumes nothing.
-use Prim.Native.Nat.{ℕ, ◌+◌, ◌*◌, ◌^◌, ◌≤◌, ◌<◌}
+use Prim.Native.Nat.{ℕ, ◌+◌, ◌*◌}
 use mathlib.Core.Path.{◌≡◌, refl, sym, ap, ◌∙◌}
-use mathlib.Core.List.{List, [], ◌∷◌, ◌++◌, map}
-use mathlib.Core.Bool.{Bool, true, false, ◌||◌}
+use mathlib.Core.List.{List, [], ◌∷◌, map}
+use mathlib.Core.Bool.{true, false}
 use native.Mathlib.Omega.{arith}
 use native.Mathlib.Nat.{mul-zero}
 use borrow.Author.Tests.{eqb-true}
-use lib.IntN.{ℤ, pos, nat_abs, ◌+ℤ◌, +ℤ_assoc, +ℤ_comm, +ℤ_idr}
-use Rattle.base.specs.Choice.{pick}
+use lib.IntN.{ℤ, pos, ◌+ℤ◌, +ℤ_assoc, +ℤ_comm, +ℤ_idr}
 use Rattle.base.specs.Signed.{word_of, signed_of}
 use Rattle.base.proofs.Signed.{word-signed}
 use Rattle.base.proofs.Tests.{by-test, or_l, or_r}
 use Rattle.account.specs.declared.Account.{Account}
 use Rattle.account.specs.Range.{AccountInRange}
-use Rattle.page.specs.declared.Group.{Group}
 use Rattle.page.specs.declared.Source.{Source}
 use Rattle.page.specs.declared.Sum.{Sum}
-use Rattle.page.specs.declared.Survey.{Survey}
 use Rattle.page.specs.Bars.{no_step}
 use Rattle.page.specs.Figures.{last_of, warmed, group_step, sum_of, source_of, sources_of, survey_of, of_farm}
 use Rattle.page_sums.specs.Tables.{Bar, groups_of, group_bar, group_bars, farm_bar, source_rows, source_bar, source_bars, sum_by, signed_by}
-use Rattle.page_sums.specs.AddsUp.{TotalLine, GroupsAdd, SourcesAdd, GasesAdd, AddsUp}
+use Rattle.page_sums.specs.AddsUp.{GroupsAdd, SourcesAdd, GasesAdd, AddsUp}
 use Rattle.page_sums.proofs.Columns.{signed-append, signed-plain, grows-sum, grows-signed}
 use Rattle.page_sums.proofs.Plain.{plainly, warmed-plain, all_plain, all_most, step-plain, total-plain}
-use Rattle.page_sums.proofs.GroupWalk.{Ended, last-range, groups-make}
+use Rattle.page_sums.proofs.GroupWalk.{last-range, groups-make}
 use Rattle.page_sums.proofs.SourceWalk.{seven, Made, sources-make}
 use Rattle.page_sums.proofs.SourceBars.{bars_from, gases_of, co2e_by, six_co2e, six-sum, six-grow, till-signed}
 

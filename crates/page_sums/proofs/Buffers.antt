@@ -1,7 +1,7 @@
 -- Theorem: each piece of the page is shorter than its buffer, since it is fixed text with so many numbers of eight bytes in it.
 -- Assumes nothing.
-use Prim.Native.Nat.{ℕ, zero, suc, ◌+◌, ◌-◌, ◌*◌, ◌/◌, ◌%◌, ◌^◌, ◌≤◌, ◌<◌, min}
-use mathlib.Core.Path.{◌≡◌, refl, sym, ap, ◌∙◌}
+use Prim.Native.Nat.{ℕ, zero, suc, ◌+◌, ◌-◌, ◌*◌, ◌/◌, ◌^◌, ◌≤◌, ◌<◌, min}
+use mathlib.Core.Path.{◌≡◌}
 use mathlib.Core.List.{List, [], ◌∷◌, ◌++◌}
 use mathlib.Core.Bool.{Bool, true, false}
 use native.Mathlib.Omega.{arith}
@@ -11,30 +11,29 @@ use lib.Dec.{T, leb, ltb, eqb, lit≤, lit<}
 use lib.ListN.{length, take, drop, length-append, length-drop}
 use Rattle.base.specs.Choice.{pick}
 use Rattle.base.proofs.Tests.{by-test}
-use Rattle.printing.specs.Ascii.{ascii, thin_space}
-use Rattle.printing.specs.Decimal.{digit, decimal}
+use Rattle.printing.specs.Ascii.{thin_space}
+use Rattle.printing.specs.Decimal.{decimal}
 use Rattle.printing.proofs.Digits.{length-u64}
 use Rattle.base.specs.Bytes.{index_of}
 use Rattle.typed_words.specs.Words.{leading_of, trimmed, nth_word, nth_part}
 use Rattle.names.specs.Names.{no_row, table_line, choice_table, choices_of, class_name}
-use Rattle.grams.specs.Round.{round_div}
 use Rattle.grams.proofs.Round.{round-le}
 use Rattle.why.specs.declared.Verdict.{Verdict}
 use Rattle.page.specs.declared.Group.{Group}
 use Rattle.page.specs.declared.Scale.{Scale}
 use Rattle.page.specs.declared.Source.{Source}
-use Rattle.page.specs.declared.Sources.{Sources}
 use Rattle.page.specs.declared.Survey.{Survey}
-use Rattle.page.specs.Text.{last_three, threes_by, threes, amount_text, below, kilograms, figure_text, cell_text}
+use Rattle.page.specs.Text.{last_three, threes_by, amount_text, below, kilograms, figure_text, cell_text}
 use Rattle.page.specs.Bars.{plus8, no_step, lesser, greater, place_of, rect_text, mark_text, bar_text}
 use Rattle.page.specs.Style.{type_style, table_style, narrow_style, print_style, style_text}
 use Rattle.page.specs.Figures.{of_farm, group_scale, source_scale}
 use Rattle.page.specs.Parts.{name_text, title_text, head_text, total_text, groups_head, top_text, heading_text, per_head, count_text, figures_text}
-use Rattle.page.specs.Parts.{together_text, bars_text, group_text, farm_text, groups_foot, source_table, words_table, source_name, words_text, source_head}
-use Rattle.page.specs.Parts.{gases_text, source_text, animals_text, land_text, sources_foot, sources_text, gas_text, factors_text, carbon_text, gas_table}
-use Rattle.page.specs.Parts.{counted_text, exact_text, foot_text, rest_text, warning_text, advice_text, made_of, before_text, after_text}
+use Rattle.page.specs.Parts.{together_text, bars_text, group_text, farm_text, groups_foot, source_table, words_table, source_name, words_text}
+use Rattle.page.specs.Parts.{gases_text, source_text, animals_text, land_text, sources_foot, sources_text, gas_text, factors_text, carbon_text}
+use Rattle.page.specs.Parts.{source_head, gas_table}
+use Rattle.page.specs.Parts.{counted_text, exact_text, foot_text, rest_text, warning_text, advice_text, before_text, after_text}
 use Rattle.page.specs.Page.{is_refused, first_text, last_text}
-use Rattle.page_sums.specs.Buffers.{part_buffer, row_buffer, Word, GroupWords, SourceWords, SourcesWords, SurveyWords}
+use Rattle.page_sums.specs.Buffers.{part_buffer, row_buffer, Word, GroupWords, SourceWords, SurveyWords}
 
 -- ---- texts one after the other
 

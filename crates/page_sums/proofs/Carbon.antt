@@ -9,7 +9,6 @@ use borrow.Author.Tests.{eqb-true, ltb-true, ltb-false}
 use lib.Dec.{eqb, ltb}
 use lib.IntN.{ℤ, pos, negsuc, nat_abs, ◌+ℤ◌, +ℤ_idr}
 use lib.Signed.{mag}
-use Rattle.base.specs.Choice.{pick}
 use Rattle.base.specs.Signed.{word_of, signed_of}
 use Rattle.base.proofs.Tests.{by-test, of-choice, no_bool, not-false, or_l}
 use Rattle.base.proofs.Signed.{word-plus, word-signed, signed-mag}

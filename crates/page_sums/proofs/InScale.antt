@@ -1,20 +1,18 @@
 -- Theorem: the bars of both tables of a closed book's page are a cascade, whose scale goes from the least of all its steps to the greatest.
 -- Assumes nothing.
-use Prim.Native.Nat.{ℕ, ◌+◌, ◌*◌, ◌^◌, ◌%◌, ◌≤◌, ◌<◌}
-use mathlib.Core.Path.{◌≡◌, refl, sym, ap, ◌∙◌, subst}
-use mathlib.Core.List.{List, [], ◌∷◌, map, append-nil}
-use mathlib.Core.Bool.{true, false}
+use Prim.Native.Nat.{ℕ, ◌+◌, ◌^◌, ◌%◌}
+use mathlib.Core.Path.{◌≡◌, refl, ap, ◌∙◌}
+use mathlib.Core.List.{List, map, append-nil}
+use mathlib.Core.Bool.{true}
 use native.Mathlib.Omega.{arith}
 use borrow.Author.Tests.{eqb-true}
-use lib.IntN.{pos, nat_abs, ◌+ℤ◌}
-use Rattle.base.specs.Signed.{signed_of}
 use Rattle.base.proofs.Tests.{by-test}
 use Rattle.page.specs.declared.Sum.{Sum}
-use Rattle.page.specs.Bars.{plus8, no_step, scale_of}
+use Rattle.page.specs.Bars.{plus8, no_step}
 use Rattle.page.specs.Figures.{last_of, group_step, sum_of, source_of, sources_of, survey_of, of_farm, group_scale, source_scale}
-use Rattle.page_sums.specs.Tables.{Bar, groups_of, group_bar, group_bars, farm_bar, source_bar, source_bars, sum_by}
+use Rattle.page_sums.specs.Tables.{groups_of, group_bar, group_bars, farm_bar, source_bar, source_bars}
 use Rattle.page_sums.specs.InScale.{InScale, BarsDrawn}
-use Rattle.page_sums.proofs.Plain.{all_plain, all_most, step-plain}
+use Rattle.page_sums.proofs.Plain.{all_most, step-plain}
 use Rattle.page_sums.proofs.GroupWalk.{last-range, groups-make}
 use Rattle.page_sums.proofs.SourceWalk.{sources-make}
 use Rattle.page_sums.proofs.SourceBars.{bars_from, end_from, co2e_by, six_co2e, six-grow, six-up, six-far, till-word, till-near}

@@ -52,7 +52,8 @@ module _ (h : Heading) (v : List ℕ) where
   pub no-carbon : (k : ℕ) → is_row k ≡ true → DetailKind k → has_co2 k ≡ false → (figures_of h k v).co2 ≡ no_co2
   unfolding sort_of figures_of
   no-carbon k r d n =
-      where-tested (λ k. by_sort (sort_of k) false false true true false && not (has_co2 k)) (λ k. (figures_of h k v).co2) no_co2 refl k r (rw (d, n) refl)
+      where-tested (λ k. by_sort (sort_of k) false false true true false && not (has_co2 k)) (λ k. (figures_of h k v).co2)
+      no_co2 refl k r (rw (d, n) refl)
 
   -- no grazing where it is the farm's
   pub none-grazed : (k : ℕ) → is_row k ≡ true → sort_of k ≡ OfFarm → (figures_of h k v).grazing.0 ≡ 0

@@ -1,7 +1,7 @@
 -- CO2e of CH4, N2O and grazing as a plain number: none goes round its word, and it is added as its parts are.
 -- Assumes nothing.
 use Prim.Native.Nat.{ℕ, ◌+◌, ◌*◌, ◌^◌, ◌%◌, ◌≤◌, ◌<◌}
-use mathlib.Core.Path.{◌≡◌, refl, sym, ap, ◌∙◌}
+use mathlib.Core.Path.{◌≡◌, ap, ◌∙◌}
 use native.Mathlib.Omega.{arith}
 use native.Mathlib.Nat.{mul-add, lt_of_le_of_lt}
 use lib.Dec.{lit<}

@@ -1,15 +1,14 @@
 -- Laws of scales: a cascade that rises and then goes by its last bar has its scale from the least to the greatest of all its steps, and each step
 -- stands in it.
 -- Assumes nothing.
-use Prim.Native.Nat.{ℕ, suc, ◌+◌, ◌-◌, ◌*◌, ◌/◌, ◌^◌, ◌%◌, ◌≤◌, ◌<◌}
+use Prim.Native.Nat.{ℕ, suc, ◌+◌, ◌-◌, ◌*◌, ◌^◌, ◌%◌, ◌≤◌, ◌<◌}
 use mathlib.Core.Path.{◌≡◌, refl, sym, ap, ◌∙◌, subst}
-use mathlib.Core.List.{List, [], ◌∷◌, ◌++◌, map, append-nil}
-use mathlib.Core.Bool.{true, false}
+use mathlib.Core.List.{List, [], ◌∷◌, ◌++◌, append-nil}
 use native.Mathlib.Omega.{arith}
 use native.Mathlib.Nat.{le_refl, le_trans, div-le_of_le-mul}
-use borrow.Author.Tests.{ltb-true, ltb-false, lt-ltb, le-ltb, eqb-true}
+use borrow.Author.Tests.{ltb-true, ltb-false, le-ltb, eqb-true}
 use lib.Dec.{ltb, eqb}
-use lib.IntN.{pos, negsuc, nat_abs, ◌+ℤ◌}
+use lib.IntN.{pos, nat_abs, ◌+ℤ◌}
 use Rattle.base.specs.Signed.{signed_of}
 use Rattle.base.proofs.Tests.{by-test}
 use Rattle.page.specs.declared.Scale.{Scale}
@@ -120,7 +119,8 @@ in-scale sc bs c e =
 
 -- ---- a cascade that rises, alone and with a last bar
 
-scale-by : (lo hi l h : ℕ) → lo ≡ l → hi ≡ h → ◌≡◌ {A = Scale} (record { lo = lo; unit = unit_of (hi - lo) }) (record { lo = l; unit = unit_of (h - l) })
+scale-by : (lo hi l h : ℕ) → lo ≡ l → hi ≡ h
+    → ◌≡◌ {A = Scale} (record { lo = lo; unit = unit_of (hi - lo) }) (record { lo = l; unit = unit_of (h - l) })
 scale-by lo hi l h e f = rw (e, f) refl
 
 module _ (bs : List Bar) (end : ℕ) (g : Grows no_step bs end) where

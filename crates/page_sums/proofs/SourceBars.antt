@@ -4,12 +4,11 @@ use Prim.Native.Nat.{ℕ, ◌+◌, ◌*◌, ◌^◌, ◌%◌, ◌≤◌, ◌<◌
 use mathlib.Core.Path.{◌≡◌, refl, sym, ap, ◌∙◌}
 use mathlib.Core.List.{List, [], ◌∷◌}
 use native.Mathlib.Omega.{arith}
-use lib.IntN.{ℤ, pos, nat_abs, ◌+ℤ◌}
-use Rattle.base.specs.Signed.{word_of, signed_of}
+use lib.IntN.{pos, nat_abs, ◌+ℤ◌}
+use Rattle.base.specs.Signed.{signed_of}
 use Rattle.base.proofs.Signed.{signed_word, words-plus, abs-plus}
 use Rattle.account.specs.declared.Account.{Account}
 use Rattle.account.specs.declared.Farm.{Farm}
-use Rattle.page.specs.declared.Source.{Source}
 use Rattle.page.specs.declared.Sum.{Sum}
 use Rattle.page.specs.Bars.{plus8, no_step}
 use Rattle.page.specs.Figures.{warmed}
@@ -29,7 +28,8 @@ abbrev pub end_from : ℕ → List ℕ → ℕ
 end_from from [] = from
 end_from from (e ∷ es) = end_from (plus8 from e) es
 
-pub grows_from : (from : ℕ) (es : List ℕ) → 2 ^ 63 ≤ from → from + sum_by (λ (n : ℕ). n) es < 2 ^ 64 → Grows from (bars_from from es) (end_from from es)
+pub grows_from : (from : ℕ) (es : List ℕ) → 2 ^ 63 ≤ from → from + sum_by (λ (n : ℕ). n) es < 2 ^ 64
+    → Grows from (bars_from from es) (end_from from es)
 unfolding sum_by
 grows_from from [] h m = refl
 grows_from from (e ∷ es) h m =

@@ -28,7 +28,7 @@ use Rattle.book.specs.WholeRecords.{records_of}
 use Rattle.walk.specs.Walk.{accepts}
 use Rattle.page.specs.declared.Sum.{Sum}
 use Rattle.page.specs.Over.{over}
-use Rattle.page.specs.Bars.{plus8, minus8}
+use Rattle.page.specs.Bars.{plus8}
 use Rattle.page.specs.Figures.{next_account, last_of, no_sum, with_record, add_kind, sum_of}
 use Rattle.page.proofs.Gathers.{sums-rise}
 use Rattle.page_sums.proofs.Carbon.{Moves, judge-moves}
@@ -152,7 +152,8 @@ pos_word (pos n) h w = refl
 pos_word (negsuc n) h w = absurd (omega (arith, h, w))
 
 -- a word to which a number is added
-signed-added : (w : ℕ) (z : ℤ) → w < 2 ^ 64 → nat_abs (signed_of w) ≤ 2 ^ 62 → nat_abs z ≤ 10 ^ 13 → signed_of (plus8 w (word_of z)) ≡ signed_of w +ℤ z
+signed-added : (w : ℕ) (z : ℤ) → w < 2 ^ 64 → nat_abs (signed_of w) ≤ 2 ^ 62 → nat_abs z ≤ 10 ^ 13
+    → signed_of (plus8 w (word_of z)) ≡ signed_of w +ℤ z
 signed-added w z h p q =
     let e : signed_of (word_of z) ≡ z = signed_word z (omega (arith, q)) in
     let most = abs-plus (signed_of w) z in

@@ -1,6 +1,6 @@
 -- What is promised of the page of a closed book: each of its three tables adds up to the total line, as whole numbers of grams, some below zero.
 -- Assumes nothing.
-use Rattle.std.specs.Prelude.{ℕ, ◌≡◌, List, [], ◌∷◌, ◌++◌, length, drop, ◌+ℤ◌}
+use Rattle.std.specs.Prelude.{ℕ, ◌≡◌, List, [], ◌∷◌, ◌++◌, length, drop}
 use Rattle.base.specs.Signed.{signed_of}
 use Rattle.line_bytes.specs.Lines.{total_bytes}
 use Rattle.account.specs.Figures.{listed}
