@@ -26,7 +26,8 @@ use Rattle.book.proofs.Ranges.{range-parts, range-test}
 use Rattle.make_record.specs.declared.Answer.{Answer}
 use Rattle.make_record.specs.declared.Answer.TheVariants.{Wrote, Refused}
 use Rattle.make_record.specs.declared.Written.{Written}
-use Rattle.make_record.specs.Write.{Write, refusal_by, next, refusals, answer_of, refusing, writing, by_answer, write_row, written_of, record_laid, Ready}
+use Rattle.make_record.specs.Write.{Write, refusal_by, next, refusals, answer_of, refusing, writing, by_answer, write_row, written_of, record_laid}
+use Rattle.make_record.specs.Write.{Ready}
 use Rattle.make_record.specs.Write.{OfKind}
 
 -- ---- values that the reader would not refuse
@@ -197,7 +198,8 @@ none_of (x ∷ l) e = absurd (omega arith)
 laid_none : (w : Write) (out : List ℕ) → length w.bytes ≡ 0 → out ≡ record_laid w out
 laid_none w out e = rw (none_of w.bytes e)
 
-laid-record : (s : State) (row : ℕ) (v out : List ℕ) → 2 + length_of row ≤ length out → sets out 0 (record_bytes row v) ≡ record_laid (writing s row v) out
+laid-record : (s : State) (row : ℕ) (v out : List ℕ) → 2 + length_of row ≤ length out → sets out 0 (record_bytes row v)
+    ≡ record_laid (writing s row v) out
 laid-record s row v out h = rw zero-add at (sets-eq (record_bytes row v) out 0 (rw record-length (omega arith)))
 
 -- the three clauses of write's contract

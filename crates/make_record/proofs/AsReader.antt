@@ -109,7 +109,8 @@ module _ (s : State) (y : Ready s) (k : ℕ) (v : List ℕ) (room : ℕ) where
             (or_cases (ltb n 1) (ltb last_kind n) e)
 
     -- For a wrong count of values the writer gives what the reader gives for any record of that kind that is not of its version's length.
-    pub count-as-reader : 1 ≤ k → k ≤ last_kind → (length v ≡ length (fields (row_for k (length v))) → ⊥) → (val_at r 0 2 ≡ length_of (record_row r) → ⊥)
+    pub count-as-reader : 1 ≤ k → k ≤ last_kind → (length v ≡ length (fields (row_for k (length v))) → ⊥)
+        → (val_at r 0 2 ≡ length_of (record_row r) → ⊥)
         → (write s k v room).answer ≡ Refused (judge s.account r).account.refusal
     unfolding judge first
     count-as-reader l m n h =

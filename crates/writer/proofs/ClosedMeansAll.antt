@@ -366,7 +366,8 @@ all_lines (b ∷ lines) n p m h t k o c =
     let said = (line_said (text_of l)).said in
     let e = (line_said (text_of l)).entry in
     let d = line-did m h t k o l p in
-    let y = all_lines lines (one_more_lem n) (one_more n p) _ _ x.typist (line-keeps m h t k l p) (did-open said t e x o d) (did-calm said t e x c d) in
+    let y = all_lines lines (one_more_lem n) (one_more n p) _ _ x.typist (line-keeps m h t k l p) (did-open said t e x o d)
+    (did-calm said t e x c d) in
     let both = did-both t l (numbered (one_more_lem n) lines) x _ _ y said e d in
     record {
       stage = y.stage;
@@ -392,7 +393,8 @@ end-closes r o =
     still_open z = let e = ap (λ (s : State). s.account.stage) (sym (ended-state r)) ∙ z in omega arith
 
     closing : (r.waiting.close ≡ 0 → ⊥) → (a : Answer) → (write_entry (run_ended r).state own_close record_most).answer ≡ a
-        → (end_by a (run_ended r) (write_entry (run_ended r).state own_close record_most).state (write_entry (run_ended r).state own_close record_most).bytes
+        → (end_by a (run_ended r) (write_entry (run_ended r).state own_close record_most).state
+        (write_entry (run_ended r).state own_close record_most).bytes
         ).typist.state.account.stage ≡ 2
         → (r.waiting.close ≡ 0 → ⊥)
         × ((end_by a (run_ended r) (write_entry (run_ended r).state own_close record_most).state (write_entry
@@ -428,7 +430,8 @@ lines-closed text z =
 pub closed-means-all : (line : List ℕ) → most ≤ length line → (parts : List (List ℕ))
     → (with_end (calls_over (beginning no_record_yet) (record { line = line; cut = first_cut }) parts)).typist.state.account.stage ≡ 2
     → EachRead (text_lines (together parts))
-    × ((with_end (calls_over (beginning no_record_yet) (record { line = line; cut = first_cut }) parts)).bytes ≡ records_said 0 (text_lines (together parts)))
+    × ((with_end (calls_over (beginning no_record_yet) (record { line = line; cut = first_cut }) parts)).bytes
+    ≡ records_said 0 (text_lines (together parts)))
 closed-means-all line h parts =
     subst
     (λ (o : Output). o.typist.state.account.stage ≡ 2 → EachRead (text_lines (together parts)) × (o.bytes ≡ records_said 0 (text_lines

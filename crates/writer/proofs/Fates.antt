@@ -24,7 +24,8 @@ use Rattle.writer.specs.declared.Typist.{Typist}
 use Rattle.writer.specs.declared.Fate.TheVariants.{Nothing, Unread, Withheld, Waits, Without, Refused, Wrote}
 use Rattle.writer.specs.declared.Entered.{Entered}
 use Rattle.writer.specs.Typist.{hears, early, run_ended, not_read, withholding, waits, unheaded, refused_at, written_as, Turn, by_answer}
-use Rattle.writer.specs.Typist.{by_write, close_by, withheld, headless, judged_turn, record_turn, by_said, turn, own_close, end_by, closing_turn, end_turn}
+use Rattle.writer.specs.Typist.{by_write, close_by, withheld, headless, judged_turn, record_turn, by_said, turn, own_close, end_by, closing_turn}
+use Rattle.writer.specs.Typist.{end_turn}
 use Rattle.writer.specs.Typist.{entered_of, entered_by, turn_laid}
 
 -- r and out' are what the turn x gives in the buffer out

@@ -66,7 +66,8 @@ by_choice k = pick (eqb k 0) no_whole (a_whole k)
 -- and not read
 unfoldable pub value_at : ℕ → ℕ → List ℕ → Whole
 value_at row i word =
-    pick (has_field row i) (pick (amount_of (decimals_at row i) word).good (amount_of (decimals_at row i) word) (by_choice (chosen row i word))) (a_whole 0)
+    pick (has_field row i) (pick (amount_of (decimals_at row i) word).good (amount_of (decimals_at row i) word) (by_choice (chosen row i word)))
+    (a_whole 0)
 
 -- at most n values of a row, from field i on: the words behind the kind's
 unfoldable pub values_from : ℕ → ℕ → ℕ → List ℕ → Read

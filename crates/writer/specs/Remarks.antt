@@ -9,7 +9,8 @@ use Rattle.typed_words.specs.Words.{nth_word, nth_part}
 use Rattle.typed_words.specs.Amounts.{amount_of}
 use Rattle.codec.specs.Table.{fields, last_row}
 use Rattle.grams.specs.Round.{round_div}
-use Rattle.names.specs.Names.{kind_name, kind_names, field_name, field_names, is_choice, choices_of, expected, decimals_at, class_name, sentence, shown}
+use Rattle.names.specs.Names.{kind_name, kind_names, field_name, field_names, is_choice, choices_of, expected, decimals_at, class_name}
+use Rattle.names.specs.Names.{sentence, shown}
 use Rattle.writer.specs.declared.typed_line.Entry.{Entry}
 use Rattle.writer.specs.Line.{row_of_line, has_field}
 use Rattle.account.specs.declared.Account.{Account}
@@ -84,7 +85,10 @@ withheld_text failed = ascii "close withheld: line " ++ (decimal failed ++ ascii
 abbrev pub range_text : ℕ → ℕ → List ℕ → List ℕ
 range_text k field xs =
     ascii " field "
-    ++ (decimal field ++ (ascii ":" ++ (field_name k (field - 1) ++ (ascii ": " ++ (quoted (nth_word field xs) ++ (ascii " is out of its range; expected" ++ expected k (field - 1)))))))
+    ++ (decimal field
+    ++ (ascii ":"
+    ++ (field_name k (field - 1)
+    ++ (ascii ": " ++ (quoted (nth_word field xs) ++ (ascii " is out of its range; expected" ++ expected k (field - 1)))))))
 
 -- the values of a farm record of version 1, or of version 2
 abbrev pub either_text : List ℕ
@@ -96,7 +100,8 @@ many_text n = decimal n ++ pick (eqb n 1) (ascii " value") (ascii " values")
 
 -- how many values a kind takes: the farm record of version 2 one more
 abbrev pub takes_text : ℕ → ℕ → List ℕ
-takes_text k row = pick (eqb k 1) (decimal (length (fields 1)) ++ (ascii " or " ++ many_text (length (fields last_row)))) (many_text (length (fields row)))
+takes_text k row = pick (eqb k 1) (decimal (length (fields 1)) ++ (ascii " or " ++ many_text (length (fields last_row))))
+    (many_text (length (fields row)))
 
 abbrev pub names_text : ℕ → ℕ → List ℕ
 names_text k row = pick (eqb k 1) either_text (field_names row)
@@ -138,7 +143,8 @@ shares_text e =
 
 abbrev pub parts_text : Entry → List ℕ
 parts_text e =
-    ascii ": the volatilised and the leached part must make at most 1.000: together " ++ pointed 3 (sum_of (get_or e.values 8 0) (get_or e.values 10 0))
+    ascii ": the volatilised and the leached part must make at most 1.000: together "
+    ++ pointed 3 (sum_of (get_or e.values 8 0) (get_or e.values 10 0))
 
 abbrev pub grazed_text : Account → Entry → List ℕ
 grazed_text a e = ascii ": fraction: " ++ together_text 2 a.used.grazed (get_or e.values 3 0) 10000

@@ -54,7 +54,8 @@ one_remark n who e i count = pick (is_unusual who e i && not (leb 20 count)) (va
 
 unfoldable pub remarks_from : ℕ → ℕ → ℕ → ℕ → Entry → ℕ → List ℕ
 remarks_from zero i n who e count = []
-remarks_from (suc m) i n who e count = one_remark n who e i count ++ remarks_from m (suc i) n who e (pick (is_unusual who e i) (one_more_lem count) count)
+remarks_from (suc m) i n who e count = one_remark n who e i count
+    ++ remarks_from m (suc i) n who e (pick (is_unusual who e i) (one_more_lem count) count)
 
 -- what is told of the entry e in line n
 abbrev pub unusual_remarks : ℕ → Account → Entry → ℕ → List ℕ

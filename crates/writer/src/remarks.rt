@@ -4,7 +4,8 @@ ghost use Rattle.base.specs.Choice.{pick};
 ghost use Rattle.printing.specs.Ascii.{ascii};
 ghost use Rattle.printing.specs.Said.{Said};
 ghost use Rattle.writer.specs.Typist.{run_ended};
-ghost use Rattle.writer.specs.Remarks.{withheld_text, line_head, early_text, lost_text, run_head, run_text, is_told, words_of, kind_written, ended_text};
+ghost use Rattle.writer.specs.Remarks.{withheld_text, line_head, early_text, lost_text, run_head, run_text, is_told, words_of, kind_written};
+ghost use Rattle.writer.specs.Remarks.{ended_text};
 ghost use Rattle.writer.specs.Remarks.{written_text, own_text, goes_on_lem, has_word, remark_text, end_remark};
 ghost use Rattle.writer.specs.Remarks.{status_of, more_text, left_out_text, no_close_text, others_text, counts_text, open_text, verdict_text};
 

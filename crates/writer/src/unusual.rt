@@ -2,7 +2,8 @@
 ghost use Rattle.std.specs.Prelude.{◌≡◌, ◌≤◌, length};
 ghost use Rattle.base.specs.Choice.{pick, one_more_lem};
 ghost use Rattle.printing.specs.Said.{Said};
-ghost use Rattle.writer.specs.Unusual.{who_for, is_looked_at, outside, is_unusual, unusual_after, what_text, value_remark, one_remark, unusual_remarks};
+ghost use Rattle.writer.specs.Unusual.{who_for, is_looked_at, outside, is_unusual, unusual_after, what_text, value_remark, one_remark};
+ghost use Rattle.writer.specs.Unusual.{unusual_remarks};
 
 use crate::typed_line::Entry;
 use account::Account;

@@ -12,14 +12,16 @@ pub write-requires : goal.write-requires
 write-requires c =
     let some_bytes : Written-so c.args.state c.args.kind
     (row_for c.args.kind (length c.args.values.now))
-    c.args.values.now (length c.args.out.now) = bytes-so _ _ _ _ _ (λ e. c.if-w-ne0.true (ap (λ (w : Written). w.written) c.answered-w.ensures ∙ e)) in
+    c.args.values.now (length c.args.out.now) = bytes-so _ _ _ _ _
+    (λ e. c.if-w-ne0.true (ap (λ (w : Written). w.written) c.answered-w.ensures ∙ e)) in
     let w = some_bytes in rw c.row_for.ensures (omega (arith, w.fits), of_row _ _ refl w.of)
 
 pub returns-then-w-ne0 : goal.returns-then-w-ne0
 returns-then-w-ne0 c =
     let some_bytes : Written-so c.args.state c.args.kind
     (row_for c.args.kind (length c.args.values.now))
-    c.args.values.now (length c.args.out.now) = bytes-so _ _ _ _ _ (λ e. c.if-w-ne0.true (ap (λ (w : Written). w.written) c.answered-w.ensures ∙ e)) in let m = meets-wrote _ _ _ _ _ c.answered-w.ensures
+    c.args.values.now (length c.args.out.now) = bytes-so _ _ _ _ _
+    (λ e. c.if-w-ne0.true (ap (λ (w : Written). w.written) c.answered-w.ensures ∙ e)) in let m = meets-wrote _ _ _ _ _ c.answered-w.ensures
     (some_bytes) (rw c.row_for.ensures at
     c.write.ensures) in record { result = m.0; buffer = m.1.0; count = m.1.1 }
 

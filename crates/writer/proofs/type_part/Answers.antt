@@ -25,7 +25,8 @@ returns c = let line = c in
     let test = line in
     let cut = test.cut_line-c.ensures in
     let start = test in
-    let done = line.type_line-l.ensures in let m = ended-call start.args.typing start.args.line.now start.args.part.now (length start.args.out.now) cut.value
+    let done = line.type_line-l.ensures in let m = ended-call start.args.typing start.args.line.now start.args.part.now
+    (length start.args.out.now) cut.value
     (not-false _ test.if-not-c.false) cut.line_after cut.taken_in_bounds
     line.whole.ensures line.type_line-l.result start.args.out.now (done.typist, (done.bytes, (done.record, done.remark))) c.next.ensures
     in record {

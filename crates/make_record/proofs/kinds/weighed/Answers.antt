@@ -21,26 +21,30 @@ write-requires c = let s = c in (omega (arith, length_most s.args.row), s.requir
 pub slice_bounds-r-end : goal.slice_bounds-r-end
 slice_bounds-r-end c =
     let fits : 2 + length_of c.args.row ≤ 28 = omega (arith, length_most c.args.row) in
-    let as_long : length c.write.new.out ≡ 28 = ap length c.write.ensures ∙ length-sets {A = ℕ} (replicate 28 0) 0 (record_bytes c.args.row c.args.v.now) in
+    let as_long : length c.write.new.out ≡ 28 = ap length c.write.ensures
+    ∙ length-sets {A = ℕ} (replicate 28 0) 0 (record_bytes c.args.row c.args.v.now) in
     omega (arith, fits, as_long, c.bytes_of-n.ensures)
 
 pub slice_bounds-judge-end : goal.slice_bounds-judge-end
 slice_bounds-judge-end c =
     let fits : 2 + length_of c.args.row ≤ 28 = omega (arith, length_most c.args.row) in
-    let record-lent : take c.bytes_of-n.result c.write.new.out ≡ record_bytes c.args.row c.args.v.now = at-start c.args.row c.args.v.now (replicate 28 0) (fits) c.write.ensures c.bytes_of-n.ensures in
+    let record-lent : take c.bytes_of-n.result c.write.new.out
+    ≡ record_bytes c.args.row c.args.v.now = at-start c.args.row c.args.v.now (replicate 28 0) (fits) c.write.ensures c.bytes_of-n.ensures in
     c.bytes_of-n.ensures ∙ sym (record-length c.args.row c.args.v.now) ∙ sym (ap length (record-lent))
 
 pub judge-requires : goal.judge-requires
 judge-requires c =
     let fits : 2 + length_of c.args.row ≤ 28 = omega (arith, length_most c.args.row) in
-    let record-lent : take c.bytes_of-n.result c.write.new.out ≡ record_bytes c.args.row c.args.v.now = at-start c.args.row c.args.v.now (replicate 28 0) (fits) c.write.ensures c.bytes_of-n.ensures in
+    let record-lent : take c.bytes_of-n.result c.write.new.out
+    ≡ record_bytes c.args.row c.args.v.now = at-start c.args.row c.args.v.now (replicate 28 0) (fits) c.write.ensures c.bytes_of-n.ensures in
     let p = c.requires in
     (p.0, p.1, whole _ _ p.2 (record-lent))
 
 pub returns : goal.returns
 returns c =
     let fits : 2 + length_of c.args.row ≤ 28 = omega (arith, length_most c.args.row) in
-    let record-lent : take c.bytes_of-n.result c.write.new.out ≡ record_bytes c.args.row c.args.v.now = at-start c.args.row c.args.v.now (replicate 28 0) (fits) c.write.ensures c.bytes_of-n.ensures in
+    let record-lent : take c.bytes_of-n.result c.write.new.out
+    ≡ record_bytes c.args.row c.args.v.now = at-start c.args.row c.args.v.now (replicate 28 0) (fits) c.write.ensures c.bytes_of-n.ensures in
     let b = c in
     let e = b in
     let p = e.requires in

@@ -18,4 +18,5 @@ returns c = let p1 = c in
     let p5 = p4 in
     let p6 = p5 in
     rw (ne_eqb _ _ c.if-days-eq0.false)
-    (p6.say_between-between.ensures ⟫ p5.say_kind-name.ensures ⟫ p4.say-blank.ensures ⟫ p3.say_number-number.ensures ⟫ p2.say-word.ensures ⟫ p1.say_of_year.ensures)
+    (p6.say_between-between.ensures ⟫ p5.say_kind-name.ensures ⟫ p4.say-blank.ensures ⟫ p3.say_number-number.ensures ⟫ p2.say-word.ensures
+    ⟫ p1.say_of_year.ensures)

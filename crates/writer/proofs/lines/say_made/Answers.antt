@@ -9,4 +9,5 @@ returns c = let p1 = c in
     let p3 = p2 in
     let p4 = p3 in
     let p5 = p4 in
-    rw p1.sum.ensures at (p5.say_pointed-first.ensures ⟫ p4.say-and.ensures ⟫ p3.say_pointed-second.ensures ⟫ p2.say-make.ensures ⟫ p1.say_pointed.ensures)
+    rw p1.sum.ensures at (p5.say_pointed-first.ensures ⟫ p4.say-and.ensures ⟫ p3.say_pointed-second.ensures ⟫ p2.say-make.ensures
+    ⟫ p1.say_pointed.ensures)

@@ -10,5 +10,6 @@ returns c = let p1 = c in
     let p4 = p3 in
     let p5 = p4 in
     let p6 = p5 in
-    rw p1.word.ensures at (p6.say-head.ensures ⟫ p5.say_kind-name.ensures ⟫ p4.say_field-field.ensures ⟫ p3.say-colon.ensures ⟫ p2.say_word-quoted.ensures
+    rw p1.word.ensures at (p6.say-head.ensures ⟫ p5.say_kind-name.ensures ⟫ p4.say_field-field.ensures ⟫ p3.say-colon.ensures
+    ⟫ p2.say_word-quoted.ensures
     ⟫ p1.say_fault.ensures)

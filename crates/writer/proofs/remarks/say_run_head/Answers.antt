@@ -13,4 +13,5 @@ returns c = let p1 = c in
     let p3 = p2 in
     let p4 = p3 in
     let p5 = p4 in
-    rw (ne_eqb _ _ p5.if-first-last.false) (p5.say-word.ensures ⟫ p4.say_number-from.ensures ⟫ p3.say-to.ensures ⟫ p2.say_number-end.ensures ⟫ p1.say.ensures)
+    rw (ne_eqb _ _ p5.if-first-last.false)
+    (p5.say-word.ensures ⟫ p4.say_number-from.ensures ⟫ p3.say-to.ensures ⟫ p2.say_number-end.ensures ⟫ p1.say.ensures)

@@ -17,7 +17,8 @@ pub record SoFar (out₀ : List ℕ) (at line : ℕ) (e : Entry) (before who n :
   pub most : i ≤ n
   pub same : length out ≡ length out₀
   pub inside : end ≤ length out
-  pub rest : (zs : List ℕ) (q : ℕ) → Said out zs end (remarks_from (n - i) i line who e count) q → Said out₀ zs at (remarks_from n 0 line who e before) q
+  pub rest : (zs : List ℕ) (q : ℕ) → Said out zs end (remarks_from (n - i) i line who e count) q
+      → Said out₀ zs at (remarks_from n 0 line who e before) q
 
 abbrev pub invariant-loop-i : goal.invariant-loop-i
 invariant-loop-i l = SoFar l.initial.out l.at l.number l.e l.before l.who l.n l.out l.count l.end l.i

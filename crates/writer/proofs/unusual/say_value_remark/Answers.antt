@@ -13,4 +13,5 @@ returns c = let p1 = c in
     let p5 = p4 in
     let p6 = p5 in
     let p7 = p6 in
-    p7.say-line.ensures ⟫ p6.say_number-n.ensures ⟫ p5.say-word.ensures ⟫ p4.say_what-what.ensures ⟫ p3.say-colon.ensures ⟫ p2.say_usual-usual.ensures ⟫ p1.say.ensures
+    p7.say-line.ensures ⟫ p6.say_number-n.ensures ⟫ p5.say-word.ensures ⟫ p4.say_what-what.ensures ⟫ p3.say-colon.ensures
+    ⟫ p2.say_usual-usual.ensures ⟫ p1.say.ensures

@@ -10,4 +10,5 @@ returns c = let p1 = c in
     let p4 = p3 in
     let p5 = p4 in
     let p6 = p5 in
-    p6.say_kind-kind.ensures ⟫ p5.say-comma.ensures ⟫ p4.say_field-field.ensures ⟫ p3.say-blank.ensures ⟫ p2.say_value-value.ensures ⟫ p1.say_unit.ensures
+    p6.say_kind-kind.ensures ⟫ p5.say-comma.ensures ⟫ p4.say_field-field.ensures ⟫ p3.say-blank.ensures ⟫ p2.say_value-value.ensures
+    ⟫ p1.say_unit.ensures
