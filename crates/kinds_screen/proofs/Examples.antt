@@ -28,7 +28,8 @@ pub record Right (row : ℕ) : Type 0 where
   pub within : first_bad (take (values_shown row) (fields row)) (values_in (line_said (example_of row)).entry) 0 ≡ 0
 
 pub examples-right : Right 1 × Right 2 × Right 3 × Right 4 × Right 5 × Right 6 × Right 7 × Right 8 × Right 9 × Right 10 × Right 11
-unfolding example_table line_said kind_of row_of_line kind_table named_from values_from value_at leading_of nth_word same_text_lem lowered amount_of number_from
+unfolding example_table line_said kind_of row_of_line kind_table named_from values_from value_at leading_of nth_word same_text_lem lowered amount_of
+    number_from
     decimals_table table first_bad chosen_from choice_table nth_part index_of index_after
 examples-right = (
   record { says = refl; kind = refl; by_row = refl; count = refl; within = refl },
