@@ -20,7 +20,7 @@ use Rattle.book.proofs.RecordRuns.{record-in}
 use Rattle.book.proofs.Fronts.{meaning}
 use Rattle.compare.specs.declared.places.Place.{Place}
 use Rattle.account.specs.Judge.{judge}
-use Rattle.walk.specs.Walk.{accepts, Entry, entry_of, records_in, entries_from, entries_after}
+use Rattle.walk.specs.Walk.{accepts, Entry, entry_of, records_in, entries_from}
 use Rattle.compare.specs.Records.{same}
 use Rattle.compare.specs.Moved.{times_in, as_often, all_as_often, same_details}
 use Rattle.compare.specs.Places.{left_of, onward}

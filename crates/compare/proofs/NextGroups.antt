@@ -1,16 +1,15 @@
 -- The steps between sections, as the code takes them.
 -- Assumes nothing.
-use Prim.Native.Nat.{ℕ, ◌+◌, ◌-◌, ◌≤◌, ◌<◌}
+use Prim.Native.Nat.{ℕ, ◌-◌, ◌≤◌, ◌<◌}
 use mathlib.Core.Path.{◌≡◌, refl, sym, ap, ◌∙◌, subst}
 use mathlib.Core.List.{List, [], ◌∷◌, ◌++◌}
 use mathlib.Core.Bool.{Bool, true, false, ◌&&◌, ◌||◌, not}
-use mathlib.Core.Logic.{◌⊎◌, ⊎_elim}
+use mathlib.Core.Logic.{⊎_elim}
 use native.Mathlib.Omega.{arith}
 use borrow.Author.Tests.{eq-eqb, ne_eqb, eqb-true, eqb-false, lt-ltb, le-ltb}
 use lib.ListN.{length, take, drop}
 use lib.Dec.{eqb, ltb}
-use Rattle.base.specs.Choice.{pick}
-use Rattle.base.proofs.Tests.{by-test, and_l, and_r, neither, or_cases, not-true, not-false, lt-or-ge, no_bool}
+use Rattle.base.proofs.Tests.{by-test, and_l, and_r, not-true, not-false, lt-or-ge, no_bool}
 use Rattle.printing.specs.Ascii.{ascii}
 use Rattle.printing.specs.Said.{Said}
 use Rattle.printing.proofs.Sayings.{said-none}
@@ -27,9 +26,9 @@ use Rattle.compare.specs.Records.{same}
 use Rattle.compare.specs.Places.{start, left_of, one_on_lem, onward, stands_in, part_end_lem, no_group, group_at, first_bytes}
 use Rattle.compare.specs.Values.{first_pair}
 use Rattle.compare.specs.Sections.{group_title, moved_text, same_each}
-use Rattle.compare.specs.Steps.{Stepping, Steps, at_places, ended, alone_side, opened, is_silent, open_text, removed_step, added_step, both_step, last_step_lem}
+use Rattle.compare.specs.Steps.{Stepping, Steps, at_places, alone_side, opened, is_silent, open_text, removed_step, added_step, both_step, last_step_lem}
 use Rattle.compare.specs.Steps.{group_step, no_step, stage_step, side_in, step_of}
-use Rattle.compare.proofs.Walks.{valid-start, valid-stands, left-none, passed-left, none_left}
+use Rattle.compare.proofs.Walks.{valid-start, valid-stands, left-none, passed-left}
 use Rattle.compare.proofs.Pieces.{open-silent, open_told}
 
 -- ---- a group alone

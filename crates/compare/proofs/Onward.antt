@@ -1,23 +1,21 @@
 -- What is left after the next records, and runs of them.
 -- Assumes nothing.
-use Prim.Native.Nat.{ℕ, zero, suc, ◌+◌, ◌-◌, ◌≤◌, ◌<◌, min}
+use Prim.Native.Nat.{ℕ, zero, suc, ◌+◌, ◌-◌, ◌≤◌, min}
 use mathlib.Core.Path.{◌≡◌, refl, sym, ap, ◌∙◌}
 use mathlib.Core.List.{List, [], ◌∷◌}
-use mathlib.Core.Bool.{Bool, true, false, ◌||◌}
+use mathlib.Core.Bool.{true, false}
 use native.Mathlib.Omega.{arith}
 use native.Mathlib.Nat.{sub-zero}
 use borrow.Author.Tests.{eqb-false}
 use lib.ListN.{length, take, drop, length-drop}
-use lib.Seq.{drop-drop, drop-nil, take-nil, take-take}
+use lib.Seq.{drop-drop, take-nil, take-take}
 use lib.Dec.{eqb}
-use Rattle.base.specs.Choice.{pick}
 use Rattle.base.proofs.Tests.{by-test, neither}
-use Rattle.account.specs.declared.Account.{Account}
 use Rattle.account.proofs.Keeps.{in-range-judge}
 use Rattle.account.specs.Range.{AccountInRange}
 use Rattle.walk.specs.declared.Next.{Next}
-use Rattle.walk.specs.Walk.{Entry, entry_of, next_of}
-use Rattle.walk.proofs.Walks.{Stands, stands, entries_next, entries-end}
+use Rattle.walk.specs.Walk.{Entry, next_of}
+use Rattle.walk.proofs.Walks.{stands, entries_next, entries-end}
 use Rattle.compare.specs.declared.places.Place.{Place}
 use Rattle.compare.specs.Inner.{Valid}
 use Rattle.compare.specs.Places.{left_of, stops_at, one_on_lem, onward}

@@ -9,7 +9,7 @@ use native.Mathlib.Omega.{arith}
 use native.Mathlib.Nat.{sub-zero}
 use borrow.Author.Tests.{eqb-true, eqb-false}
 use lib.ListN.{length, take, drop, length-drop}
-use lib.Seq.{drop-drop, take-nil, length-take-le}
+use lib.Seq.{drop-drop, take-nil}
 use lib.Dec.{eqb}
 use Rattle.base.specs.Choice.{pick}
 use Rattle.base.proofs.Tests.{neither, or_cases}
@@ -19,7 +19,6 @@ use Rattle.compare.specs.declared.places.Place.{Place}
 use Rattle.compare.specs.declared.places.Taken.{Taken}
 use Rattle.compare.specs.declared.runs.Counts.{Counts}
 use Rattle.compare.specs.declared.runs.Pair.{Pair}
-use Rattle.compare.specs.declared.plans.Plan.{Plan}
 use Rattle.walk.specs.Walk.{Entry, lines_of, entries_after}
 use Rattle.compare.specs.Records.{same}
 use Rattle.compare.specs.Places.{left_of, onward}

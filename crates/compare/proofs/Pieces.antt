@@ -1,13 +1,12 @@
 -- The pieces of a section, as the code says them.
 -- Assumes nothing.
-use Prim.Native.Nat.{ℕ, ◌+◌, ◌-◌, ◌≤◌, ◌<◌}
+use Prim.Native.Nat.{ℕ, ◌-◌}
 use mathlib.Core.Path.{◌≡◌, refl, sym, ap, ◌∙◌, subst}
 use mathlib.Core.List.{List, [], ◌∷◌, ◌++◌}
 use mathlib.Core.Bool.{Bool, true, false, ◌||◌}
-use mathlib.Core.Logic.{◌⊎◌, ⊎_elim}
+use mathlib.Core.Logic.{⊎_elim}
 use native.Mathlib.Omega.{arith}
 use borrow.Author.Tests.{eqb-true, ne_eqb}
-use lib.ListN.{length, take, drop}
 use lib.Dec.{eqb}
 use Rattle.base.specs.Choice.{pick}
 use Rattle.base.proofs.Tests.{or_cases}
@@ -22,7 +21,7 @@ use Rattle.compare.specs.declared.Step.{Step}
 use Rattle.compare.specs.declared.places.Place.{Place}
 use Rattle.compare.specs.declared.places.Taken.{Taken}
 use Rattle.compare.specs.Inner.{Turned}
-use Rattle.compare.specs.Places.{left_of, onward}
+use Rattle.compare.specs.Places.{onward}
 use Rattle.compare.specs.Values.{alone_text, pair_text, first_alone, first_pair}
 use Rattle.compare.specs.Sections.{moved_text, others_text, tail_text}
 use Rattle.line_bytes.specs.Lines.{figure_count}

@@ -1,28 +1,25 @@
 -- Sections, as the code opens them and tells of them.
 -- Assumes nothing.
-use Prim.Native.Nat.{ℕ, zero, suc, ◌+◌, ◌-◌, ◌≤◌, ◌<◌, min}
-use mathlib.Core.Path.{◌≡◌, refl, sym, ap, ◌∙◌, subst}
-use mathlib.Core.List.{List, [], ◌∷◌, ◌++◌}
-use mathlib.Core.Bool.{Bool, true, false, ◌&&◌, ◌||◌, not}
+use Prim.Native.Nat.{ℕ, ◌+◌, ◌-◌, ◌≤◌}
+use mathlib.Core.Path.{◌≡◌, refl, ap, ◌∙◌}
+use mathlib.Core.List.{List, [], ◌∷◌}
+use mathlib.Core.Bool.{Bool, true, false, not}
 use native.Mathlib.Omega.{arith}
-use borrow.Author.Tests.{eqb-true, eqb-false, eq-eqb, ne_eqb}
-use lib.ListN.{length, take, drop}
+use borrow.Author.Tests.{eqb-true}
+use lib.ListN.{length, take}
 use lib.Dec.{eqb}
 use Rattle.base.specs.Choice.{pick}
-use Rattle.base.proofs.Tests.{by-test, and_l, and_r, neither, or_cases}
-use Rattle.printing.specs.Ascii.{ascii}
-use Rattle.printing.specs.Said.{Said}
+use Rattle.base.proofs.Tests.{by-test, and_l, and_r}
 use Rattle.walk.specs.Walk.{Entry}
 use Rattle.compare.specs.declared.Cursor.{Cursor}
 use Rattle.compare.specs.declared.Side.{Side}
-use Rattle.compare.specs.declared.Step.{Step}
 use Rattle.compare.specs.declared.places.Place.{Place}
 use Rattle.compare.specs.declared.plans.Plan.{Plan}
 use Rattle.compare.specs.Inner.{Valid}
 use Rattle.compare.specs.InnerSides.{ValidSide, Opens}
 use Rattle.compare.specs.Places.{start, left_of, onward, ends, part_of, part_end_lem}
-use Rattle.compare.specs.Plans.{no_runs, runs_of, front_of, back_of, moved_of, plan_of, old_told, new_told, moved_many}
-use Rattle.compare.specs.Steps.{Stepping, Steps, at_places, side_after, opened}
+use Rattle.compare.specs.Plans.{front_of, back_of, plan_of, old_told, new_told, moved_many}
+use Rattle.compare.specs.Steps.{at_places, side_after, opened}
 use Rattle.compare.proofs.Onward.{number-onward}
 use Rattle.compare.proofs.Pairs.{leading-left, leading-right}
 

@@ -1,19 +1,19 @@
 -- The next group, its subtotal and the total, as the code finds them.
 -- Assumes nothing.
 use Prim.Native.Nat.{ℕ, ◌-◌, ◌≤◌, ◌<◌, min}
-use mathlib.Core.Path.{◌≡◌, refl, sym, ap, ◌∙◌}
+use mathlib.Core.Path.{◌≡◌, refl, sym}
 use mathlib.Core.List.{List, [], ◌∷◌}
 use mathlib.Core.Bool.{Bool, true, false, not}
 use mathlib.Core.Logic.{⊎_elim}
 use native.Mathlib.Omega.{arith}
 use borrow.Author.Tests.{eq-eqb, ne_eqb}
-use lib.ListN.{length, get_or, take, drop, length-take}
+use lib.ListN.{length, get_or, take, length-take}
 use lib.Seq.{take_all, take-take}
 use Rattle.base.proofs.Tests.{lt-or-ge, not-true, not-false}
 use Rattle.line_bytes.specs.Lines.{line_size, total_size}
 use Rattle.account.specs.declared.Account.{Account}
 use Rattle.account.specs.Judge.{kind_byte}
-use Rattle.walk.specs.Walk.{Entry, lines_of, entry_of, entries_after}
+use Rattle.walk.specs.Walk.{Entry, entries_after}
 use Rattle.compare.specs.declared.places.Taken.{Taken}
 use Rattle.compare.specs.Inner.{Turned, Written}
 use Rattle.compare.specs.Records.{values_in}

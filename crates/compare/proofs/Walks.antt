@@ -1,29 +1,25 @@
 -- A walk through a book, place after place.
 -- Assumes nothing.
-use Prim.Native.Nat.{ℕ, zero, suc, ◌+◌, ◌-◌, ◌≤◌, ◌<◌, min}
-use mathlib.Core.Path.{◌≡◌, refl, sym, ap, ◌∙◌, subst}
+use Prim.Native.Nat.{ℕ, zero, suc, ◌+◌, ◌-◌, ◌≤◌, ◌<◌}
+use mathlib.Core.Path.{◌≡◌, refl, sym, ap, ◌∙◌}
 use mathlib.Core.List.{List, [], ◌∷◌}
-use mathlib.Core.Bool.{Bool, true, false, ◌&&◌, ◌||◌}
+use mathlib.Core.Bool.{Bool, true, false, ◌&&◌}
 use native.Mathlib.Omega.{arith}
-use native.Mathlib.Nat.{sub-zero, add-zero}
-use native.Mathlib.Numerals.{add-one}
+use native.Mathlib.Nat.{sub-zero}
 use borrow.Author.Tests.{leb-true}
 use lib.ListN.{length, take, drop, length-drop, drop_of_length-le}
 use lib.Seq.{drop-drop, length-take-le}
-use lib.Dec.{eqb, leb}
-use Rattle.base.specs.Choice.{pick}
-use Rattle.base.proofs.Tests.{by-test, and_l, and_r}
-use Rattle.account.specs.declared.Account.{Account}
-use Rattle.account.specs.Range.{AccountInRange, account_in_range}
+use lib.Dec.{leb}
+use Rattle.base.proofs.Tests.{and_l, and_r}
+use Rattle.account.specs.Range.{account_in_range}
 use Rattle.account.proofs.Clauses.{in-range-parts}
-use Rattle.account.proofs.Keeps.{in-range-none, in-range-judge}
-use Rattle.walk.specs.declared.Next.{Next}
-use Rattle.walk.specs.Walk.{Entry, entry_of, next_of, entries_after}
-use Rattle.walk.proofs.Walks.{Stands, stands, entries-nil, entries_next, entries-end}
+use Rattle.account.proofs.Keeps.{in-range-none}
+use Rattle.walk.specs.Walk.{Entry, entry_of}
+use Rattle.walk.proofs.Walks.{entries-nil}
 use Rattle.compare.specs.declared.places.Place.{Place}
 use Rattle.compare.specs.declared.places.Taken.{Taken}
 use Rattle.compare.specs.Inner.{Valid, Turned}
-use Rattle.compare.specs.Places.{start, left_of, stops_at, one_on_lem, onward, stands_in, ends, part_of, after_part}
+use Rattle.compare.specs.Places.{start, left_of, one_on_lem, onward, stands_in, ends, part_of}
 
 pub valid-start : (xs : List ℕ) → Valid xs start
 valid-start xs = record { range = in-range-none; few = omega arith; inside = omega arith }

@@ -3,13 +3,12 @@
 use Prim.Native.Nat.{ℕ, suc, ◌+◌, ◌-◌, ◌*◌, ◌≤◌, ◌<◌}
 use native.Mathlib.Omega.{arith}
 use native.Mathlib.Numerals.{add-one}
-use mathlib.Core.Path.{◌≡◌, refl, sym, ap, ◌∙◌}
-use mathlib.Core.List.{List, [], ◌∷◌, ◌++◌}
+use mathlib.Core.Path.{◌≡◌, refl}
+use mathlib.Core.List.{List, [], ◌++◌}
 use mathlib.Core.Bool.{Bool, true, false, ◌&&◌, ◌||◌, not}
 use borrow.Author.Tests.{lt-ltb, le-ltb, leb-true}
-use lib.ListN.{length, get_or, take, drop}
-use lib.Dec.{leb, ltb, eqb}
-use Rattle.base.specs.Choice.{pick}
+use lib.ListN.{length, get_or}
+use lib.Dec.{leb, eqb}
 use Rattle.base.proofs.Tests.{not-true, not-false, and_r}
 use Rattle.codec.specs.Codec.{val_at}
 use Rattle.codec.specs.Table.{fields, size, last_row}

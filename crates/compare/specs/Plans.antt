@@ -1,7 +1,7 @@
 -- Document 02, W9: "An adviser corrected one pen and the member asked whether the others were touched." Two runs of records compared: how many are
 -- the same at the beginning and at the end, whether those between are the same in another order, and how many are the same and give other lines.
 -- Assumes nothing.
-use Rattle.std.specs.Prelude.{ℕ, ◌+◌, ◌-◌, min, List, [], ◌∷◌, Bool, true, false, ◌&&◌, not, length, take, drop, eqb}
+use Rattle.std.specs.Prelude.{ℕ, ◌+◌, ◌-◌, min, List, [], ◌∷◌, Bool, ◌&&◌, not, length, take, drop, eqb}
 use Rattle.base.specs.Choice.{pick}
 use Rattle.compare.specs.declared.plans.Plan.{Plan}
 use Rattle.compare.specs.declared.runs.Counts.{Counts}

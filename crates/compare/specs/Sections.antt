@@ -9,7 +9,6 @@ use Rattle.printing.specs.Decimal.{decimal}
 use Rattle.why.specs.Why.{why_of}
 use Rattle.why.specs.Remarks.{machine_text}
 use Rattle.walk.specs.Walk.{Entry, entries_of}
-use Rattle.compare.specs.declared.plans.Plan.{Plan}
 use Rattle.compare.specs.Records.{same}
 use Rattle.compare.specs.Places.{part_of, after_part, no_group, group_at, group_size, after_group, first_bytes, subtotal_of, close_lines, last_line_lem}
 use Rattle.compare.specs.Plans.{plan_of, old_told, new_told, moved_many}

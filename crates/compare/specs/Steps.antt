@@ -1,7 +1,7 @@
 -- The comparison step by step, as a program prints it: a cursor says where it has come to in either book, and each step gives a piece of the text and
 -- the next cursor. A record is a step of its own, so that no piece is long, and either book is walked once, a part of it a few times more.
 -- Assumes nothing.
-use Rattle.std.specs.Prelude.{ℕ, zero, suc, ◌+◌, ◌-◌, ◌≡◌, List, [], ◌++◌, Bool, true, false, ◌&&◌, length, eqb, ltb}
+use Rattle.std.specs.Prelude.{ℕ, zero, suc, ◌+◌, ◌-◌, ◌≡◌, List, [], ◌++◌, Bool, true, false, ◌&&◌, eqb, ltb}
 use Rattle.base.specs.Choice.{pick}
 use Rattle.printing.specs.Ascii.{ascii}
 use Rattle.printing.specs.Said.{Said}

@@ -1,0 +1,9 @@
+-- Assumes nothing.
+use mathlib.Core.Path.{refl}
+use Rattle.compare.proofs.plans.old_told.Goals as goal
+
+pub returns-then-p : goal.returns-then-p
+returns-then-p c = rw c.if-p.true refl
+
+pub returns : goal.returns
+returns c = rw c.if-p.false (rw c.less.ensures at c.less-2.ensures)

@@ -1,0 +1,9 @@
+-- Assumes nothing.
+use Rattle.printing.proofs.Sayings.{said-none}
+use Rattle.compare.proofs.values.say_between.Goals as goal
+
+pub returns-then-any : goal.returns-then-any
+returns-then-any c = rw c.if-any.true c.say.ensures
+
+pub returns : goal.returns
+returns c = rw c.if-any.false (said-none c.requires)

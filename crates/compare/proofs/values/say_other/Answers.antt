@@ -1,0 +1,9 @@
+-- Assumes nothing.
+use Rattle.printing.proofs.Sayings.{◌⟫◌, said-none}
+use Rattle.compare.proofs.values.say_other.Goals as goal
+
+pub returns-then-alone : goal.returns-then-alone
+returns-then-alone c = rw c.if-alone.true (said-none c.requires)
+
+pub returns : goal.returns
+returns c = rw c.if-alone.false (c.say-now.ensures ⟫ c.say_value.ensures)
