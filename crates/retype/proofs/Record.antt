@@ -67,7 +67,8 @@ values-back row line (suc n) i (v ∷ vs) h p w =
 
 abbrev Line : ℕ → List ℕ → List ℕ → Type 0
 Line k v line =
-    AllBack k 0 v → length v ≡ length (fields k) → nth_word 4 line ≡ nth_word 3 (values_typed k 0 v) → nth_word 5 line ≡ nth_word 4 (values_typed k 0 v)
+    AllBack k 0 v → length v ≡ length (fields k) → nth_word 4 line ≡ nth_word 3 (values_typed k 0 v) → nth_word 5 line
+    ≡ nth_word 4 (values_typed k 0 v)
     → row_of_line (row_kind k) line ≡ k
 
 -- three values are no four words
@@ -308,7 +309,8 @@ module _ (s : State) (y : Ready s) (r : List ℕ) (w : WholeRecord r) (b : Bytes
 
     -- a close waits
     pub close-again : Clean t → (n : ℕ) → kind_byte r ≡ 8
-        → turn t n (typed_line (record_row r) (values_of r)) record_most ≡ record { typist = waits (hears t (kind_byte r)) n; fate = Waits; bytes = [] }
+        → turn t n (typed_line (record_row r) (values_of r)) record_most
+        ≡ record { typist = waits (hears t (kind_byte r)) n; fate = Waits; bytes = [] }
     close-again c n k =
         sym (said-turn t n (typed_line (record_row r) (values_of r)) record_most (sym line-says))
         ∙ goes-waiting t c n said' record_most k ∙ ap (λ (x : Write). close_by x.answer (hears t (kind_byte r)) n said') answered

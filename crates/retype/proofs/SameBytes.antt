@@ -187,5 +187,6 @@ all-again a f (r ∷ rs) p t c e n h =
 
 pub retyped : (rs : List (List ℕ)) → AllAccepted no_record rs → SameBytes no_record rs (typed_whole no_record_yet (text_typed rs))
 retyped rs p =
-    all-again no_record in-range-none rs p (beginning no_record_yet) (record { lost = refl; failed = refl; close = refl; run = refl; told = refl }) refl
+    all-again no_record in-range-none rs p (beginning no_record_yet)
+    (record { lost = refl; failed = refl; close = refl; run = refl; told = refl }) refl
     1 (omega arith)

@@ -15,7 +15,7 @@ use Rattle.account.specs.Line.{joined}
 use Rattle.account.specs.Judge.{record_row, values_of}
 use Rattle.walk.specs.Walk.{next_of, records_in, entries_after}
 use Rattle.retype.specs.declared.Retyped.{Retyped}
-use Rattle.retype.specs.Typed.{line_typed, text_typed, account_behind}
+use Rattle.retype.specs.Typed.{text_typed, account_behind}
 
 -- ---- the text of a book
 
