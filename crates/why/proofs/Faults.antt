@@ -89,7 +89,8 @@ module _ (a : Account) (r : List ℕ) where
       let z : (accepted a (record_row r) (values_of r)).account.stage ≡ 3 = rw (accepts e) at s in
       omega (arith, g, z)
 
-  stored : (number_of a r ≡ 0 → ⊥) → (judge a r).account ≡ refused a (number_of a r) (pick (eqb (number_of a r) 7) (bad_field (record_row r) (values_of r)) 0)
+  stored : (number_of a r ≡ 0 → ⊥)
+      → (judge a r).account ≡ refused a (number_of a r) (pick (eqb (number_of a r) 7) (bad_field (record_row r) (values_of r)) 0)
   unfolding judge
   stored n = rw (ne_eqb _ _ n)
 
@@ -142,7 +143,8 @@ module _ {a : Account} {r : List ℕ} {code field : ℕ} (f : Faulty a r code fi
       (p, omega (arith, p, n), omega (arith, p, m, fields-few (record_row r)))
 
   -- from 8 on each value is in its range
-  pub in-range : 8 ≤ code → (i : ℕ) → i < length (fields (record_row r)) → Within (get_or (fields (record_row r)) i (0, 0, 0)) (get_or (values_of r) (0 + i) 0)
+  pub in-range : 8 ≤ code → (i : ℕ) → i < length (fields (record_row r))
+      → Within (get_or (fields (record_row r)) i (0, 0, 0)) (get_or (values_of r) (0 + i) 0)
   in-range h = ranges (values_of r) (fields (record_row r)) 0 (eqb-true _ _ (not-false _ (f.broken.values.in_range.0 (omega arith))))
 
   -- 10 is of kind 4, 5 or 10

@@ -33,40 +33,41 @@ because code field kind group value limit =
 
 -- a value with its unit
 ym : reason_text (because 7 3 3 12 22666 2000) ≡ ascii "record 2 (enteric, group 12): Ym is 226.66 per cent; it must be at most 20.00\n"
-unfolding reason_text where_text compared_text subject_table kind_table field_table decimals_table unit_table sort_of nth_part index_of index_after decimal
-    digits_by pointed last_digits without_last
+unfolding reason_text where_text compared_text subject_table kind_table field_table decimals_table unit_table sort_of nth_part index_of index_after
+    decimal digits_by pointed last_digits without_last
 ym = refl
 
 -- the farm's own records have no group
 amount : reason_text (because 7 2 6 12 10000001 10000000)
     ≡ ascii "record 2 (energy): amount is 1000000.1 units; it must be at most 1000000.0\n"
-unfolding reason_text where_text compared_text subject_table kind_table field_table decimals_table unit_table sort_of nth_part index_of index_after decimal
-    digits_by pointed last_digits without_last
+unfolding reason_text where_text compared_text subject_table kind_table field_table decimals_table unit_table sort_of nth_part index_of index_after
+    decimal digits_by pointed last_digits without_last
 amount = refl
 
 -- sums, of cattle, a pig and grazing
-shares : reason_text (because 10 0 4 12 9000 10000) ≡ ascii "record 2 (cattle, group 12): the sum of the shares is 90.00 per cent; it must be 100.00\n"
-unfolding reason_text where_text compared_text subject_table kind_table field_table decimals_table unit_table sort_of nth_part index_of index_after decimal
-    digits_by pointed last_digits without_last
+shares : reason_text (because 10 0 4 12 9000 10000)
+    ≡ ascii "record 2 (cattle, group 12): the sum of the shares is 90.00 per cent; it must be 100.00\n"
+unfolding reason_text where_text compared_text subject_table kind_table field_table decimals_table unit_table sort_of nth_part index_of index_after
+    decimal digits_by pointed last_digits without_last
 shares = refl
 
 parts : reason_text (because 10 0 5 12 1100 1000)
     ≡ ascii "record 2 (pig, group 12): the sum of the volatilised and leached parts is 1.100; it must be at most 1.000\n"
-unfolding reason_text where_text compared_text subject_table kind_table field_table decimals_table unit_table sort_of nth_part index_of index_after decimal
-    digits_by pointed last_digits without_last
+unfolding reason_text where_text compared_text subject_table kind_table field_table decimals_table unit_table sort_of nth_part index_of index_after
+    decimal digits_by pointed last_digits without_last
 parts = refl
 
 fractions : reason_text (because 10 0 10 12 11000 10000)
     ≡ ascii "record 2 (grazing, group 12): the sum of fractions with this record is 110.00 per cent; it must be at most 100.00\n"
-unfolding reason_text where_text compared_text subject_table kind_table field_table decimals_table unit_table sort_of nth_part index_of index_after decimal
-    digits_by pointed last_digits without_last
+unfolding reason_text where_text compared_text subject_table kind_table field_table decimals_table unit_table sort_of nth_part index_of index_after
+    decimal digits_by pointed last_digits without_last
 fractions = refl
 
 -- whole numbers
 days : reason_text (because 9 0 3 12 381 366)
     ≡ ascii "record 2 (enteric, group 12): the sum of days with this record is 381; it must be at most 366\n"
-unfolding reason_text where_text compared_text subject_table kind_table field_table decimals_table unit_table sort_of nth_part index_of index_after decimal
-    digits_by pointed last_digits without_last
+unfolding reason_text where_text compared_text subject_table kind_table field_table decimals_table unit_table sort_of nth_part index_of index_after
+    decimal digits_by pointed last_digits without_last
 days = refl
 
 ends : (lack_text 1 ≡ ascii "the book ends inside a record, which needs 1 more byte\n")

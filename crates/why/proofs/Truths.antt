@@ -138,7 +138,8 @@ module _ (xs : List ℕ) where
   next-length = (length-by (run no_record_yet xs).state (run no_record_yet xs).left xs, λ e. rw (lt-ltb _ _ e.0, lt-ltb _ _ e.1))
 
   -- A refused book is one that rule 2 refuses.
-  pub why-refused-so : (run no_record_yet xs).state.account.stage ≡ 3 → why_of xs ≡ Refused (reason_of (run no_record_yet xs).state.account.refusal xs)
+  pub why-refused-so : (run no_record_yet xs).state.account.stage ≡ 3
+      → why_of xs ≡ Refused (reason_of (run no_record_yet xs).state.account.refusal xs)
   unfolding why_of why_by
   why-refused-so e =
       rw (le-ltb (run no_record_yet xs).state.account.stage 2 (omega arith), ne_eqb (run no_record_yet xs).state.account.stage 2 (λ z. omega arith))

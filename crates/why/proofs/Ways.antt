@@ -131,7 +131,8 @@ module _ {xs : List ℕ} {a : Account} {at : ℕ} (w : Way xs a at) where
         }
 
     -- the state behind it, where it ends the book
-    ended-state : 2 ≤ (judge a (take n (drop at xs))).account.stage → (run no_record_yet xs).state ≡ holding (judge a (take n (drop at xs))).account []
+    ended-state : 2 ≤ (judge a (take n (drop at xs))).account.stage
+        → (run no_record_yet xs).state ≡ holding (judge a (take n (drop at xs))).account []
     ended-state h =
         let b = rw (← k) at (book-whole a (drop at xs) w.early f) in
         state-is ∙ rw (b, book-ended (judge a (take n (drop at xs))).account (drop n (drop at xs)) h) refl

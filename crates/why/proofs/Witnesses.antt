@@ -99,32 +99,38 @@ unfolding why_of why_by run book book_by front val_at first judge accepted sort_
 cut-length = (refl, refl, refl)
 
 pub broken-1 : (why_of (farm ++ (0 ∷ 3 ∷ [])) ≡ told 1 1 11 12 0 0 3 4) × (why_of (farm ++ (0 ∷ 27 ∷ 5 ∷ [])) ≡ told 1 1 11 12 0 0 27 26)
-unfolding why_of why_by run book book_by front val_at first judge accepted sort_of table size values_at first_bad in_place_lem records_of records_by compared
+unfolding why_of why_by run book book_by front val_at first judge accepted sort_of table size values_at first_bad in_place_lem records_of records_by
+    compared
 broken-1 = (refl, refl)
 
 -- a version of 3; and of a heading one of 2
 pub broken-2 : (why_of (joined (farm ∷ heading 3 2 12 1 ∷ [])) ≡ told 2 1 11 19 0 2 3 1)
     × (why_of (joined (farm ∷ heading 2 2 12 1 ∷ [])) ≡ told 2 1 11 19 0 2 2 1)
-unfolding why_of why_by run book book_by front val_at first judge accepted sort_of table size values_at first_bad in_place_lem records_of records_by compared
+unfolding why_of why_by run book book_by front val_at first judge accepted sort_of table size values_at first_bad in_place_lem records_of records_by
+    compared
 broken-2 = (refl, refl)
 
 -- that of a farm record is below 1 or above 2
 pub broken-2-farm : (why_of (short_farm 0) ≡ told 2 0 0 10 0 1 0 1) × (why_of (short_farm 3) ≡ told 2 0 0 10 0 1 3 2)
-unfolding why_of why_by run book book_by front val_at first judge accepted sort_of table size values_at first_bad in_place_lem records_of records_by compared
+unfolding why_of why_by run book book_by front val_at first judge accepted sort_of table size values_at first_bad in_place_lem records_of records_by
+    compared
 broken-2-farm = (refl, refl)
 
 pub broken-3 : (why_of (joined (farm ∷ heading 1 0 12 1 ∷ [])) ≡ told 3 1 11 19 0 0 0 1)
     × (why_of (joined (farm ∷ heading 1 11 12 1 ∷ [])) ≡ told 3 1 11 19 0 11 11 10)
-unfolding why_of why_by run book book_by front val_at first judge accepted sort_of table size values_at first_bad in_place_lem records_of records_by compared
+unfolding why_of why_by run book book_by front val_at first judge accepted sort_of table size values_at first_bad in_place_lem records_of records_by
+    compared
 broken-3 = (refl, refl)
 
 pub broken-4 : why_of (joined (farm ∷ heading 1 3 12 1 ∷ [])) ≡ told 4 1 11 19 0 3 7 10
-unfolding why_of why_by run book book_by front val_at first judge accepted sort_of table size values_at first_bad in_place_lem records_of records_by compared
+unfolding why_of why_by run book book_by front val_at first judge accepted sort_of table size values_at first_bad in_place_lem records_of records_by
+    compared
 broken-4 = refl
 
 -- version 2 with the length of version 1
 pub broken-4-farm : why_of (short_farm 2) ≡ told_of 4 0 0 10 0 1 11 0 9 12
-unfolding why_of why_by run book book_by front val_at first judge accepted sort_of table size values_at first_bad in_place_lem records_of records_by compared
+unfolding why_of why_by run book book_by front val_at first judge accepted sort_of table size values_at first_bad in_place_lem records_of records_by
+    compared
 broken-4-farm = refl
 
 -- below and above a range, a ration's days, a heading's class, the change and the years of a change of tillage, and the region of grazing
@@ -133,8 +139,8 @@ pub broken-7 : (why_of (headed (ration 0 ∷ [])) ≡ in_group 7 2 20 31 1 3 0 1
     × (why_of (joined (farm ∷ tillage 7 10 ∷ [])) ≡ told 7 1 11 23 3 9 7 6)
     × (why_of (joined (farm ∷ tillage 6 0 ∷ [])) ≡ told 7 1 11 23 4 9 0 1)
     × (why_of (headed (grazing 8 0 ∷ [])) ≡ in_group 7 2 20 29 1 10 8 7)
-unfolding why_of why_by run book book_by front val_at first judge accepted sort_of table size values_at first_bad in_place_lem records_of records_by compared
-    values_compared
+unfolding why_of why_by run book book_by front val_at first judge accepted sort_of table size values_at first_bad in_place_lem records_of records_by
+    compared values_compared
 broken-7 = (refl, refl, refl, refl, refl)
 
 -- a CH4 factor of 0 and one of 1001, an N2O factor of 0 and one of 1001
@@ -142,30 +148,30 @@ pub broken-7-farm : (why_of (factors 0 0 1 54) ≡ told_of 7 0 0 13 3 1 11 0 0 1
     × (why_of (factors 3 233 1 54) ≡ told_of 7 0 0 13 3 1 11 0 1001 1000)
     × (why_of (factors 0 21 0 0) ≡ told_of 7 0 0 13 4 1 11 0 0 1)
     × (why_of (factors 0 21 3 233) ≡ told_of 7 0 0 13 4 1 11 0 1001 1000)
-unfolding why_of why_by run book book_by front val_at first judge accepted sort_of table size values_at first_bad in_place_lem records_of records_by compared
-    values_compared
+unfolding why_of why_by run book book_by front val_at first judge accepted sort_of table size values_at first_bad in_place_lem records_of records_by
+    compared values_compared
 broken-7-farm = (refl, refl, refl, refl)
 
 pub broken-8 : why_of (headed (heading 1 2 12 1 ∷ [])) ≡ in_group 8 2 20 28 0 2 12 12
-unfolding why_of why_by run book book_by front val_at first judge accepted sort_of table size values_at first_bad in_place_lem records_of records_by compared
-    values_compared
+unfolding why_of why_by run book book_by front val_at first judge accepted sort_of table size values_at first_bad in_place_lem records_of records_by
+    compared values_compared
 broken-8 = refl
 
 pub broken-9 : why_of (headed (ration 200 ∷ ration 167 ∷ [])) ≡ in_group 9 3 32 43 0 3 367 366
-unfolding why_of why_by run book book_by front val_at first judge accepted sort_of table size values_at first_bad in_place_lem records_of records_by compared
-    values_compared
+unfolding why_of why_by run book book_by front val_at first judge accepted sort_of table size values_at first_bad in_place_lem records_of records_by
+    compared values_compared
 broken-9 = refl
 
 pub broken-12 : why_of (headed (close 5 ∷ [])) ≡ in_group 12 2 20 25 0 8 5 2
-unfolding why_of why_by run book book_by front val_at first judge accepted sort_of table size values_at first_bad in_place_lem records_of records_by compared
-    values_compared
+unfolding why_of why_by run book book_by front val_at first judge accepted sort_of table size values_at first_bad in_place_lem records_of records_by
+    compared values_compared
 broken-12 = refl
 
 -- no numbers: out of its place
 pub broken-6 : why_of (joined (farm ∷ ration 31 ∷ []))
     ≡ Refused (record { code = 6; number = 1; first = 11; last = 22; field = 0; kind = 3; row = 3; group = 0; some = false; value = 0; limit = 0 })
-unfolding why_of why_by run book book_by front val_at first judge accepted sort_of table size values_at first_bad in_place_lem records_of records_by compared
-    values_compared
+unfolding why_of why_by run book book_by front val_at first judge accepted sort_of table size values_at first_bad in_place_lem records_of records_by
+    compared values_compared
 broken-6 = refl
 
 -- cattle nitrogen: days, feed, protein, milk, milk protein, gain (two bytes each), then the shares
@@ -174,18 +180,18 @@ cattle gain solid =
     0 ∷ 20 ∷ 1 ∷ 4 ∷ 0 ∷ 30 ∷ 0 ∷ 0 ∷ 0 ∷ 0 ∷ 0 ∷ 0 ∷ 0 ∷ 0 ∷ 0 ∷ gain ∷ 0 ∷ solid ∷ 39 ∷ 15 ∷ 0 ∷ 0 ∷ []
 
 pub broken-10 : why_of (headed (cattle 0 2 ∷ [])) ≡ in_group 10 2 20 41 0 4 10001 10000
-unfolding why_of why_by run book book_by front val_at first judge accepted sort_of table size values_at first_bad in_place_lem records_of records_by compared
-    values_compared
+unfolding why_of why_by run book book_by front val_at first judge accepted sort_of table size values_at first_bad in_place_lem records_of records_by
+    compared values_compared
 broken-10 = refl
 
 -- the fractions of two records come to more than the whole
 pub broken-10-grazed : why_of (headed (grazing 3 0 ∷ grazing 3 1 ∷ [])) ≡ in_group 10 3 30 39 0 10 10001 10000
-unfolding why_of why_by run book book_by front val_at first judge accepted sort_of table size values_at first_bad in_place_lem records_of records_by compared
-    values_compared
+unfolding why_of why_by run book book_by front val_at first judge accepted sort_of table size values_at first_bad in_place_lem records_of records_by
+    compared values_compared
 broken-10-grazed = refl
 
 pub broken-11 : why_of (headed (cattle 1 1 ∷ []))
     ≡ Refused (record { code = 11; number = 2; first = 20; last = 41; field = 0; kind = 4; row = 4; group = 12; some = false; value = 0; limit = 0 })
-unfolding why_of why_by run book book_by front val_at first judge accepted sort_of table size values_at first_bad in_place_lem records_of records_by compared
-    values_compared below_zero
+unfolding why_of why_by run book book_by front val_at first judge accepted sort_of table size values_at first_bad in_place_lem records_of records_by
+    compared values_compared below_zero
 broken-11 = refl

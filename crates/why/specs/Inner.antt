@@ -1,5 +1,5 @@
--- For the contracts of the inner functions of src/compared, lib and values, in parts. A reader of the promises can pass this file over: no public
--- contract cites it.
+-- For the contracts of the inner functions of src/compared, lib and field_values, in parts. A reader of the promises can pass this file over: no
+-- public contract cites it.
 -- Assumes nothing.
 use Rattle.std.specs.Prelude.{ℕ, ◌+◌, ◌≤◌, ◌≡◌, List, ◌⊎◌, length, take, ltb, eqb}
 use Rattle.base.specs.Choice.{pick}

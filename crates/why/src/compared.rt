@@ -5,7 +5,7 @@ ghost use Rattle.account.specs.Judge.{record_row, values_of};
 ghost use Rattle.account.specs.Compared.{no_numbers, numbers, outside, bad_field, range_of, value_at, days_with, values_compared, compared};
 ghost use Rattle.why.specs.Inner.{told, Sized, Parted, parts_told, version_told, Faulty};
 
-use crate::values::value_at;
+use crate::field_values::value_at;
 use account::{Account, Used};
 use by_row::table::{highest, lowest, row_of};
 use codec::LAST_KIND;

@@ -3,7 +3,7 @@
 
 pub mod remarks; // remarks.rt: what machines and people are told
 mod compared; // compared.rt: the value and the limit
-mod values; // values.rt: a field's value and its range
+mod field_values; // field_values.rt: a field's value and its range
 
 ghost use Rattle.std.specs.Prelude.{◌≡◌, ◌+◌, ◌≤◌, length, take};
 ghost use Rattle.codec.specs.Codec.{val_at};

@@ -1,6 +1,6 @@
 -- One of the twelve, or none. Assumes nothing.
 use Rattle.why.proofs.ValuesFound.{values-there, value-is, no_value}
-use Rattle.why.proofs.values.value_at.Goals as goal
+use Rattle.why.proofs.field_values.value_at.Goals as goal
 
 pub read-v-requires : goal.read-v-requires
 read-v-requires c = let s = c in values-there s.args.r.now s.requires.1 s.requires.0
