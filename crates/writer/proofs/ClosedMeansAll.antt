@@ -1,18 +1,18 @@
 -- The law closed-means-all (specs/Closed.antt).
 -- Assumes nothing.
-use Prim.Native.Nat.{ℕ, suc, ◌+◌, ◌≤◌, ◌<◌}
+use Prim.Native.Nat.{ℕ, suc, ◌≤◌, ◌<◌}
 use native.Mathlib.Numerals.{add-one}
 use native.Mathlib.Omega.{arith}
 use mathlib.Core.Path.{◌≡◌, refl, sym, ap, ◌∙◌, subst}
 use mathlib.Core.List.{List, [], ◌∷◌, ◌++◌, append_assoc, append-nil}
-use mathlib.Core.Bool.{Bool, true, false, ◌&&◌, ◌||◌, not, true≢false}
+use mathlib.Core.Bool.{Bool, true, false, ◌&&◌, not, true≢false}
 use mathlib.Core.Logic.{◌⊎◌, inl, inr, ⊎_elim}
 use borrow.Author.Tests.{eq-eqb, ne_eqb, eqb-true, eqb-false, not-true, not-false}
 use lib.ListN.{length, get_or}
 use lib.Dec.{eqb}
 use Rattle.base.specs.Choice.{pick, one_more_lem}
-use Rattle.base.proofs.Tests.{and_l, and_r, of-choice, by-test}
-use Rattle.codec.specs.Table.{table, fields, record_most}
+use Rattle.base.proofs.Tests.{of-choice}
+use Rattle.codec.specs.Table.{table, record_most}
 use Rattle.account.specs.declared.Account.{Account}
 use Rattle.account.specs.Judge.{Step, in_place_lem, accepted, weigh}
 use Rattle.account.specs.Sorts.{sort_of}
@@ -29,14 +29,13 @@ use Rattle.text_lines.specs.Parts.{Numbered, numbered, together}
 use Rattle.writer.specs.declared.typed_line.Entry.{Entry}
 use Rattle.writer.specs.declared.typed_line.Said.{Said}
 use Rattle.writer.specs.declared.typed_line.Said.TheVariants as said
-use Rattle.writer.specs.Line.{line_said, entry, completed_of, values_in, write_entry}
+use Rattle.writer.specs.Line.{line_said, completed_of, values_in, write_entry}
 use Rattle.writer.specs.declared.Typist.{Typist}
 use Rattle.writer.specs.Typist.{first_failed, beginning, hears, early, run_ended, withheld, headless, Turn, by_answer, by_write, close_by}
-use Rattle.writer.specs.Typist.{judged_turn, record_turn, by_said, turn, own_close, end_by, closing_turn, end_turn}
-use Rattle.writer.specs.Remarks.{kind_written}
+use Rattle.writer.specs.Typist.{judged_turn, record_turn, by_said, turn, own_close, end_by, end_turn}
 use Rattle.writer.specs.Text.{text_lines, line_turn, typed_by, bytes_typed}
 use Rattle.writer.specs.Parts.{Output, output, whole, calls_over, with_end}
-use Rattle.writer.specs.Headings.{Mark, none, mark_line, text_of}
+use Rattle.writer.specs.Headings.{Mark, none, text_of}
 use Rattle.writer.specs.Closed.{record_of, record_said, says_then, records_said, IsRead, EachRead}
 use Rattle.writer.proofs.HeadingTyped.{Kept, completed-kind, ended-state, line-keeps, kept-first, one_more}
 use Rattle.writer.proofs.InParts.{whole-in-parts, bytes-typed, typist-typed}

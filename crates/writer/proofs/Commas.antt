@@ -3,7 +3,7 @@
 use Prim.Native.Nat.{ℕ, ◌+◌, ◌≤◌}
 use native.Mathlib.Omega.{arith}
 use mathlib.Core.Path.{◌≡◌, sym, ◌∙◌}
-use mathlib.Core.List.{List, []}
+use mathlib.Core.List.{List}
 use lib.ListN.{length, drop, drop_of_length-le}
 
 pub no-comma : (s : List ℕ) (p q : ℕ) → p ≡ q → p ≡ length s → drop p s ≡ drop (q + 1) s

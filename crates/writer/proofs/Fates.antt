@@ -17,13 +17,11 @@ use Rattle.make_record.specs.declared.Written.{Written}
 use Rattle.make_record.specs.Write as writer
 use Rattle.writer.specs.declared.typed_line.Entry.{Entry}
 use Rattle.writer.specs.declared.typed_line.Line.{Line}
-use Rattle.writer.specs.declared.typed_line.Said.{Said}
-use Rattle.writer.specs.declared.typed_line.Said.TheVariants as said
 use Rattle.writer.specs.Line.{line_said, write_entry}
 use Rattle.writer.specs.declared.Typist.{Typist}
-use Rattle.writer.specs.declared.Fate.TheVariants.{Nothing, Unread, Withheld, Waits, Without, Refused, Wrote}
+use Rattle.writer.specs.declared.Fate.TheVariants.{Nothing, Withheld, Waits, Without, Refused, Wrote}
 use Rattle.writer.specs.declared.Entered.{Entered}
-use Rattle.writer.specs.Typist.{hears, early, run_ended, not_read, withholding, waits, unheaded, refused_at, written_as, Turn, by_answer}
+use Rattle.writer.specs.Typist.{run_ended, withholding, waits, unheaded, refused_at, written_as, Turn, by_answer}
 use Rattle.writer.specs.Typist.{by_write, close_by, withheld, headless, judged_turn, record_turn, by_said, turn, own_close, end_by, closing_turn}
 use Rattle.writer.specs.Typist.{end_turn}
 use Rattle.writer.specs.Typist.{entered_of, entered_by, turn_laid}

@@ -6,11 +6,11 @@ use mathlib.Core.Path.{◌≡◌, refl, sym, ap, ◌∙◌}
 use mathlib.Core.List.{List, [], ◌∷◌}
 use mathlib.Core.Bool.{Bool, true, false, ◌&&◌, ◌||◌, not, true≢false}
 use mathlib.Core.Logic.{◌⊎◌, inl, inr, ⊎_elim}
-use borrow.Author.Tests.{eq-eqb, ne_eqb, eqb-true, eqb-false, leb-true, not-false, le-ltb}
+use borrow.Author.Tests.{eq-eqb, ne_eqb, eqb-true, eqb-false, not-false, le-ltb}
 use lib.ListN.{length}
 use lib.Dec.{eqb, leb, ltb}
 use Rattle.base.specs.Choice.{pick, one_more_lem}
-use Rattle.base.proofs.Tests.{and_l, and_r, of-choice, or_l, or_r, or_cases}
+use Rattle.base.proofs.Tests.{and_l, of-choice}
 use Rattle.codec.specs.Table.{last_kind, last_row}
 use Rattle.account.specs.declared.Account.{Account}
 use Rattle.account.specs.Judge.{Step, heading_serves, in_place_lem, accepted, weigh}
@@ -31,11 +31,11 @@ use Rattle.make_record.proofs.AsReader.{stays-in-range}
 use Rattle.writer.specs.declared.typed_line.Entry.{Entry}
 use Rattle.writer.specs.declared.typed_line.Said.{Said}
 use Rattle.writer.specs.declared.typed_line.Said.TheVariants as said
-use Rattle.writer.specs.Line.{line_said, entry, completed_of, values_in, write_entry}
+use Rattle.writer.specs.Line.{line_said, completed_of, values_in, write_entry}
 use Rattle.text_lines.specs.Parts.{Numbered, numbered}
 use Rattle.writer.specs.declared.Typist.{Typist}
 use Rattle.writer.specs.declared.Fate.{Fate}
-use Rattle.writer.specs.declared.Fate.TheVariants.{Nothing, Refused, Wrote}
+use Rattle.writer.specs.declared.Fate.TheVariants.{Wrote}
 use Rattle.writer.specs.declared.Lost.{Lost}
 use Rattle.writer.specs.Typist.{may_head, not_lost, lost_by, beginning, hears, early, run_ended, refused_at, written_as, withheld, headless}
 use Rattle.writer.specs.Typist.{Turn, by_answer, by_write, close_by, judged_turn, record_turn, by_said, turn}

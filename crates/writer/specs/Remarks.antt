@@ -1,6 +1,6 @@
 -- What the person who types is told: a remark on each line that failed or was withheld, values that are unusual, a group where it ends, and the
 -- verdict.
-use Rattle.std.specs.Prelude.{ℕ, ◌+◌, ◌-◌, ◌*◌, min, Bool, true, false, ◌&&◌, ◌||◌, not, List, [], ◌++◌, length, get_or, drop, eqb, leb, ltb}
+use Rattle.std.specs.Prelude.{ℕ, ◌+◌, ◌-◌, ◌*◌, min, Bool, true, false, ◌&&◌, ◌||◌, not, List, [], ◌++◌, length, get_or, drop, eqb, leb}
 use Rattle.base.specs.Choice.{pick}
 use Rattle.base.specs.Bytes.{index_of}
 use Rattle.printing.specs.Ascii.{ascii}

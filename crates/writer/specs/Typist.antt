@@ -3,7 +3,7 @@
 -- that is not read, without heading or refused has failed. The heading is lost by a line that is not read and whose kind is a heading or none of the
 -- book's, by a heading that is refused and by a line refused by 3, and found again by a heading that is written. A close that waits is written at the
 -- end of the text; a line with a word that comes after it makes it too early: it is not written, and counts as a line that failed.
-use Rattle.std.specs.Prelude.{ℕ, ◌%◌, Bool, true, false, ◌&&◌, ◌||◌, not, List, [], ◌++◌, length, get_or, drop, eqb, leb, ltb}
+use Rattle.std.specs.Prelude.{ℕ, ◌%◌, Bool, true, false, ◌&&◌, ◌||◌, not, List, [], ◌++◌, length, get_or, drop, eqb, ltb}
 use Rattle.base.specs.Choice.{pick, one_more_lem}
 use Rattle.codec.specs.Table.{last_kind, record_most}
 use Rattle.account.specs.Sorts.{is_of_group}
@@ -14,13 +14,12 @@ use Rattle.make_record.specs.Write.{Write}
 use Rattle.writer.specs.declared.typed_line.Entry.{Entry}
 use Rattle.writer.specs.declared.typed_line.Said.{Said}
 use Rattle.writer.specs.declared.typed_line.Said.TheVariants as said
-use Rattle.writer.specs.Line.{line_said, entry, values_in, write_entry}
+use Rattle.writer.specs.Line.{line_said, entry, write_entry}
 use Rattle.writer.specs.Unusual.{unusual_after}
 use Rattle.writer.specs.declared.Typist.{Typist}
 use Rattle.writer.specs.declared.Lost.{Lost}
 use Rattle.writer.specs.declared.Waiting.{Waiting}
 use Rattle.writer.specs.declared.Counts.{Counts}
-use Rattle.writer.specs.declared.Heard.{Heard}
 use Rattle.writer.specs.declared.Fate.{Fate}
 use Rattle.writer.specs.declared.Fate.TheVariants.{Nothing, Unread, Withheld, Waits, Without, Refused, Wrote}
 use Rattle.writer.specs.declared.Entered.{Entered}

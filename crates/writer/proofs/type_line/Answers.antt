@@ -6,14 +6,13 @@ use Rattle.writer.proofs.Calls.{line-typed}
 use Rattle.writer.proofs.type_line.Goals as goal
 
 pub say_remark-told-requires : goal.say_remark-told-requires
-say_remark-told-requires c = 
+say_remark-told-requires c =
     let thirteen : length c.read_line-line.result.entry.values ≡ 13 = search rules in
     thirteen
 
 pub returns : goal.returns
-returns c = let p = c in
-    let line = p.read_line-line.ensures in
-    let args = p.args in let m = line-typed args.t args.number args.text.now (length args.out.now) args.out.now line p.enter-e.ensures.result
-    p.enter-e.ensures.buffer
+returns c = let line = c.read_line-line.ensures in
+    let args = c.args in let m = line-typed args.t args.number args.text.now (length args.out.now) args.out.now line c.enter-e.ensures.result
+    c.enter-e.ensures.buffer
     c.say_remark-told.ensures
     in record { typist = m.0; bytes = m.1.0; «record» = m.1.1.0; remark = m.1.1.1 }

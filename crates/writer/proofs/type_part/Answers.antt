@@ -1,15 +1,14 @@
 -- A line that goes on, or one that ends. Assumes nothing.
 use lib.ListN.{length}
-use borrow.Author.Rules.{rules}
 use borrow.Author.Tests.{not-true, not-false}
 use Rattle.writer.proofs.Calls.{open-call, ended-call}
 use Rattle.writer.proofs.type_part.Goals as goal
 
 pub returns-then-not-c : goal.returns-then-not-c
 returns-then-not-c c = let cut = c.cut_line-c.ensures in
-    let start = c in let m = open-call start.args.typing start.args.line.now start.args.part.now (length start.args.out.now) cut.value
+    let m = open-call c.args.typing c.args.line.now c.args.part.now (length c.args.out.now) cut.value
     (not-true _ c.if-not-c.true) cut.line_after cut.taken_in_bounds
-    start.args.out.now start.args.remarks.now
+    c.args.out.now c.args.remarks.now
     in record {
       typing = m.0;
       taken = m.1.0;
@@ -21,14 +20,11 @@ returns-then-not-c c = let cut = c.cut_line-c.ensures in
     }
 
 pub returns : goal.returns
-returns c = let line = c in
-    let test = line in
-    let cut = test.cut_line-c.ensures in
-    let start = test in
-    let done = line.type_line-l.ensures in let m = ended-call start.args.typing start.args.line.now start.args.part.now
-    (length start.args.out.now) cut.value
-    (not-false _ test.if-not-c.false) cut.line_after cut.taken_in_bounds
-    line.whole.ensures line.type_line-l.result start.args.out.now (done.typist, (done.bytes, (done.record, done.remark))) c.next.ensures
+returns c = let cut = c.cut_line-c.ensures in
+    let done = c.type_line-l.ensures in let m = ended-call c.args.typing c.args.line.now c.args.part.now
+    (length c.args.out.now) cut.value
+    (not-false _ c.if-not-c.false) cut.line_after cut.taken_in_bounds
+    c.whole.ensures c.type_line-l.result c.args.out.now (done.typist, (done.bytes, (done.record, done.remark))) c.next.ensures
     in record {
       typing = m.0;
       taken = m.1.0;

@@ -1,5 +1,4 @@
 -- By the answer. Assumes nothing.
-use borrow.Author.Rules.{rules}
 use Rattle.writer.proofs.enter.answered.Goals as goal
 
 pub returns-in-Wrote : goal.returns-in-Wrote

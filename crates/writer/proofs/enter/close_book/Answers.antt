@@ -1,17 +1,16 @@
 -- By the answer. Assumes nothing.
 use Rattle.writer.proofs.Fates.{closes, stays_open}
-use borrow.Author.Rules.{rules}
 use Rattle.writer.proofs.enter.close_book.Goals as goal
 
 pub returns-in-Wrote : goal.returns-in-Wrote
-returns-in-Wrote c =  let m = closes c.args.t
+returns-in-Wrote c = let m = closes c.args.t
     c.args.out.now
     c.write_entry-w.ensures.result
     c.write_entry-w.ensures.buffer c.in-Wrote.is c.written_as.ensures
     in record { result = m.0; buffer = m.1 }
 
 pub returns-in-Refused : goal.returns-in-Refused
-returns-in-Refused c =  let m = stays_open c.args.t
+returns-in-Refused c = let m = stays_open c.args.t
     c.args.out.now
     c.write_entry-w.ensures.result c.write_entry-w.ensures.buffer
     c.in-Refused.is

@@ -1,6 +1,5 @@
 -- By what the line says. Assumes nothing.
-use mathlib.Core.Path.{refl, sym, ap, ◌∙◌}
-use borrow.Author.Rules.{rules}
+use mathlib.Core.Path.{refl}
 use Rattle.writer.proofs.enter.enter.Goals as goal
 
 pub returns-in-Nothing : goal.returns-in-Nothing

@@ -1,6 +1,5 @@
 -- By the answer. Assumes nothing.
 use Rattle.writer.proofs.Fates.{close-right, close-refused}
-use borrow.Author.Rules.{rules}
 use Rattle.writer.proofs.enter.enter_close.Goals as goal
 
 pub returns-in-Wrote : goal.returns-in-Wrote

@@ -1,18 +1,17 @@
 -- By the tests. Assumes nothing.
 use lib.ListN.{length}
 use Rattle.writer.proofs.Fates.{gives-headless, gives-on}
-use borrow.Author.Rules.{rules}
 use Rattle.writer.proofs.enter.enter_record.Goals as goal
 
 pub returns-then-is_of_group-t : goal.returns-then-is_of_group-t
-returns-then-is_of_group-t c =  let m = gives-headless c.args.t c.args.number
+returns-then-is_of_group-t c = let m = gives-headless c.args.t c.args.number
     c.args.e (length c.args.out.now)
     c.is_of_group.ensures c.if-is_of_group-t.true c.unheaded.ensures
     c.args.out.now
     in record { result = m.0; buffer = m.1 }
 
 pub returns : goal.returns
-returns c =  let m = gives-on c.args.t
+returns c = let m = gives-on c.args.t
     c.args.number
     c.args.e (length
     c.args.out.now)

@@ -1,11 +1,10 @@
 -- By the tests. Assumes nothing.
 use lib.ListN.{length}
 use Rattle.writer.proofs.Fates.{gives-withheld, gives-close, gives-judged}
-use borrow.Author.Rules.{rules}
 use Rattle.writer.proofs.enter.judge_record.Goals as goal
 
 pub returns-then-e-a : goal.returns-then-e-a
-returns-then-e-a c =  let m = gives-withheld c.args.t
+returns-then-e-a c = let m = gives-withheld c.args.t
     c.args.number
     c.args.e (length
     c.args.out.now) c.if-e-a.true c.withholding.ensures
@@ -13,7 +12,7 @@ returns-then-e-a c =  let m = gives-withheld c.args.t
     in record { result = m.0; buffer = m.1 }
 
 pub returns-then-e-eq-CLOSE : goal.returns-then-e-eq-CLOSE
-returns-then-e-eq-CLOSE c =  let m = gives-close c.args.t
+returns-then-e-eq-CLOSE c = let m = gives-close c.args.t
     c.args.number
     c.args.e (length
     c.args.out.now) c.if-e-a.false
@@ -21,7 +20,7 @@ returns-then-e-eq-CLOSE c =  let m = gives-close c.args.t
     in record { result = m.0; buffer = m.1 }
 
 pub returns : goal.returns
-returns c =  let m = gives-judged c.args.t
+returns c = let m = gives-judged c.args.t
     c.args.number
     c.args.e
     c.args.out.now

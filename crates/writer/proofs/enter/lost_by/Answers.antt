@@ -1,6 +1,5 @@
 -- By the test. Assumes nothing.
-use mathlib.Core.Path.{refl, sym, ap, ◌∙◌}
-use borrow.Author.Rules.{rules}
+use mathlib.Core.Path.{refl}
 use Rattle.writer.proofs.enter.lost_by.Goals as goal
 
 pub returns-then-may : goal.returns-then-may

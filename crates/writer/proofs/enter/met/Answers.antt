@@ -1,6 +1,5 @@
-use mathlib.Core.Path.{refl, sym, ap, ◌∙◌}
+use mathlib.Core.Path.{ap, ◌∙◌}
 use Rattle.writer.specs.Typist.{early}
-use borrow.Author.Rules.{rules}
 use Rattle.writer.proofs.enter.met.Goals as goal
 
 pub returns : goal.returns

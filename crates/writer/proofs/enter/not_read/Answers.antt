@@ -1,13 +1,12 @@
 -- Field by field. Assumes nothing.
-use mathlib.Core.Path.{refl, sym, ap, ◌∙◌}
-use borrow.Author.Rules.{rules}
+use mathlib.Core.Path.{refl}
 use Rattle.writer.proofs.enter.not_read.Goals as goal
 
 pub returns : goal.returns
 returns c = rw (
-      c.first_failed.ensures,
-      c.one_unread-counted.ensures,
-      c.lost_by-lost.ensures,
-      c.chosen.ensures,
-      c.may_head.ensures,
-    ) refl
+  c.first_failed.ensures,
+  c.one_unread-counted.ensures,
+  c.lost_by-lost.ensures,
+  c.chosen.ensures,
+  c.may_head.ensures,
+) refl

@@ -1,12 +1,11 @@
 -- Field by field. Assumes nothing.
-use mathlib.Core.Path.{refl, sym, ap, ◌∙◌}
-use borrow.Author.Rules.{rules}
+use mathlib.Core.Path.{refl}
 use Rattle.writer.proofs.enter.refused_at.Goals as goal
 
 pub returns : goal.returns
 returns c = rw (
-      c.first_failed.ensures,
-      c.one_refused-counted.ensures,
-      c.lost_by-lost.ensures,
-      c.chosen.ensures,
-    ) refl
+  c.first_failed.ensures,
+  c.one_refused-counted.ensures,
+  c.lost_by-lost.ensures,
+  c.chosen.ensures,
+) refl

@@ -1,8 +1,7 @@
 -- Where a run is open. Assumes nothing.
-use mathlib.Core.Path.{refl, sym, ap, ◌∙◌}
+use mathlib.Core.Path.{refl}
 use borrow.Author.Tests.{eq-eqb, ne_eqb}
 use Rattle.writer.specs.Typist.{run_ended}
-use borrow.Author.Rules.{rules}
 use Rattle.writer.proofs.enter.run_ended.Goals as goal
 
 pub returns-then-w-eq0 : goal.returns-then-w-eq0

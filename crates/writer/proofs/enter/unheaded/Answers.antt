@@ -1,6 +1,5 @@
 -- Field by field. Assumes nothing.
-use mathlib.Core.Path.{refl, sym, ap, ◌∙◌}
-use borrow.Author.Rules.{rules}
+use mathlib.Core.Path.{refl}
 use Rattle.writer.proofs.enter.unheaded.Goals as goal
 
 pub returns : goal.returns

@@ -1,13 +1,12 @@
 -- Field by field. Assumes nothing.
-use mathlib.Core.Path.{refl, sym, ap, ◌∙◌}
-use borrow.Author.Rules.{rules}
+use mathlib.Core.Path.{refl}
 use Rattle.writer.proofs.enter.written_as.Goals as goal
 
 pub returns : goal.returns
 returns c = rw (
-      c.chosen.ensures,
-      c.days_of_year.ensures,
-      c.one_written-counted.ensures,
-      c.unusual_after.ensures,
-      c.lost_by-lost.ensures,
-    ) refl
+  c.chosen.ensures,
+  c.days_of_year.ensures,
+  c.one_written-counted.ensures,
+  c.unusual_after.ensures,
+  c.lost_by-lost.ensures,
+) refl

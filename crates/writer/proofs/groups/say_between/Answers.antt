@@ -1,5 +1,4 @@
 -- By the test. Assumes nothing.
-use borrow.Author.Rules.{rules}
 use Rattle.writer.proofs.groups.say_between.Goals as goal
 
 pub returns-then-first : goal.returns-then-first

@@ -2,7 +2,6 @@
 use borrow.Author.Tests.{eq-eqb, ne_eqb}
 use Rattle.printing.proofs.Sayings.{◌⟫◌, said-none}
 use Rattle.writer.specs.Remarks.{gas_text}
-use borrow.Author.Rules.{rules}
 use Rattle.writer.proofs.groups.say_gas.Goals as goal
 
 pub returns-then-grams-eq0 : goal.returns-then-grams-eq0
@@ -11,8 +10,4 @@ returns-then-grams-eq0 c = rw (eq-eqb _ _ c.if-grams-eq0.true) (said-none c.requ
 
 pub returns : goal.returns
 unfolding gas_text
-returns c = let p1 = c in
-    let p2 = p1 in
-    let p3 = p2 in
-    let p4 = p3 in
-    rw (ne_eqb _ _ p4.if-grams-eq0.false) (p4.say-word.ensures ⟫ p3.say_pointed-kilograms.ensures ⟫ p2.say-unit.ensures ⟫ p1.say_a_head.ensures)
+returns c = rw (ne_eqb _ _ c.if-grams-eq0.false) (c.say-word.ensures ⟫ c.say_pointed-kilograms.ensures ⟫ c.say-unit.ensures ⟫ c.say_a_head.ensures)

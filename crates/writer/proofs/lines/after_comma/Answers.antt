@@ -1,6 +1,5 @@
-use mathlib.Core.Path.{refl, sym, ap, ◌∙◌}
+use mathlib.Core.Path.{refl, ◌∙◌}
 use Rattle.writer.proofs.Commas.{no-comma}
-use borrow.Author.Rules.{rules}
 use Rattle.writer.proofs.lines.after_comma.Goals as goal
 
 pub returns-then-p-word : goal.returns-then-p-word

@@ -1,9 +1,6 @@
 -- One text after another. Assumes nothing.
 use Rattle.printing.proofs.Sayings.{◌⟫◌}
-use borrow.Author.Rules.{rules}
 use Rattle.writer.proofs.lines.say_count.Goals as goal
 
 pub returns : goal.returns
-returns c = let p1 = c in
-    let p2 = p1 in
-    p2.say_kind_takes-takes.ensures ⟫ p1.say_values_here.ensures
+returns c = c.say_kind_takes-takes.ensures ⟫ c.say_values_here.ensures

@@ -1,10 +1,6 @@
 -- One text behind another. Assumes nothing.
 use Rattle.printing.proofs.Sayings.{◌⟫◌}
-use borrow.Author.Rules.{rules}
 use Rattle.writer.proofs.lines.say_either.Goals as goal
 
 pub returns : goal.returns
-returns c = let p1 = c in
-    let p2 = p1 in
-    let p3 = p2 in
-    p3.say_fields-first.ensures ⟫ p2.say-or.ensures ⟫ p1.say_fields.ensures
+returns c = c.say_fields-first.ensures ⟫ c.say-or.ensures ⟫ c.say_fields.ensures

@@ -1,8 +1,6 @@
 -- Nothing where there is no such field. Assumes nothing.
 use mathlib.Core.Path.{sym, ◌∙◌}
-use borrow.Author.Tests.{not-true, not-false}
 use Rattle.printing.proofs.Sayings.{◌⟫◌, said-none}
-use borrow.Author.Rules.{rules}
 use Rattle.writer.proofs.lines.say_expected.Goals as goal
 
 pub returns-then-not-has_field : goal.returns-then-not-has_field
@@ -10,6 +8,5 @@ returns-then-not-has_field c = let none = sym c.has_field.ensures ∙ c.if-not-h
     rw none (said-none c.requires)
 
 pub returns : goal.returns
-returns c = let test = c in
-    let some = sym test.has_field.ensures ∙ test.if-not-has_field.false in
+returns c = let some = sym c.has_field.ensures ∙ c.if-not-has_field.false in
     rw some (c.say-head.ensures ⟫ c.say_expected.ensures)

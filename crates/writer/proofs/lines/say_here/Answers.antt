@@ -1,6 +1,5 @@
 -- One or more. Assumes nothing.
 use borrow.Author.Tests.{eq-eqb, ne_eqb}
-use borrow.Author.Rules.{rules}
 use Rattle.writer.proofs.lines.say_here.Goals as goal
 
 pub returns-then-count-eq1 : goal.returns-then-count-eq1

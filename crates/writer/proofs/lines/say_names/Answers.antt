@@ -1,6 +1,5 @@
 -- The farm record has two versions. Assumes nothing.
 use borrow.Author.Tests.{eq-eqb, ne_eqb}
-use borrow.Author.Rules.{rules}
 use Rattle.writer.proofs.lines.say_names.Goals as goal
 
 pub returns-then-kind-eq-FARM : goal.returns-then-kind-eq-FARM

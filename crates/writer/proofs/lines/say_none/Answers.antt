@@ -1,9 +1,8 @@
 -- By what the word is. Assumes nothing.
-use mathlib.Core.Path.{refl, sym, ap, ◌∙◌}
+use mathlib.Core.Path.{sym, ◌∙◌}
 use borrow.Author.Tests.{eq-eqb, ne_eqb}
 use Rattle.printing.proofs.Sayings.{◌⟫◌}
 use Rattle.writer.specs.Remarks.{none_text}
-use borrow.Author.Rules.{rules}
 use Rattle.writer.proofs.lines.say_none.Goals as goal
 
 pub returns-then-decimals-eq0 : goal.returns-then-decimals-eq0
@@ -13,40 +12,38 @@ returns-then-decimals-eq0 c = rw (eq-eqb _ _ (sym c.decimals-decimals.ensures.va
 
 pub returns-then-is_number : goal.returns-then-is_number
 unfolding none_text
-returns-then-is_number c = let p1 = c in
-    let p2 = p1 in
-    rw (
-      ne_eqb _ _ (λ q. p2.if-decimals-eq0.false
-          (p2.decimals-decimals.ensures.value ∙ q)),
-      sym p2.is_number.ensures
-          ∙ p2.if-is_number.true,
-    ) (rw p2.decimals-decimals.ensures.value at
-    (p2.say-head.ensures ⟫ p1.say_number.ensures))
+returns-then-is_number c = rw (
+  ne_eqb _ _ (λ q. c.if-decimals-eq0.false
+      (c.decimals-decimals.ensures.value ∙ q)),
+  sym c.is_number.ensures
+      ∙ c.if-is_number.true,
+) (rw c.decimals-decimals.ensures.value at
+    (c.say-head.ensures ⟫ c.say_number.ensures))
 
 pub returns-then-has_comma : goal.returns-then-has_comma
 unfolding none_text
 returns-then-has_comma c = rw (
-      ne_eqb _ _ (λ q. c.if-decimals-eq0.false
-          (c.decimals-decimals.ensures.value
-          ∙ q)),
-      sym c.is_number.ensures
-          ∙ c.if-is_number.false,
-      sym (rw
-          c.decimals-decimals.ensures.value at
-          c.has_comma.ensures)
-          ∙ c.if-has_comma.true,
-    ) c.say-then-has_comma.ensures
+  ne_eqb _ _ (λ q. c.if-decimals-eq0.false
+      (c.decimals-decimals.ensures.value
+      ∙ q)),
+  sym c.is_number.ensures
+      ∙ c.if-is_number.false,
+  sym (rw
+      c.decimals-decimals.ensures.value at
+      c.has_comma.ensures)
+      ∙ c.if-has_comma.true,
+) c.say-then-has_comma.ensures
 
 pub returns : goal.returns
 unfolding none_text
 returns c = rw (
-      ne_eqb _ _ (λ q. c.if-decimals-eq0.false
-          (c.decimals-decimals.ensures.value
-          ∙ q)),
-      sym c.is_number.ensures
-          ∙ c.if-is_number.false,
-      sym (rw
-          c.decimals-decimals.ensures.value at
-          c.has_comma.ensures)
-          ∙ c.if-has_comma.false,
-    ) c.say-2.ensures
+  ne_eqb _ _ (λ q. c.if-decimals-eq0.false
+      (c.decimals-decimals.ensures.value
+      ∙ q)),
+  sym c.is_number.ensures
+      ∙ c.if-is_number.false,
+  sym (rw
+      c.decimals-decimals.ensures.value at
+      c.has_comma.ensures)
+      ∙ c.if-has_comma.false,
+) c.say-2.ensures

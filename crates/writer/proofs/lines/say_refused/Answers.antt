@@ -1,10 +1,6 @@
 -- One text after another. Assumes nothing.
 use Rattle.printing.proofs.Sayings.{◌⟫◌}
-use borrow.Author.Rules.{rules}
 use Rattle.writer.proofs.lines.say_refused.Goals as goal
 
 pub returns : goal.returns
-returns c = let p1 = c in
-    let p2 = p1 in
-    let p3 = p2 in
-    p3.say-head.ensures ⟫ p2.say_number-code.ensures ⟫ p1.say_ground.ensures
+returns c = c.say-head.ensures ⟫ c.say_number-code.ensures ⟫ c.say_ground.ensures

@@ -1,9 +1,6 @@
 -- One text behind another. Assumes nothing.
 use Rattle.printing.proofs.Sayings.{◌⟫◌}
-use borrow.Author.Rules.{rules}
 use Rattle.writer.proofs.lines.say_sentence.Goals as goal
 
 pub returns : goal.returns
-returns c = let p1 = c in
-    let p2 = p1 in
-    p2.say-colon.ensures ⟫ p1.say_sentence.ensures
+returns c = c.say-colon.ensures ⟫ c.say_sentence.ensures

@@ -1,5 +1,4 @@
 -- One text behind another. Assumes nothing.
-use borrow.Author.Rules.{rules}
 use Rattle.writer.proofs.lines.say_word.Goals as goal
 
 pub returns : goal.returns

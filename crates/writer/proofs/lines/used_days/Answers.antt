@@ -1,7 +1,6 @@
 -- By the kind. Assumes nothing.
-use mathlib.Core.Path.{refl, sym, ap, ◌∙◌}
+use mathlib.Core.Path.{refl}
 use borrow.Author.Tests.{eq-eqb, ne_eqb}
-use borrow.Author.Rules.{rules}
 use Rattle.writer.proofs.lines.used_days.Goals as goal
 
 pub returns-then-kind-eq-ENTERIC : goal.returns-then-kind-eq-ENTERIC

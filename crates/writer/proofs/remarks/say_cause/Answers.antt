@@ -1,6 +1,5 @@
 -- By the cause. Assumes nothing.
 use borrow.Author.Tests.{eq-eqb, ne_eqb}
-use borrow.Author.Rules.{rules}
 use Rattle.writer.proofs.remarks.say_cause.Goals as goal
 
 pub returns-then-cause-eq1 : goal.returns-then-cause-eq1

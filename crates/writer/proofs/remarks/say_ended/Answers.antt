@@ -1,7 +1,6 @@
 -- A heading or the close. Assumes nothing.
 use Rattle.printing.proofs.Sayings.{said-none}
 use Rattle.writer.specs.Remarks.{ended_text}
-use borrow.Author.Rules.{rules}
 use Rattle.writer.proofs.remarks.say_ended.Goals as goal
 
 pub returns-then-kind : goal.returns-then-kind

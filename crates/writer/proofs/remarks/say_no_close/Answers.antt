@@ -1,6 +1,5 @@
 -- By the test. Assumes nothing.
 use Rattle.printing.proofs.Sayings.{said-none}
-use borrow.Author.Rules.{rules}
 use Rattle.writer.proofs.remarks.say_no_close.Goals as goal
 
 pub returns-then-h : goal.returns-then-h

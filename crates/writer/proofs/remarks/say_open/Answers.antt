@@ -3,7 +3,6 @@ use native.Mathlib.Omega.{arith}
 use borrow.Author.Tests.{eq-eqb, ne_eqb}
 use Rattle.printing.proofs.Sayings.{said-none}
 use Rattle.writer.specs.Remarks.{open_text}
-use borrow.Author.Rules.{rules}
 use Rattle.writer.proofs.remarks.say_open.Goals as goal
 
 pub returns-then-a-eq1 : goal.returns-then-a-eq1

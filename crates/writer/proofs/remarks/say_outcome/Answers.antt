@@ -1,5 +1,4 @@
 -- By the test. Assumes nothing.
-use borrow.Author.Rules.{rules}
 use Rattle.writer.proofs.remarks.say_outcome.Goals as goal
 
 pub returns-then-closed : goal.returns-then-closed

@@ -3,7 +3,6 @@ use borrow.Author.Tests.{eq-eqb, ne_eqb}
 use borrow.Author.Tests.{le-leb, lt-leb}
 use Rattle.printing.proofs.Sayings.{◌⟫◌, said-none}
 use Rattle.writer.specs.Remarks.{run_text}
-use borrow.Author.Rules.{rules}
 use Rattle.writer.proofs.remarks.say_run.Goals as goal
 
 pub returns-then-w-eq0 : goal.returns-then-w-eq0
@@ -17,9 +16,5 @@ returns-then-c-ge20 c = rw (ne_eqb _ _ c.if-w-eq0.false, le-leb _ _ c.if-c-ge20.
 
 pub returns : goal.returns
 unfolding run_text
-returns c = let p1 = c in
-    let p2 = p1 in
-    let p3 = p2 in
-    let p4 = p3 in
-    rw (ne_eqb _ _ p4.if-w-eq0.false, lt-leb _ _ p4.if-c-ge20.false)
-    (p4.say_run_head-head.ensures ⟫ p3.say-words.ensures ⟫ p2.say_lost-by.ensures ⟫ p1.say.ensures)
+returns c = rw (ne_eqb _ _ c.if-w-eq0.false, lt-leb _ _ c.if-c-ge20.false)
+    (c.say_run_head-head.ensures ⟫ c.say-words.ensures ⟫ c.say_lost-by.ensures ⟫ c.say.ensures)

@@ -1,7 +1,6 @@
 -- By what became of the line. Assumes nothing.
 use Rattle.printing.proofs.Sayings.{said-none}
 use Rattle.writer.specs.Remarks.{words_of}
-use borrow.Author.Rules.{rules}
 use Rattle.writer.proofs.remarks.say_words.Goals as goal
 
 pub returns-in-Unread : goal.returns-in-Unread

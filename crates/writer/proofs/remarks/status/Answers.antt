@@ -1,6 +1,5 @@
 -- By the test. Assumes nothing.
-use mathlib.Core.Path.{refl, sym, ap, ◌∙◌}
-use borrow.Author.Rules.{rules}
+use mathlib.Core.Path.{refl}
 use Rattle.writer.proofs.remarks.status.Goals as goal
 
 pub returns-then-good-a : goal.returns-then-good-a

@@ -1,5 +1,4 @@
 use Rattle.writer.proofs.TypedLines.{chosen-value}
-use borrow.Author.Rules.{rules}
 use Rattle.writer.proofs.typed_line.by_choice.Goals as goal
 
 pub returns : goal.returns

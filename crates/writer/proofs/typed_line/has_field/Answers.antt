@@ -1,5 +1,4 @@
 -- By the count of the row's fields. Assumes nothing.
-use borrow.Author.Rules.{rules}
 use Rattle.writer.proofs.typed_line.has_field.Goals as goal
 
 pub returns : goal.returns

@@ -1,11 +1,6 @@
 -- The invariant: the word's kind is its kind among those that are left. Assumes nothing.
-use Prim.Native.Nat.{◌-◌, ◌≤◌}
-use mathlib.Core.Path.{◌≡◌, refl, sym, ◌∙◌}
+use mathlib.Core.Path.{refl, sym, ◌∙◌}
 use native.Mathlib.Omega.{arith}
-use borrow.Author.Rules.{rules}
-use Rattle.codec.specs.Table.{last_kind}
-use Rattle.typed_words.specs.Words.{lowered}
-use Rattle.writer.specs.Line.{named_from}
 use Rattle.writer.proofs.TypedLines.{named_here, named-on, named_none}
 use Rattle.writer.proofs.typed_line.named.Goals as goal
 

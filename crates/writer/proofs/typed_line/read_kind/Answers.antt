@@ -1,5 +1,4 @@
 -- A name's kind, or a number. Assumes nothing.
-use borrow.Author.Rules.{rules}
 use Rattle.writer.proofs.TypedLines.{by_number, by_name}
 use Rattle.writer.proofs.typed_line.read_kind.Goals as goal
 

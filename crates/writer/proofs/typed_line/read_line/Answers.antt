@@ -1,32 +1,24 @@
 -- What the line says, word by word. Assumes nothing.
 use mathlib.Core.Path.{◌∙◌}
-use borrow.Author.Rules.{rules}
 use borrow.Author.Tests.{not-true, not-false}
 use Rattle.writer.proofs.TypedLines.{too_long, says_nothing, wrong-kind, wrong-value, says-record}
 use Rattle.writer.proofs.typed_line.read_line.Goals as goal
 
 pub returns-then-not-kind : goal.returns-then-not-kind
-returns-then-not-kind c = let front = c in
-    c.without-then-not-kind.ensures
-    ∙ wrong-kind _ front.if-text-ge1024.false front.word-first.ensures front.if-first-eq0.false
+returns-then-not-kind c = c.without-then-not-kind.ensures
+    ∙ wrong-kind _ c.if-text-ge1024.false c.word-first.ensures c.if-first-eq0.false
     c.read_kind-kind.ensures (not-true _ c.if-not-kind.true)
 
 pub returns-then-v-ne0 : goal.returns-then-v-ne0
-returns-then-v-ne0 c = let row = c in
-    let kind = row in
-    let front = kind in
-    c.without-then-v-ne0.ensures
-    ∙ wrong-value _ front.if-text-ge1024.false front.word-first.ensures front.if-first-eq0.false kind.read_kind-kind.ensures
-    (not-false _ kind.if-not-kind.false)
-    row.row_of_line-row.ensures c.read_values-v.ensures c.if-v-ne0.true
+returns-then-v-ne0 c = c.without-then-v-ne0.ensures
+    ∙ wrong-value _ c.if-text-ge1024.false c.word-first.ensures c.if-first-eq0.false c.read_kind-kind.ensures
+    (not-false _ c.if-not-kind.false)
+    c.row_of_line-row.ensures c.read_values-v.ensures c.if-v-ne0.true
 
 pub returns : goal.returns
-returns c = let row = c in
-    let kind = row in
-    let front = kind in
-    says-record _ front.if-text-ge1024.false front.word-first.ensures front.if-first-eq0.false kind.read_kind-kind.ensures
-    (not-false _ kind.if-not-kind.false)
-    row.row_of_line-row.ensures c.read_values-v.ensures c.if-v-ne0.false
+returns c = says-record _ c.if-text-ge1024.false c.word-first.ensures c.if-first-eq0.false c.read_kind-kind.ensures
+    (not-false _ c.if-not-kind.false)
+    c.row_of_line-row.ensures c.read_values-v.ensures c.if-v-ne0.false
 
 pub returns-then-text-ge1024 : goal.returns-then-text-ge1024
 returns-then-text-ge1024 c = c.without.ensures ∙ too_long _ c.if-text-ge1024.true

@@ -1,8 +1,6 @@
 -- A number, a choice, or a word after the last field. Assumes nothing.
 use mathlib.Core.Path.{sym, ◌∙◌}
-use borrow.Author.Tests.{not-true, not-false}
 use Rattle.writer.proofs.TypedLines.{not-read, number-value, choice-value}
-use borrow.Author.Rules.{rules}
 use Rattle.writer.proofs.typed_line.read_value.Goals as goal
 
 pub returns-then-not-has_field : goal.returns-then-not-has_field

@@ -1,20 +1,17 @@
 -- The invariant: so many values are read, and the rest is still to come. Assumes nothing.
-use Prim.Native.Nat.{◌-◌}
 use native.Mathlib.Omega.{arith}
-use borrow.Author.Rules.{rules}
 use borrow.Author.Tests.{not-true, not-false}
-use Rattle.writer.proofs.TypedLines.{Reading, reading-none, read_all, read-end, read-wrong, read-in, read_past}
+use Rattle.writer.proofs.TypedLines.{reading-none, read_all, read-end, read-wrong, read-in, read_past}
 use Rattle.writer.proofs.typed_line.read_values.Goals as goal
 use Rattle.writer.proofs.typed_line.read_values.Goals.{then-count-lt13, else-count-lt13}
 
 pub loop-count-preserved : goal.loop-count-preserved
-loop-count-preserved c = let turn = c in
-    let inv = turn.loop-count.invariant in
+loop-count-preserved c = let inv = c.loop-count.invariant in
     let good = not-false _ c.if-not-number.false in
     let number = c.read_value-number.ensures in
     elim c.if-count-lt13.branch [
-      then-count-lt13 w ↦ read-in inv (omega arith) turn.word-word.ensures turn.if-word-eq0.false number good w.if-count-lt13.true w.values-is
-      | else-count-lt13 w ↦ read_past inv (omega arith) turn.word-word.ensures turn.if-word-eq0.false number good w.if-count-lt13.false
+      | then-count-lt13 w ↦ read-in inv (omega arith) c.word-word.ensures c.if-word-eq0.false number good w.if-count-lt13.true w.values-is
+      | else-count-lt13 w ↦ read_past inv (omega arith) c.word-word.ensures c.if-word-eq0.false number good w.if-count-lt13.false
           w.values-is
     ]
 

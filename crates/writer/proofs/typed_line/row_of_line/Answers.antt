@@ -1,5 +1,4 @@
 -- By the kind, and by the words behind it. Assumes nothing.
-use borrow.Author.Rules.{rules}
 use Rattle.writer.proofs.TypedLines.{no_row, row-second, row-kind}
 use Rattle.writer.proofs.typed_line.row_of_line.Goals as goal
 

@@ -1,7 +1,6 @@
 -- The values that are typed, written. Assumes nothing.
 use mathlib.Core.Path.{refl, sym}
 use native.Mathlib.Omega.{arith}
-use borrow.Author.Rules.{rules}
 use lib.ListN.{take}
 use lib.Seq.{length-take-le, take_all}
 use Rattle.writer.proofs.TypedLines.{entry-written}

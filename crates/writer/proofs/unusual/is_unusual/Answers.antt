@@ -1,6 +1,5 @@
-use mathlib.Core.Path.{refl, sym, ap, ◌∙◌}
+use mathlib.Core.Path.{refl}
 use Rattle.writer.specs.Unusual.{is_unusual}
-use borrow.Author.Rules.{rules}
 use Rattle.writer.proofs.unusual.is_unusual.Goals as goal
 
 pub returns : goal.returns

@@ -1,6 +1,5 @@
 -- By the test. Assumes nothing.
-use mathlib.Core.Path.{refl, sym, ap, ◌∙◌}
-use borrow.Author.Rules.{rules}
+use mathlib.Core.Path.{refl}
 use Rattle.writer.proofs.unusual.more_if.Goals as goal
 
 pub returns-then-test : goal.returns-then-test

@@ -1,6 +1,5 @@
 -- The first twenty. Assumes nothing.
 use Rattle.printing.proofs.Sayings.{said-none}
-use borrow.Author.Rules.{rules}
 use Rattle.writer.proofs.unusual.say_one.Goals as goal
 
 pub returns-then-is_unusual-count : goal.returns-then-is_unusual-count

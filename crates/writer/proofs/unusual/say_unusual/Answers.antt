@@ -1,59 +1,50 @@
 -- The invariant: saying what is left makes all that is said. Assumes nothing.
-use Prim.Native.Nat.{ℕ, ◌-◌, ◌≤◌}
-use mathlib.Core.Path.{◌≡◌, refl, sym, ap, ◌∙◌}
-use mathlib.Core.List.{List}
+use Prim.Native.Nat.{◌-◌}
+use mathlib.Core.Path.{◌≡◌, refl, ◌∙◌}
 use native.Mathlib.Omega.{arith}
-use lib.ListN.{length}
 use Rattle.codec.proofs.Rows.{fields-few}
-use Rattle.printing.specs.Said.{Said}
 use Rattle.printing.proofs.Sayings.{◌⟫◌, said-none}
-use Rattle.writer.specs.declared.typed_line.Entry.{Entry}
-use Rattle.writer.specs.Unusual.{remarks_from}
 use Rattle.writer.proofs.Unusuals.{one-said, none_said}
 use borrow.Author.Rules.{rules}
-use Rattle.writer.proofs.unusual.say_unusual.Invariants.{SoFar}
 use Rattle.writer.proofs.unusual.say_unusual.Goals as goal
 
 pub loop-i-init : goal.loop-i-init
 loop-i-init c = record {
-      most = omega arith;
-      same = refl;
-      inside = search rules;
-      rest = λ zs q p. let e : c.values_of-n.result - 0 ≡ c.values_of-n.result
-          = omega arith in rw e at p;
-    }
+  most = omega arith;
+  same = refl;
+  inside = search rules;
+  rest = λ zs q p. let e : c.values_of-n.result - 0 ≡ c.values_of-n.result
+      = omega arith in rw e at p;
+}
 
 pub say_one-end-requires : goal.say_one-end-requires
-say_one-end-requires c = let n = c in (
-      omega (arith, c.loop-i.invariant.inside),
-      search rules,
-      omega (
-        arith,
-        n.values_of-n.ensures,
-        fields-few
-            n.args.e.kind,
-      ),
-    )
+say_one-end-requires c = (
+  omega (arith, c.loop-i.invariant.inside),
+  search rules,
+  omega (
+    arith,
+    c.values_of-n.ensures,
+    fields-few
+        c.args.e.kind,
+  ),
+)
 
 pub is_unusual-requires : goal.is_unusual-requires
-is_unusual-requires c = let n = c in
-    (search rules, omega (arith, n.values_of-n.ensures, fields-few n.args.e.kind))
+is_unusual-requires c = (search rules, omega (arith, c.values_of-n.ensures, fields-few c.args.e.kind))
 
 pub overflow_add-i : goal.overflow_add-i
-overflow_add-i c = let n = c in
-    omega (arith, n.values_of-n.ensures, fields-few n.args.e.kind)
+overflow_add-i c = omega (arith, c.values_of-n.ensures, fields-few c.args.e.kind)
 
 pub loop-i-preserved : goal.loop-i-preserved
 loop-i-preserved c = let l = c.loop-i in
     let said = c.say_one-end.ensures in
     let n = c.values_of-n.result in
     let who = c.who_for-who.result in
-    let start = c in
     record {
       most = omega arith;
       same = said.long ∙ l.invariant.same;
       inside = omega (arith, said.put.room, said.long);
-      rest = λ zs q p. l.invariant.rest zs q (rw (one-said n l.i who start.args.e l.count start.args.number (omega arith)) (said ⟫ rw
+      rest = λ zs q p. l.invariant.rest zs q (rw (one-said n l.i who c.args.e l.count c.args.number (omega arith)) (said ⟫ rw
           (c.more_if-count.ensures, c.is_unusual.ensures) at p));
     }
 
@@ -61,7 +52,6 @@ pub returns : goal.returns
 returns c = let l = c.loop-i in
     let n = c.values_of-n in
     let who = c.who_for-who in
-    let start = c in
     rw (← n.ensures, ← who.ensures)
     (l.invariant.rest l.out l.end
-    (rw (none_said n.result l.i who.result start.args.e l.count start.args.number (omega arith)) (said-none l.invariant.inside)))
+    (rw (none_said n.result l.i who.result c.args.e l.count c.args.number (omega arith)) (said-none l.invariant.inside)))

@@ -1,16 +1,11 @@
 -- The invariant: saying what is left makes all that is said. Assumes nothing.
 use Prim.Native.Nat.{ℕ, ◌-◌, ◌≤◌}
-use mathlib.Core.Path.{◌≡◌, refl, sym, ap, ◌∙◌}
+use mathlib.Core.Path.{◌≡◌}
 use mathlib.Core.List.{List}
-use native.Mathlib.Omega.{arith}
 use lib.ListN.{length}
-use Rattle.codec.proofs.Rows.{fields-few}
 use Rattle.printing.specs.Said.{Said}
-use Rattle.printing.proofs.Sayings.{◌⟫◌, said-none}
 use Rattle.writer.specs.declared.typed_line.Entry.{Entry}
 use Rattle.writer.specs.Unusual.{remarks_from}
-use Rattle.writer.proofs.Unusuals.{one-said, none_said}
-use borrow.Author.Rules.{rules}
 use Rattle.writer.proofs.unusual.say_unusual.Given as goal
 
 pub record SoFar (out₀ : List ℕ) (at line : ℕ) (e : Entry) (before who n : ℕ) (out : List ℕ) (count end i : ℕ) : Type 0 where

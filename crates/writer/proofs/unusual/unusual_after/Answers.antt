@@ -1,9 +1,8 @@
 -- The invariant: counting the fields that are left makes the whole count. Assumes nothing.
-use Prim.Native.Nat.{◌-◌, ◌≤◌}
-use mathlib.Core.Path.{◌≡◌, refl, sym, ap, ◌∙◌}
+use Prim.Native.Nat.{◌-◌}
+use mathlib.Core.Path.{◌≡◌, refl, sym, ◌∙◌}
 use native.Mathlib.Omega.{arith}
 use Rattle.codec.proofs.Rows.{fields-few}
-use Rattle.writer.specs.Unusual.{unusual_from}
 use Rattle.writer.proofs.Unusuals.{one_field, no_field}
 use borrow.Author.Rules.{rules}
 use Rattle.writer.proofs.unusual.unusual_after.Goals as goal
@@ -17,16 +16,14 @@ is_unusual-requires c = let n = c.values_of-n in
 
 pub overflow_add-i : goal.overflow_add-i
 overflow_add-i c = omega (
-      arith,
-      c.values_of-n.ensures,
-      fields-few
-          c.args.e.kind,
-    )
+  arith,
+  c.values_of-n.ensures,
+  fields-few
+      c.args.e.kind,
+)
 
 pub loop-i-preserved : goal.loop-i-preserved
 loop-i-preserved c = let l = c.loop-i in
-    let start = c in
-    let n = start in
     (omega arith, rw (c.more_if-count.ensures, c.is_unusual.ensures) (sym (one_field _ l.i _ _ l.count (omega arith)) ∙ l.invariant.1))
 
 pub returns : goal.returns

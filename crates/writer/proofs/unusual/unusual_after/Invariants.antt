@@ -1,11 +1,7 @@
 -- The invariant: counting the fields that are left makes the whole count. Assumes nothing.
 use Prim.Native.Nat.{◌-◌, ◌≤◌}
-use mathlib.Core.Path.{◌≡◌, refl, sym, ap, ◌∙◌}
-use native.Mathlib.Omega.{arith}
-use Rattle.codec.proofs.Rows.{fields-few}
+use mathlib.Core.Path.{◌≡◌}
 use Rattle.writer.specs.Unusual.{unusual_from}
-use Rattle.writer.proofs.Unusuals.{one_field, no_field}
-use borrow.Author.Rules.{rules}
 use Rattle.writer.proofs.unusual.unusual_after.Given as goal
 
 abbrev pub invariant-loop-i : goal.invariant-loop-i

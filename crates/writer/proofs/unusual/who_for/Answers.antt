@@ -1,7 +1,6 @@
 -- By the kind. Assumes nothing.
-use mathlib.Core.Path.{refl, sym, ap, ◌∙◌}
+use mathlib.Core.Path.{refl}
 use borrow.Author.Tests.{eq-eqb, ne_eqb}
-use borrow.Author.Rules.{rules}
 use Rattle.writer.proofs.unusual.who_for.Goals as goal
 
 pub returns-then-e-eq-GRAZING : goal.returns-then-e-eq-GRAZING
