@@ -121,7 +121,8 @@ module _ (r xs : List ℕ) (many at i n : ℕ) (c : Counting r xs many at i n) w
 -- those of the first i records of xs are as they should be; asking those ahead makes the whole
 pub record Asking (xs : List ℕ) (ss : List (List ℕ)) (many at i : ℕ) : Type 0 where
   pub inside : at ≤ length xs
-  pub rest : all_as_often (take many (records_of xs)) ss (ahead xs many at i) ≡ all_as_often (take many (records_of xs)) ss (take many (records_of xs))
+  pub rest : all_as_often (take many (records_of xs)) ss (ahead xs many at i) ≡ all_as_often (take many (records_of xs)) ss
+      (take many (records_of xs))
 
 pub asking-none : (xs : List ℕ) (ss : List (List ℕ)) (many : ℕ) → Asking xs ss many 0 0
 asking-none xs ss many = record { inside = omega arith; rest = rw (ahead-all xs many) refl }

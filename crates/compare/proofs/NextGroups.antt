@@ -26,7 +26,8 @@ use Rattle.compare.specs.Records.{same}
 use Rattle.compare.specs.Places.{start, left_of, one_on_lem, onward, stands_in, part_end_lem, no_group, group_at, first_bytes}
 use Rattle.compare.specs.Values.{first_pair}
 use Rattle.compare.specs.Sections.{group_title, moved_text, same_each}
-use Rattle.compare.specs.Steps.{Stepping, Steps, at_places, alone_side, opened, is_silent, open_text, removed_step, added_step, both_step, last_step_lem}
+use Rattle.compare.specs.Steps.{Stepping, Steps, at_places, alone_side, opened, is_silent, open_text, removed_step, added_step, both_step}
+use Rattle.compare.specs.Steps.{last_step_lem}
 use Rattle.compare.specs.Steps.{group_step, no_step, stage_step, side_in, step_of}
 use Rattle.compare.proofs.Walks.{valid-start, valid-stands, left-none, passed-left}
 use Rattle.compare.proofs.Pieces.{open-silent, open_told}
@@ -99,14 +100,16 @@ module _ (xs ys : List ℕ) (p q : Place) (out : List ℕ) (d : Cursor) (u b : B
       → Steps (both_step xs ys p q) out out' (record { cursor = d; written = n })
   unfolding both_step
   made out' n s =
-      subst (λ (c : Cursor). Steps (both (same (first_bytes (left_of xs p)) (first_bytes (left_of ys q))) c) out out' (record { cursor = d; written = n })) e
+      subst (λ (c : Cursor). Steps (both (same (first_bytes (left_of xs p)) (first_bytes (left_of ys q))) c) out out'
+      (record { cursor = d; written = n })) e
       (subst (λ (v : Bool). Steps (both v d) out out' (record { cursor = d; written = n })) f s)
 
   pub both-silent : b ≡ true → Steps (both_step xs ys p q) out out (record { cursor = d; written = 0 })
   both-silent h =
       made out 0
       (record {
-        said = rw (open-silent u (group_title (group_at (left_of xs p)) (ascii ":\n")) (first_pair p.number (left_of xs p) q.number (left_of ys q)) xs ys d b i h)
+        said = rw (open-silent u (group_title (group_at (left_of xs p)) (ascii ":\n")) (first_pair p.number (left_of xs p) q.number (left_of ys q)) xs
+            ys d b i h)
             (said-none (omega arith));
         cursor = refl;
       })
@@ -118,7 +121,8 @@ module _ (xs ys : List ℕ) (p q : Place) (out : List ℕ) (d : Cursor) (u b : B
   both_told out' n g h k t =
       made out' n
       (record {
-        said = rw (open_told u (group_title (group_at (left_of xs p)) (ascii ":\n")) (first_pair p.number (left_of xs p) q.number (left_of ys q)) xs ys d b i h)
+        said = rw (open_told u (group_title (group_at (left_of xs p)) (ascii ":\n")) (first_pair p.number (left_of xs p) q.number (left_of ys q)) xs
+            ys d b i h)
             (subst (λ (m : ℕ). Said out out' 0 (group_title m (ascii ":\n") ++ (first_pair p.number (left_of xs p) q.number (left_of ys q)
             ++ moved_text u d.old.place.number d.new.place.number d.moved)) n) k t);
         cursor = refl;
@@ -130,13 +134,16 @@ module _ (alike : Bool) (xs ys : List ℕ) (p q : Place) (out out' : List ℕ) (
     (e : g ≡ group_at (left_of xs p)) (f : h ≡ group_at (left_of ys q)) where
   pub group-removed : g < h → Steps (removed_step xs p q) out out' s → Steps (group_step alike xs ys p q) out out' s
   unfolding group_step
-  group-removed k t = let z : ltb (group_at (left_of xs p)) (group_at (left_of ys q)) ≡ true = lt-ltb (group_at (left_of xs p)) (group_at (left_of ys q)) (omega (arith, k, e, f)) in rw z t
+  group-removed k t = let z : ltb (group_at (left_of xs p)) (group_at (left_of ys q)) ≡ true = lt-ltb (group_at (left_of xs p))
+      (group_at (left_of ys q)) (omega (arith, k, e, f)) in rw z t
 
   pub group-added : h ≤ g → h < g → Steps (added_step ys p q) out out' s → Steps (group_step alike xs ys p q) out out' s
   unfolding group_step
   group-added k l t =
-      let z : ltb (group_at (left_of xs p)) (group_at (left_of ys q)) ≡ false = le-ltb (group_at (left_of xs p)) (group_at (left_of ys q)) (omega (arith, k, e, f)) in
-      let y : ltb (group_at (left_of ys q)) (group_at (left_of xs p)) ≡ true = lt-ltb (group_at (left_of ys q)) (group_at (left_of xs p)) (omega (arith, l, e, f)) in
+      let z : ltb (group_at (left_of xs p)) (group_at (left_of ys q)) ≡ false = le-ltb (group_at (left_of xs p)) (group_at (left_of ys q))
+      (omega (arith, k, e, f)) in
+      let y : ltb (group_at (left_of ys q)) (group_at (left_of xs p)) ≡ true = lt-ltb (group_at (left_of ys q)) (group_at (left_of xs p))
+      (omega (arith, l, e, f)) in
       rw (z, y) t
 
   module _ (k : h ≤ g) (l : g ≤ h) where
@@ -206,7 +213,8 @@ module _ (xs ys : List ℕ) (p q : Place) (w : EachSame xs ys p q) (t u : Taken)
 
     pub each-stops : (c : Bool) → c ≡ same (take t.n (drop p.at xs)) (take u.n (drop q.at ys)) → not c ≡ true
         → false ≡ same_each (entries_of xs) (entries_of ys)
-    each-stops c e h = let z = next ∙ ap (λ (v : Bool). v && same_each (left_of xs (one_on_lem xs p)) (left_of ys (one_on_lem ys q))) (sym e ∙ not-true c h) in sym z ∙ w.rest
+    each-stops c e h = let z = next ∙ ap (λ (v : Bool). v && same_each (left_of xs (one_on_lem xs p)) (left_of ys (one_on_lem ys q)))
+        (sym e ∙ not-true c h) in sym z ∙ w.rest
 
     pub each_on : (c : Bool) (r s : Place) → c ≡ same (take t.n (drop p.at xs)) (take u.n (drop q.at ys)) → not c ≡ false
         → r ≡ one_on_lem xs p → Valid xs r → s ≡ one_on_lem ys q → Valid ys s → EachSame xs ys r s
@@ -248,7 +256,8 @@ module _ (xs ys : List ℕ) (c : Cursor) (a b : Bool) (e : a ≡ side_in xs c.ol
       let z = not-false (a && b) h in
       (side-stands xs c.old (sym e ∙ and_l a b z), side-stands ys c.new (sym f ∙ and_r a b z))
 
-  pub next-ended : (alike : Bool) (out out' : List ℕ) (s : Step) → not (a && b) ≡ true → Steps no_step out out' s → Steps (step_of alike xs ys c) out out' s
+  pub next-ended : (alike : Bool) (out out' : List ℕ) (s : Step) → not (a && b) ≡ true → Steps no_step out out' s
+      → Steps (step_of alike xs ys c) out out' s
   unfolding step_of
   next-ended alike out out' s h t = let z : side_in xs c.old && side_in ys c.new ≡ false = both-in ∙ not-true (a && b) h in rw z t
 

@@ -98,7 +98,14 @@ pairing-none xs ys many p q v w =
       inside' = w.inside;
       few = omega arith;
       counts =
-          record { pairs = omega arith; leading = omega arith; trailing = omega arith; first = omega arith; last = omega arith; others = omega arith };
+          record {
+            pairs = omega arith;
+            leading = omega arith;
+            trailing = omega arith;
+            first = omega arith;
+            last = omega arith;
+            others = omega arith;
+          };
       range = v.range;
       range' = w.range;
       rest = rw sub-zero refl;
@@ -293,7 +300,8 @@ module _ (es ns : List Entry) (n m l : ℕ) (r : Counts) (p : n ≡ length es) (
     others-fit =
         let a : Within r = rw f (runs-within no_runs es ns (record { first = omega arith; last = omega arith })) in
         let b : Within s =
-        rw g (runs-within no_runs (drop (n - (l - r.leading)) es) (drop (m - (l - r.leading)) ns) (record { first = omega arith; last = omega arith })) in
+        rw g (runs-within no_runs (drop (n - (l - r.leading)) es) (drop (m - (l - r.leading)) ns)
+        (record { first = omega arith; last = omega arith })) in
         omega (arith, a.first, b.last, front-least, back-most)
 
     pub plan-is : (b : Bool) (o : ℕ) → b ≡ moved_of r.leading s.trailing es ns

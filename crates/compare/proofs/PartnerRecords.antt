@@ -226,7 +226,8 @@ module _ (xs : List ℕ) (m : ℕ) (ys : List ℕ) (n : ℕ) (places links : Lis
       let a = ahead-far xs m at i h in
       let left : all_found_at ys (take m places) ≡ [] = none_left _ (omega (arith, c.count, h)) in
       same-counts _ _
-      (λ s. let k : 0 + times_in s (take n (records_of ys)) ≡ times_in s (take m (records_of xs)) + 0 = rw (a, left) at (c.counts s) in omega (arith, k))
+      (λ s. let k : 0 + times_in s (take n (records_of ys)) ≡ times_in s (take m (records_of xs)) + 0 = rw (a, left) at (c.counts s) in
+      omega (arith, k))
       (λ s f. c.details s f ∙ ap (times_in s) a)
 
   module _ (rest : List ℕ) (e : rest ≡ drop at xs) (size : ℕ) (y : Ready rest size) (some : size ≡ 0 → ⊥) (h : i < m) (x : List ℕ)

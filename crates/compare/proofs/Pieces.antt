@@ -26,7 +26,8 @@ use Rattle.compare.specs.Values.{alone_text, pair_text, first_alone, first_pair}
 use Rattle.compare.specs.Sections.{moved_text, others_text, tail_text}
 use Rattle.line_bytes.specs.Lines.{figure_count}
 use Rattle.compare.specs.Figures.{sum_text}
-use Rattle.compare.specs.Steps.{Stepping, Steps, at_places, opened, one_told, is_silent, subtotal_at, open_text, before_step, old_step, new_step, pair_step, tail_step, section_step}
+use Rattle.compare.specs.Steps.{Stepping, Steps, at_places, opened, one_told, is_silent, subtotal_at, open_text, before_step, old_step, new_step}
+use Rattle.compare.specs.Steps.{pair_step, tail_step, section_step}
 
 -- ---- the next record, and the next pair
 
@@ -98,7 +99,8 @@ pair-stepped xs ys c out out' n s t p e f =
           ∙ ap (λ (x : Side). record { stage = 5; old = one_told xs c.old; new = x; paired = c.paired; moved = c.moved; others = c.others }) f;
     }
 
-pub tail-stepped : (xs ys : List ℕ) (c : Cursor) (out out' : List ℕ) (n : ℕ) (d : Cursor) → Said out out' 0 (others_text c.others ++ sum_text (ascii "subtotal") figure_count (subtotal_at xs c.old) (subtotal_at ys c.new)) n
+pub tail-stepped : (xs ys : List ℕ) (c : Cursor) (out out' : List ℕ) (n : ℕ) (d : Cursor)
+    → Said out out' 0 (others_text c.others ++ sum_text (ascii "subtotal") figure_count (subtotal_at xs c.old) (subtotal_at ys c.new)) n
     → d ≡ at_places 6 c.old.end c.new.end → Steps (tail_step xs ys c) out out' (record { cursor = d; written = n })
 unfolding tail_text
 tail-stepped xs ys c out out' n d p e = record { said = p; cursor = e }
@@ -119,7 +121,8 @@ module _ (xs ys : List ℕ) (c : Cursor) (out : List ℕ) (d : Cursor) (b : Bool
       → Steps (before_step xs ys c) out out (record { cursor = d; written = 0 })
   unfolding before_step
   before-silent e f h =
-      subst (λ (x : Cursor). Steps (record { text = open_text true (ascii "before the groups:\n") [] xs ys x; cursor = x }) out out (record { cursor = d; written = 0 })) e
+      subst (λ (x : Cursor). Steps (record { text = open_text true (ascii "before the groups:\n") [] xs ys x; cursor = x }) out out
+      (record { cursor = d; written = 0 })) e
       (record { said = rw (open-silent true (ascii "before the groups:\n") [] xs ys d b f h) (said-none (omega arith)); cursor = refl })
 
   pub before-told : (out' : List ℕ) (n : ℕ) → d ≡ opened false xs c.old.place ys c.new.place → b ≡ is_silent true xs ys d → b ≡ false
@@ -127,7 +130,8 @@ module _ (xs ys : List ℕ) (c : Cursor) (out : List ℕ) (d : Cursor) (b : Bool
       → Steps (before_step xs ys c) out out' (record { cursor = d; written = n })
   unfolding before_step
   before-told out' n e f h p =
-      subst (λ (x : Cursor). Steps (record { text = open_text true (ascii "before the groups:\n") [] xs ys x; cursor = x }) out out' (record { cursor = d; written = n })) e
+      subst (λ (x : Cursor). Steps (record { text = open_text true (ascii "before the groups:\n") [] xs ys x; cursor = x }) out out'
+      (record { cursor = d; written = n })) e
       (record { said = rw (open_told true (ascii "before the groups:\n") [] xs ys d b f h) p; cursor = refl })
 
 -- ---- the next step of a section

@@ -73,5 +73,6 @@ kind-byte k r e = omega (arith, e)
 -- ---- a detail, as the code finds it
 
 -- t is the sort of the row of r
-pub detail-by : (s t : Sort) (row : ℕ) (r : List ℕ) → s ≡ sort_of row → row ≡ record_row r → s ≡ t → by_sort t false false true true false ≡ is_detail r
+pub detail-by : (s t : Sort) (row : ℕ) (r : List ℕ) → s ≡ sort_of row → row ≡ record_row r → s ≡ t
+    → by_sort t false false true true false ≡ is_detail r
 detail-by s t row r e k q = rw (← q, e, k) refl

@@ -131,7 +131,14 @@ module _ (grouped : Bool) (xs ys : List ℕ) (p q s t : Place) (v : Valid xs p) 
       opened-is =
           ap (λ (x : Side). record { stage = 5; old = x; new = second; paired = b.paired; moved = m; others = b.others })
           (fs ∙ ap (λ (n : ℕ). side_after xs p b.front n s grouped) kk)
-          ∙ ap (λ (x : Side). record { stage = 5; old = side_after xs p b.front (old_told b) s grouped; new = x; paired = b.paired; moved = m; others = b.others })
+          ∙ ap (λ (x : Side). record {
+            stage = 5;
+            old = side_after xs p b.front (old_told b) s grouped;
+            new = x;
+            paired = b.paired;
+            moved = m;
+            others = b.others;
+          })
           (ss ∙ ap (λ (n : ℕ). side_after ys q b.front n t grouped) ll)
           ∙ ap (λ (n : ℕ). record {
             stage = 5;

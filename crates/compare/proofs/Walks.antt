@@ -166,11 +166,13 @@ module _ (xs : List ℕ) (p q : Place) (w : InPart xs p q) (t : Taken) (u : Turn
 
     pub part-on : (s : Place) → b ≡ false → s ≡ one_on_lem xs q → Valid xs s → InPart xs p s
     part-on s h f v =
-        let n : part_length_lem xs q ≡ suc (part_length_lem xs (one_on_lem xs q)) = part-goes (left_of xs q) _ _ (passed-left xs q w.valid t u k) (sym e ∙ h) in
+        let n : part_length_lem xs q ≡ suc (part_length_lem xs (one_on_lem xs q)) = part-goes (left_of xs q) _ _ (passed-left xs q w.valid t u k)
+        (sym e ∙ h) in
         let m : s.number ≡ q.number + 1 = ap (λ (x : Place). x.number) (f ∙ sym (passed_on xs q w.valid t u k)) in
         let l : part_length_lem xs s ≡ part_length_lem xs (one_on_lem xs q) = ap (part_length_lem xs) f in
         record {
           valid = v;
-          rest = ap (λ (x : Place). onward (part_length_lem xs x) xs x) f ∙ sym (onward-one (part_length_lem xs (one_on_lem xs q)) xs q (part_length_lem xs q) n) ∙ w.rest;
+          rest = ap (λ (x : Place). onward (part_length_lem xs x) xs x) f
+              ∙ sym (onward-one (part_length_lem xs (one_on_lem xs q)) xs q (part_length_lem xs q) n) ∙ w.rest;
           number = omega (arith, w.number, n, m, l);
         }

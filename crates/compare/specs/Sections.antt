@@ -10,7 +10,8 @@ use Rattle.why.specs.Why.{why_of}
 use Rattle.why.specs.Remarks.{machine_text}
 use Rattle.walk.specs.Walk.{Entry, entries_of}
 use Rattle.compare.specs.Records.{same}
-use Rattle.compare.specs.Places.{part_of, after_part, no_group, group_at, group_size, after_group, first_bytes, subtotal_of, close_lines, last_line_lem}
+use Rattle.compare.specs.Places.{part_of, after_part, no_group, group_at, group_size, after_group, first_bytes, subtotal_of, close_lines}
+use Rattle.compare.specs.Places.{last_line_lem}
 use Rattle.compare.specs.Plans.{plan_of, old_told, new_told, moved_many}
 use Rattle.compare.specs.Figures.{sum_text}
 use Rattle.compare.specs.Values.{word_of, alone_text, pair_text, first_pair}
@@ -81,7 +82,8 @@ group_title g word = ascii "group " ++ (decimal g ++ word)
 -- the group that both books have next
 unfoldable pub both_groups_text : ℕ → List Entry → ℕ → List Entry → List ℕ
 both_groups_text i es j ns =
-    parts_text (group_title (group_at es) (ascii ":\n")) (first_pair i es j ns) (same (first_bytes es) (first_bytes ns)) true (i + 1) (drop 1 es) (j + 1)
+    parts_text (group_title (group_at es) (ascii ":\n")) (first_pair i es j ns) (same (first_bytes es) (first_bytes ns)) true (i + 1) (drop 1 es)
+    (j + 1)
     (drop 1 ns)
 
 -- the group that only the old book has, and one that only the new one has

@@ -7,7 +7,8 @@ ghost use Rattle.compare.specs.InnerSides.{Opens};
 ghost use Rattle.compare.specs.Records.{same};
 ghost use Rattle.compare.specs.Places.{left_of, onward, group_at, first_bytes};
 ghost use Rattle.compare.specs.Sections.{group_title, total_text, same_each, last_text};
-ghost use Rattle.compare.specs.Steps.{Steps, opened, alone_side, removed_step, added_step, both_step, last_step_lem, group_step, verdict_text, verdict_step};
+ghost use Rattle.compare.specs.Steps.{Steps, opened, alone_side, removed_step, added_step, both_step, last_step_lem, group_step, verdict_text};
+ghost use Rattle.compare.specs.Steps.{verdict_step};
 
 use crate::figures::say_sum;
 use crate::places::{

@@ -11,7 +11,7 @@ pub mod plans; // plans.rt: two runs of records compared
 mod records; // records.rt: a record's bytes
 pub mod runs; // runs.rt: pairs of records
 mod sections; // sections.rt: the steps of a section
-mod values; // values.rt: a record in words
+mod in_words; // in_words.rt: a record in words
 
 ghost use Rattle.std.specs.Prelude.{◌≡◌};
 ghost use Rattle.compare.specs.InnerSides.{ValidSide};

@@ -5,7 +5,7 @@ ghost use Rattle.names.specs.Hints.{hint_text};
 ghost use Rattle.compare.specs.Sections.{book_text};
 ghost use Rattle.compare.specs.Remarks.{book_hint, status_byte};
 
-use crate::values::say_word;
+use crate::in_words::say_word;
 use names::hints;
 use names::hints::Given;
 use printing::say;

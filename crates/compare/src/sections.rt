@@ -9,14 +9,15 @@ ghost use Rattle.line_bytes.specs.Lines.{figure_count};
 ghost use Rattle.compare.specs.Figures.{sum_text};
 ghost use Rattle.compare.specs.Values.{first_alone, first_pair};
 ghost use Rattle.compare.specs.Sections.{span_text, moved_now, moved_under, moved_text, others_text};
-ghost use Rattle.compare.specs.Steps.{Steps, side_after, opened, one_told, subtotal_at, is_silent, before_step, old_step, new_step, pair_step, tail_step};
+ghost use Rattle.compare.specs.Steps.{Steps, side_after, opened, one_told, subtotal_at, is_silent, before_step, old_step, new_step, pair_step};
+ghost use Rattle.compare.specs.Steps.{tail_step};
 ghost use Rattle.compare.specs.Steps.{section_step};
 
 use crate::figures::say_sum;
+use crate::in_words::{say_alone, say_pair};
 use crate::places::{Place, end_of_part, reach, subtotal, turn};
 use crate::plans::{less, moved_many, new_told, old_told, planned};
 use crate::records::same;
-use crate::values::{say_alone, say_pair};
 use crate::{Cursor, Side, Step, at_places};
 use base::{first_of, rest_of};
 use line_bytes::{FIGURES, LINES_MOST};

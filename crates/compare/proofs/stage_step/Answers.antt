@@ -50,7 +50,8 @@ shape_of-out-then-c-eq6 c = search rules
 
 pub returns-then-c-eq6 : goal.returns-then-c-eq6
 unfolding stage_step
-returns-then-c-eq6 c = rw (le-ltb _ _ c.if-c-lt4.false, ne_eqb _ _ c.if-c-eq4.false, ne_eqb _ _ c.if-c-eq5.false, eq-eqb _ _ c.if-c-eq6.true) c.group_step.ensures
+returns-then-c-eq6 c = rw (le-ltb _ _ c.if-c-lt4.false, ne_eqb _ _ c.if-c-eq4.false, ne_eqb _ _ c.if-c-eq5.false, eq-eqb _ _ c.if-c-eq6.true)
+    c.group_step.ensures
 
 pub end_step-requires : goal.end_step-requires
 unfolding stage_step

@@ -12,4 +12,7 @@ pub open-requires : goal.open-requires
 open-requires c = (c.reach-s.ensures.1, c.reach-t.ensures.1)
 
 pub returns : goal.returns
-returns c = record { value = both-opened _ _ c.args.p c.args.q _ _ _ c.«open».ensures.value c.reach-s.ensures.0 c.reach-t.ensures.0; opens = c.«open».ensures.opens }
+returns c = record {
+  value = both-opened _ _ c.args.p c.args.q _ _ _ c.«open».ensures.value c.reach-s.ensures.0 c.reach-t.ensures.0;
+  opens = c.«open».ensures.opens;
+}

@@ -21,4 +21,11 @@ pub first_of-requires-2 : goal.first_of-requires-2
 first_of-requires-2 c = c.step-u.ensures.inside
 
 pub returns : goal.returns
-returns c = rw (c.first_of.ensures, c.first_of-2.ensures, c.rest_of-xs.ensures, c.rest_of-ys.ensures, first-is _ _ _ (rw c.rest_of-xs.ensures at c.step-t.ensures), first-is _ _ _ (rw c.rest_of-ys.ensures at c.step-u.ensures)) at c.same.ensures
+returns c = rw (
+  c.first_of.ensures,
+  c.first_of-2.ensures,
+  c.rest_of-xs.ensures,
+  c.rest_of-ys.ensures,
+  first-is _ _ _ (rw c.rest_of-xs.ensures at c.step-t.ensures),
+  first-is _ _ _ (rw c.rest_of-ys.ensures at c.step-u.ensures),
+) at c.same.ensures

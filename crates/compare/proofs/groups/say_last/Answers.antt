@@ -34,7 +34,8 @@ shape_of-out-then-same_each c = search rules
 
 pub returns-then-same_each : goal.returns-then-same_each
 unfolding last_text
-returns-then-same_each c = rw (sym c.alike_on.ensures ∙ c.if-alike_on.false, sym c.same_each.ensures ∙ c.if-same_each.true) c.say-then-same_each.ensures
+returns-then-same_each c = rw (sym c.alike_on.ensures ∙ c.if-alike_on.false, sym c.same_each.ensures ∙ c.if-same_each.true)
+    c.say-then-same_each.ensures
 
 pub say-requires-2 : goal.say-requires-2
 unfolding last_text

@@ -58,4 +58,11 @@ shape_of-out c = search rules
 
 pub returns : goal.returns
 unfolding total_text
-returns c = rw (c.last_line-s.ensures, c.first_of.ensures, c.close_lines-n.ensures.lines_after, c.last_line-t.ensures, c.first_of-2.ensures, c.close_lines-m.ensures.lines_after) at c.say_sum.ensures
+returns c = rw (
+  c.last_line-s.ensures,
+  c.first_of.ensures,
+  c.close_lines-n.ensures.lines_after,
+  c.last_line-t.ensures,
+  c.first_of-2.ensures,
+  c.close_lines-m.ensures.lines_after,
+) at c.say_sum.ensures

@@ -42,7 +42,8 @@ shape_of-out-then-stage-eq2 c = search rules
 
 pub returns-then-stage-eq2 : goal.returns-then-stage-eq2
 unfolding verdict_text
-returns-then-stage-eq2 c = rw (ne_eqb _ _ c.if-stage-eq0.false, ne_eqb _ _ c.if-stage-eq1.false, eq-eqb _ _ c.if-stage-eq2.true) c.say_book-then-stage-eq2.ensures
+returns-then-stage-eq2 c = rw (ne_eqb _ _ c.if-stage-eq0.false, ne_eqb _ _ c.if-stage-eq1.false, eq-eqb _ _ c.if-stage-eq2.true)
+    c.say_book-then-stage-eq2.ensures
 
 pub why-requires-2 : goal.why-requires-2
 unfolding verdict_text
@@ -58,4 +59,5 @@ shape_of-out c = search rules
 
 pub returns : goal.returns
 unfolding verdict_text
-returns c = rw (ne_eqb _ _ c.if-stage-eq0.false, ne_eqb _ _ c.if-stage-eq1.false, ne_eqb _ _ c.if-stage-eq2.false) (rw c.why-2.ensures at c.say_first-2.ensures)
+returns c = rw (ne_eqb _ _ c.if-stage-eq0.false, ne_eqb _ _ c.if-stage-eq1.false, ne_eqb _ _ c.if-stage-eq2.false)
+    (rw c.why-2.ensures at c.say_first-2.ensures)

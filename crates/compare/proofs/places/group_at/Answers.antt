@@ -21,11 +21,14 @@ pub kind_of-requires : goal.kind_of-requires
 kind_of-requires c = long-enough _ _ _ c.first_of-r.ensures c.step-t.ensures.inside (c.step-t.ensures.some (omega (arith, c.if-t-eq0.false)))
 
 pub returns-then-kind_of-ne-HEADING : goal.returns-then-kind_of-ne-HEADING
-returns-then-kind_of-ne-HEADING c = group-other _ _ _ (passed-left _ _ c.requires _ (rw c.rest_of-rest.ensures at c.step-t.ensures) (omega (arith, c.if-t-eq0.false))) (λ z. c.if-kind_of-ne-HEADING.true ((rw (c.first_of-r.ensures, c.rest_of-rest.ensures) at c.kind_of.ensures) ∙ z))
+returns-then-kind_of-ne-HEADING c = group-other _ _ _
+    (passed-left _ _ c.requires _ (rw c.rest_of-rest.ensures at c.step-t.ensures) (omega (arith, c.if-t-eq0.false)))
+    (λ z. c.if-kind_of-ne-HEADING.true ((rw (c.first_of-r.ensures, c.rest_of-rest.ensures) at c.kind_of.ensures) ∙ z))
 
 pub values-v-requires : goal.values-v-requires
 values-v-requires c = rw c.first_of-r.ensures (c.step-t.ensures.readable (omega (arith, c.if-t-eq0.false)))
 
 pub returns : goal.returns
-returns c = group-some _ _ _ _ (passed-left _ _ c.requires _ (rw c.rest_of-rest.ensures at c.step-t.ensures) (omega (arith, c.if-t-eq0.false))) (sym (rw (c.first_of-r.ensures, c.rest_of-rest.ensures) at c.kind_of.ensures) ∙ c.if-kind_of-ne-HEADING.false)
+returns c = group-some _ _ _ _ (passed-left _ _ c.requires _ (rw c.rest_of-rest.ensures at c.step-t.ensures) (omega (arith, c.if-t-eq0.false)))
+    (sym (rw (c.first_of-r.ensures, c.rest_of-rest.ensures) at c.kind_of.ensures) ∙ c.if-kind_of-ne-HEADING.false)
     (rw (c.first_of-r.ensures, c.rest_of-rest.ensures) at c.values-v.ensures)

@@ -25,7 +25,8 @@ pub loop-i-smaller : goal.loop-i-smaller
 loop-i-smaller c = omega (arith, c.loop-i-test.true)
 
 pub loop-i-preserved : goal.loop-i-preserved
-loop-i-preserved c = let a = c.after-q.ensures in reaching-on _ _ _ _ _ c.loop-i.invariant _ (rw c.rest_of.ensures at c.step-t.ensures) _ c.loop-i-test.true a.0 a.1
+loop-i-preserved c = let a = c.after-q.ensures in
+    reaching-on _ _ _ _ _ c.loop-i.invariant _ (rw c.rest_of.ensures at c.step-t.ensures) _ c.loop-i-test.true a.0 a.1
 
 pub returns : goal.returns
 returns c = reaching-far _ _ _ _ _ c.loop-i.invariant c.loop-i-test.false

@@ -15,4 +15,8 @@ pub turn-t-requires : goal.turn-t-requires
 turn-t-requires c = (c.requires.0.range, c.requires.1)
 
 pub returns : goal.returns
-returns c = record { lines_after = subtotal-is c.args.grouped _ _ _ _ _ (rw c.rest_of.ensures at c.turn-t.ensures.turned) (rw c.rest_of.ensures at c.turn-t.ensures.written) (ap not c.if-not-grouped.false) c.least.ensures; upper_bound = omega (arith, c.least.ensures, c.turn-t.ensures.written.inside) }
+returns c = record {
+  lines_after = subtotal-is c.args.grouped _ _ _ _ _ (rw c.rest_of.ensures at c.turn-t.ensures.turned)
+      (rw c.rest_of.ensures at c.turn-t.ensures.written) (ap not c.if-not-grouped.false) c.least.ensures;
+  upper_bound = omega (arith, c.least.ensures, c.turn-t.ensures.written.inside);
+}

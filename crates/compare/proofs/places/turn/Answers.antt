@@ -7,9 +7,16 @@ next_record-t-requires c = let s = c in (s.requires.0, search rules)
 
 pub returns-then-t-next : goal.returns-then-t-next
 returns-then-t-next c = let n = c in
-    let s = n in record { turned = turned_none s.args.a _ _ n.next_record-t.ensures.result s.requires.0 c.if-t-next.true; written = none_written _ _ _ }
+    let s = n in record {
+      turned = turned_none s.args.a _ _ n.next_record-t.ensures.result s.requires.0 c.if-t-next.true;
+      written = none_written _ _ _;
+    }
 
 pub returns : goal.returns
 returns c = let n = c in
     let s = n in
-    let t = n.next_record-t.ensures in record { turned = turned_on s.args.a _ _ t.result s.requires.0 c.if-t-next.false t.inside.2; written = turned-lines s.args.a _ _ t.result s.requires.0 c.if-t-next.false _ _ t.lines }
+    let t = n.next_record-t.ensures in
+    record {
+      turned = turned_on s.args.a _ _ t.result s.requires.0 c.if-t-next.false t.inside.2;
+      written = turned-lines s.args.a _ _ t.result s.requires.0 c.if-t-next.false _ _ t.lines;
+    }

@@ -24,4 +24,5 @@ returns c = let p = c.turn-t.ensures in
     let q = c.turn-u.ensures in
     let i = c.if-t-u.false in
     looked-on _ _ _ _ _ _ p.turned q.turned i _ _ c.alike-records.ensures
-    (c.alike-lines.ensures ∙ lines_same _ _ _ _ _ _ _ _ p.written q.written (left-some _ _ _ _ _ _ p.turned q.turned i) (right-some _ _ _ _ _ _ p.turned q.turned i))
+    (c.alike-lines.ensures ∙ lines_same _ _ _ _ _ _ _ _ p.written q.written (left-some _ _ _ _ _ _ p.turned q.turned i)
+    (right-some _ _ _ _ _ _ p.turned q.turned i))

@@ -16,7 +16,8 @@ pub look-l-requires : goal.look-l-requires
 look-l-requires c = let i = c.loop-k.invariant in (i.range, i.range')
 
 pub returns-then-l-eq0 : goal.returns-then-l-eq0
-returns-then-l-eq0 c = pairing-ends _ _ _ _ _ _ _ _ _ _ _ c.loop-k.invariant _ _ c.rest_of.ensures c.rest_of-in-loop-k.ensures _ c.look-l.ensures c.if-l-eq0.true
+returns-then-l-eq0 c = pairing-ends _ _ _ _ _ _ _ _ _ _ _ c.loop-k.invariant _ _ c.rest_of.ensures c.rest_of-in-loop-k.ensures _ c.look-l.ensures
+    c.if-l-eq0.true
 
 pub one_more-u-requires : goal.one_more-u-requires
 one_more-u-requires c = let n = c.loop-k.invariant.counts in
@@ -32,10 +33,12 @@ one_more-u-requires c = let n = c.loop-k.invariant.counts in
     }
 
 pub overflow_add-at : goal.overflow_add-at
-overflow_add-at c = omega (arith, pair_inside _ _ _ _ _ _ _ _ _ _ _ c.loop-k.invariant _ _ c.rest_of.ensures c.rest_of-in-loop-k.ensures _ c.look-l.ensures, c.well_formed)
+overflow_add-at c = omega
+    (arith, pair_inside _ _ _ _ _ _ _ _ _ _ _ c.loop-k.invariant _ _ c.rest_of.ensures c.rest_of-in-loop-k.ensures _ c.look-l.ensures, c.well_formed)
 
 pub overflow_add-to : goal.overflow_add-to
-overflow_add-to c = omega (arith, pair-inside' _ _ _ _ _ _ _ _ _ _ _ c.loop-k.invariant _ _ c.rest_of.ensures c.rest_of-in-loop-k.ensures _ c.look-l.ensures, c.well_formed)
+overflow_add-to c = omega
+    (arith, pair-inside' _ _ _ _ _ _ _ _ _ _ _ c.loop-k.invariant _ _ c.rest_of.ensures c.rest_of-in-loop-k.ensures _ c.look-l.ensures, c.well_formed)
 
 pub overflow_add-k : goal.overflow_add-k
 overflow_add-k c = omega (arith, c.loop-k-test.true, c.ranges)
@@ -44,7 +47,8 @@ pub loop-k-smaller : goal.loop-k-smaller
 loop-k-smaller c = omega (arith, c.loop-k-test.true)
 
 pub loop-k-preserved : goal.loop-k-preserved
-loop-k-preserved c = pairing-on _ _ _ _ _ _ _ _ _ _ _ c.loop-k.invariant _ _ c.rest_of.ensures c.rest_of-in-loop-k.ensures _ c.look-l.ensures _ c.loop-k-test.true c.one_more-u.ensures c.if-l-eq0.false
+loop-k-preserved c = pairing-on _ _ _ _ _ _ _ _ _ _ _ c.loop-k.invariant _ _ c.rest_of.ensures c.rest_of-in-loop-k.ensures _ c.look-l.ensures _
+    c.loop-k-test.true c.one_more-u.ensures c.if-l-eq0.false
 
 pub returns : goal.returns
 returns c = pairing-far _ _ _ _ _ _ _ _ _ _ _ c.loop-k.invariant c.loop-k-test.false

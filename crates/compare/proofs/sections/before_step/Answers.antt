@@ -17,4 +17,5 @@ pub say_moved_in-end-requires : goal.say_moved_in-end-requires
 say_moved_in-end-requires c = let s = c.say-title.ensures in (omega (arith, s.put.room, s.long), c.open-d.ensures.opens)
 
 pub returns : goal.returns
-returns c = before-told _ _ c.args.c _ _ _ _ _ c.open-d.ensures.value c.is_silent.ensures c.if-is_silent.false (c.say-title.ensures ⟫ c.say_moved_in-end.ensures)
+returns c = before-told _ _ c.args.c _ _ _ _ _ c.open-d.ensures.value c.is_silent.ensures c.if-is_silent.false
+    (c.say-title.ensures ⟫ c.say_moved_in-end.ensures)

@@ -16,4 +16,5 @@ pub first_of-requires-2 : goal.first_of-requires-2
 first_of-requires-2 c = c.subtotal-m.ensures.upper_bound
 
 pub returns : goal.returns
-returns c = rw (c.same-sums.ensures, c.first_of.ensures, c.first_of-2.ensures, c.subtotal-n.ensures.lines_after, c.subtotal-m.ensures.lines_after) refl
+returns c = rw (c.same-sums.ensures, c.first_of.ensures, c.first_of-2.ensures, c.subtotal-n.ensures.lines_after, c.subtotal-m.ensures.lines_after)
+    refl

@@ -32,4 +32,5 @@ shape_of-out c = search rules
 
 pub returns : goal.returns
 unfolding moved_text
-returns c = rw (ne_eqb _ _ c.if-many-eq0.false) (c.say_span-which.ensures ⟫ c.say-order.ensures ⟫ c.say_moved_now-now.ensures ⟫ c.say_moved_under.ensures)
+returns c = rw (ne_eqb _ _ c.if-many-eq0.false) (c.say_span-which.ensures ⟫ c.say-order.ensures ⟫ c.say_moved_now-now.ensures
+    ⟫ c.say_moved_under.ensures)

@@ -14,7 +14,8 @@ pub turn-t-requires : goal.turn-t-requires
 turn-t-requires c = (c.requires.range, search rules)
 
 pub returns-then-t-eq0 : goal.returns-then-t-eq0
-returns-then-t-eq0 c = rw (alone-none c.args.new c.args.p.number _ ((rw c.rest_of-rest.ensures at c.turn-t.ensures.turned).ended c.if-t-eq0.true)) (said-none (omega arith))
+returns-then-t-eq0 c = rw (alone-none c.args.new c.args.p.number _ ((rw c.rest_of-rest.ensures at c.turn-t.ensures.turned).ended c.if-t-eq0.true))
+    (said-none (omega arith))
 
 pub first_of-requires : goal.first_of-requires
 first_of-requires c = c.turn-t.ensures.turned.inside

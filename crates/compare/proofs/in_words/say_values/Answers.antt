@@ -5,7 +5,7 @@ use Rattle.printing.proofs.Sayings.{◌⟫◌}
 use Rattle.compare.proofs.Wordings.{kind-there}
 use Rattle.compare.specs.Values.{values_text}
 use Rattle.codec.proofs.Rows.{fields-few}
-use Rattle.compare.proofs.values.say_values.Goals as goal
+use Rattle.compare.proofs.in_words.say_values.Goals as goal
 
 pub row_at-row-requires : goal.row_at-row-requires
 unfolding values_text
@@ -29,7 +29,8 @@ say_row-kind-requires c = search rules
 
 pub say_fields-end-requires : goal.say_fields-end-requires
 unfolding values_text
-say_fields-end-requires c = let s = c.say_row-kind.ensures in (omega (arith, s.put.room, s.long), omega (arith, c.values_of-n.ensures, fields-few c.row_at-row.result))
+say_fields-end-requires c = let s = c.say_row-kind.ensures in
+    (omega (arith, s.put.room, s.long), omega (arith, c.values_of-n.ensures, fields-few c.row_at-row.result))
 
 pub say-requires : goal.say-requires
 unfolding values_text
@@ -41,4 +42,5 @@ shape_of-out c = search rules
 
 pub returns : goal.returns
 unfolding values_text
-returns c = rw (c.values-ws.ensures, c.values-vs.ensures, c.values_of-n.ensures, c.row_at-row.ensures) at (c.say_row-kind.ensures ⟫ c.say_fields-end.ensures ⟫ c.say.ensures)
+returns c = rw (c.values-ws.ensures, c.values-vs.ensures, c.values_of-n.ensures, c.row_at-row.ensures) at (c.say_row-kind.ensures
+    ⟫ c.say_fields-end.ensures ⟫ c.say.ensures)

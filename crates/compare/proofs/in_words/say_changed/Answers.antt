@@ -4,7 +4,7 @@ use borrow.Author.Rules.{rules}
 use Rattle.printing.proofs.Sayings.{◌⟫◌}
 use Rattle.compare.proofs.Wordings.{kind-there}
 use Rattle.compare.specs.Values.{changed_text}
-use Rattle.compare.proofs.values.say_changed.Goals as goal
+use Rattle.compare.proofs.in_words.say_changed.Goals as goal
 
 pub detail-requires : goal.detail-requires
 unfolding changed_text
@@ -40,4 +40,5 @@ shape_of-out c = search rules
 
 pub returns : goal.returns
 unfolding changed_text
-returns c = c.say_both-number.ensures ⟫ c.say_values-all.ensures ⟫ (rw (c.own_line-line.ensures, c.detail.ensures, c.own_line-other.ensures, c.detail-2.ensures) at c.say_figures.ensures)
+returns c = c.say_both-number.ensures ⟫ c.say_values-all.ensures
+    ⟫ (rw (c.own_line-line.ensures, c.detail.ensures, c.own_line-other.ensures, c.detail-2.ensures) at c.say_figures.ensures)

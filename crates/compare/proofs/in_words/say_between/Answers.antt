@@ -1,6 +1,6 @@
 -- Assumes nothing.
 use Rattle.printing.proofs.Sayings.{said-none}
-use Rattle.compare.proofs.values.say_between.Goals as goal
+use Rattle.compare.proofs.in_words.say_between.Goals as goal
 
 pub returns-then-any : goal.returns-then-any
 returns-then-any c = rw c.if-any.true c.say.ensures

@@ -6,7 +6,7 @@ use borrow.Author.Tests.{eq-eqb, ne_eqb}
 use Rattle.printing.proofs.Sayings.{◌⟫◌, said-none}
 use Rattle.compare.proofs.Wordings.{kind-there}
 use Rattle.compare.specs.Values.{pair_text}
-use Rattle.compare.proofs.values.say_pair.Goals as goal
+use Rattle.compare.proofs.in_words.say_pair.Goals as goal
 
 pub same-requires : goal.same-requires
 unfolding pair_text
@@ -34,7 +34,8 @@ shape_of-out-then-row_at c = search rules
 
 pub returns-then-row_at : goal.returns-then-row_at
 unfolding pair_text
-returns-then-row_at c = rw (sym c.same.ensures ∙ c.if-same.false, eq-eqb _ _ (sym c.row_at.ensures ∙ c.if-row_at.true ∙ c.row_at-2.ensures)) c.say_changed.ensures
+returns-then-row_at c = rw (sym c.same.ensures ∙ c.if-same.false, eq-eqb _ _ (sym c.row_at.ensures ∙ c.if-row_at.true ∙ c.row_at-2.ensures))
+    c.say_changed.ensures
 
 pub say_alone-old-requires : goal.say_alone-old-requires
 unfolding pair_text
@@ -50,4 +51,5 @@ shape_of-out c = search rules
 
 pub returns : goal.returns
 unfolding pair_text
-returns c = rw (sym c.same.ensures ∙ c.if-same.false, ne_eqb _ _ (λ z. c.if-row_at.false (c.row_at.ensures ∙ z ∙ sym c.row_at-2.ensures))) (c.say_alone-old.ensures ⟫ c.say_alone.ensures)
+returns c = rw (sym c.same.ensures ∙ c.if-same.false, ne_eqb _ _ (λ z. c.if-row_at.false (c.row_at.ensures ∙ z ∙ sym c.row_at-2.ensures)))
+    (c.say_alone-old.ensures ⟫ c.say_alone.ensures)

@@ -4,7 +4,7 @@ use native.Mathlib.Omega.{arith}
 use Rattle.printing.proofs.Sayings.{◌⟫◌, said-none}
 use Rattle.compare.proofs.Wordings.{one_value, no_value}
 use native.Mathlib.Nat.{sub-zero}
-use Rattle.compare.proofs.values.say_fields.Goals as goal
+use Rattle.compare.proofs.in_words.say_fields.Goals as goal
 
 pub loop-i-init : goal.loop-i-init
 loop-i-init c = record { same = refl; inside = c.requires.0; rest = λ zs q p. rw sub-zero at p }

@@ -2,7 +2,7 @@
 use borrow.Author.Tests.{eq-eqb, ne_eqb}
 use Rattle.printing.proofs.Sayings.{◌⟫◌}
 use mathlib.Core.List.{append-nil}
-use Rattle.compare.proofs.values.say_both.Goals as goal
+use Rattle.compare.proofs.in_words.say_both.Goals as goal
 
 pub returns-then-i-j : goal.returns-then-i-j
 returns-then-i-j c = rw (eq-eqb _ _ c.if-i-j.true, append-nil) (c.say-which.ensures ⟫ c.say_number-number.ensures)

@@ -1,6 +1,6 @@
 -- Assumes nothing.
 use Rattle.printing.proofs.Sayings.{◌⟫◌, said-none}
-use Rattle.compare.proofs.values.say_other.Goals as goal
+use Rattle.compare.proofs.in_words.say_other.Goals as goal
 
 pub returns-then-alone : goal.returns-then-alone
 returns-then-alone c = rw c.if-alone.true (said-none c.requires)

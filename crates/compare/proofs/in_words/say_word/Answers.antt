@@ -1,4 +1,4 @@
-use Rattle.compare.proofs.values.say_word.Goals as goal
+use Rattle.compare.proofs.in_words.say_word.Goals as goal
 
 pub returns-then-new : goal.returns-then-new
 returns-then-new c = rw c.if-new.true c.say.ensures

@@ -2,7 +2,7 @@
 use borrow.Author.Rules.{rules}
 use Rattle.printing.proofs.Sayings.{◌⟫◌}
 use Rattle.compare.specs.Values.{field_text}
-use Rattle.compare.proofs.values.say_field.Goals as goal
+use Rattle.compare.proofs.in_words.say_field.Goals as goal
 
 pub say_label-label-requires : goal.say_label-label-requires
 unfolding field_text

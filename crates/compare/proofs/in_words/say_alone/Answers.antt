@@ -4,7 +4,7 @@ use borrow.Author.Rules.{rules}
 use Rattle.printing.proofs.Sayings.{◌⟫◌}
 use Rattle.compare.proofs.Wordings.{kind-there}
 use Rattle.compare.specs.Values.{alone_text}
-use Rattle.compare.proofs.values.say_alone.Goals as goal
+use Rattle.compare.proofs.in_words.say_alone.Goals as goal
 
 pub detail-requires : goal.detail-requires
 unfolding alone_text
