@@ -1,6 +1,7 @@
 -- One column's sum after the other.
 -- Assumes nothing.
-use Rattle.std.proofs.Common.{◌≡◌, ℕ, suc, ◌+◌, ◌<◌, ◌≤◌, List, [], ◌∷◌, ◌++◌, length, get_or, take, drop, set, ap, ◌∙◌, append_assoc, append-nil, add-one, arith, drop_of_length-le, take_all, drop-cons, take-suc-set, drop-set-lt}
+use Rattle.std.proofs.Common.{◌≡◌, ℕ, suc, ◌+◌, ◌<◌, ◌≤◌, List, [], ◌∷◌, ◌++◌, length, get_or, take, drop, set, ap, ◌∙◌, append_assoc, append-nil}
+use Rattle.std.proofs.Common.{add-one, arith, drop_of_length-le, take_all, drop-cons, take-suc-set, drop-set-lt}
 use Rattle.line_rows.specs.Rows.{is_signed}
 use Rattle.table.specs.declared.sums.Sum.{Sum}
 use Rattle.table.specs.Sums.{sum_with, sums_with}

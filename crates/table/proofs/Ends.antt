@@ -1,6 +1,7 @@
 -- The walk to a book's end, record by record, and the total line of the account that it comes to.
 -- Assumes nothing.
-use Rattle.std.proofs.Common.{◌≡◌, ℕ, ◌+◌, ◌<◌, ◌≤◌, List, [], ◌++◌, length, get_or, drop, sym, refl, ap, ◌∙◌, ⊎_elim, append-nil, arith, length-drop, drop_of_length-le, drop-drop}
+use Rattle.std.proofs.Common.{◌≡◌, ℕ, ◌+◌, ◌<◌, ◌≤◌, List, [], ◌++◌, length, get_or, drop, sym, refl, ap, ◌∙◌, ⊎_elim, append-nil, arith, length-drop}
+use Rattle.std.proofs.Common.{drop_of_length-le, drop-drop}
 use lib.Seq.{sets, sets-eq}
 use Rattle.base.proofs.Tests.{lt-or-ge}
 use Rattle.codec.specs.Codec.{be, bytes_of, values_at}

@@ -1,6 +1,7 @@
 -- Theorem: farm number and year stand in a row exactly where a record was accepted, and then they are those of the first, which is a farm record.
 -- Assumes nothing.
-use Rattle.std.proofs.Common.{◌≡◌, ℕ, zero, suc, ◌+◌, ◌<◌, ◌≤◌, true, eqb, ◌⊎◌, List, [], ◌∷◌, length, get_or, take, drop, sym, refl, ap, ◌∙◌, inl, inr, ⊎_elim, arith, length-take-le, le-ltb, ne_eqb, eqb-true}
+use Rattle.std.proofs.Common.{◌≡◌, ℕ, zero, suc, ◌+◌, ◌<◌, ◌≤◌, true, eqb, ◌⊎◌, List, [], ◌∷◌, length, get_or, take, drop, sym, refl, ap, ◌∙◌, inl}
+use Rattle.std.proofs.Common.{inr, ⊎_elim, arith, length-take-le, le-ltb, ne_eqb, eqb-true}
 use borrow.Author.Tests.{eqb-false}
 use Rattle.base.proofs.Tests.{of-choice, by-test, no_bool, not-false, or_cases, and-false}
 use Rattle.codec.specs.Table.{table, fields, size, length_of, last_row}

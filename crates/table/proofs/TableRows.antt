@@ -1,6 +1,7 @@
 -- Theorem: the figures in the row of a closed book are those of the last line of its run, its total, as a sheet has them; and each is a word.
 -- Assumes nothing.
-use Rattle.std.proofs.Common.{◌≡◌, ℕ, zero, suc, ◌+◌, ◌^◌, ◌<◌, ◌≤◌, Bool, true, ◌&&◌, leb, List, [], ◌∷◌, ◌++◌, get_or, drop, replicate, sym, refl, ap, ◌∙◌, arith, get_or-drop, eq-eqb, leb-true}
+use Rattle.std.proofs.Common.{◌≡◌, ℕ, zero, suc, ◌+◌, ◌^◌, ◌<◌, ◌≤◌, Bool, true, ◌&&◌, leb, List, [], ◌∷◌, ◌++◌, get_or, drop, replicate, sym, refl}
+use Rattle.std.proofs.Common.{ap, ◌∙◌, arith, get_or-drop, eq-eqb, leb-true}
 use Rattle.base.proofs.Tests.{and_l, and_r}
 use Rattle.codec.specs.declared.Field.{Field}
 use Rattle.codec.specs.Codec.{bytes_hold, val_at, be, values_at, bytes_of, Bytes}

@@ -1,7 +1,8 @@
 -- Theorem: the last row, which the program makes of running sums in words of 64 bits, has the whole-number sums over the closed books, each empty
 -- where it does not fit eight bytes; so what is printed is the table.
 -- Assumes nothing.
-use Rattle.std.proofs.Common.{◌≡◌, ℕ, zero, suc, ◌+◌, ◌^◌, ◌<◌, ◌≤◌, true, false, List, [], ◌∷◌, ◌++◌, length, get_or, drop, replicate, sym, refl, ap, ◌∙◌, zero-add, add-one, arith, lt-ltb}
+use Rattle.std.proofs.Common.{◌≡◌, ℕ, zero, suc, ◌+◌, ◌^◌, ◌<◌, ◌≤◌, true, false, List, [], ◌∷◌, ◌++◌, length, get_or, drop, replicate, sym, refl, ap}
+use Rattle.std.proofs.Common.{◌∙◌, zero-add, add-one, arith, lt-ltb}
 use Rattle.base.specs.Choice.{one_more_lem}
 use Rattle.base.proofs.Tests.{by-test}
 use Rattle.line_bytes.specs.Lines.{figure_count}

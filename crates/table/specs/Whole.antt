@@ -59,7 +59,8 @@ in_word (negsuc n) = nat_lt n (2 ^ 63)
 -- the sum of a column, empty where it does not fit eight bytes
 abbrev pub sum_text : ℕ → List ℕ → List ℕ
 sum_text column ws =
-    pick (is_signed column) (pick (in_word (signed_sum ws)) (signed (signed_sum ws)) []) (pick (nat_lt (whole_sum ws) (2 ^ 64)) (decimal (whole_sum ws)) [])
+    pick (is_signed column) (pick (in_word (signed_sum ws)) (signed (signed_sum ws)) [])
+    (pick (nat_lt (whole_sum ws) (2 ^ 64)) (decimal (whole_sum ws)) [])
 
 -- the sums of n columns from one on
 unfoldable pub whole_sums : ℕ → ℕ → List Seen → List ℕ

@@ -29,7 +29,8 @@ pub returns-then-kind_of-ne-CLOSE : goal.returns-then-kind_of-ne-CLOSE
 returns-then-kind_of-ne-CLOSE c =
     record {
       lines_after = close_other _ _ _ (passed-left _ _ c.requires.0 _ (rw c.rest_of-rest.ensures at c.turn-t.ensures.turned)
-          (omega (arith, c.if-t-eq0.false))) (λ z. c.if-kind_of-ne-CLOSE.true ((rw (c.first_of.ensures, c.rest_of-rest.ensures) at c.kind_of.ensures) ∙ z));
+          (omega (arith, c.if-t-eq0.false)))
+          (λ z. c.if-kind_of-ne-CLOSE.true ((rw (c.first_of.ensures, c.rest_of-rest.ensures) at c.kind_of.ensures) ∙ z));
       upper_bound = omega arith;
     }
 

@@ -1,5 +1,6 @@
 -- The invariant: what is left decides. Assumes nothing.
-use Rattle.std.proofs.Common.{◌≡◌, ℕ, ◌+◌, ◌<◌, ◌≤◌, true, ◌&&◌, List, length, get_or, drop, sym, refl, ◌∙◌, add-one, arith, drop_of_length-le, drop-cons}
+use Rattle.std.proofs.Common.{◌≡◌, ℕ, ◌+◌, ◌<◌, ◌≤◌, true, ◌&&◌, List, length, get_or, drop, sym, refl, ◌∙◌, add-one, arith, drop_of_length-le}
+use Rattle.std.proofs.Common.{drop-cons}
 use Rattle.table.specs.Rows.{is_plain, is_name}
 use Rattle.table.proofs.remarks.is_name.Goals as goal
 

@@ -9,7 +9,8 @@ pub record SoFar (out₀ : List ℕ) (end₀ : ℕ) (shown : Bool) (numbers : Li
   pub same : length out ≡ length out₀
   pub inside : end ≤ length out
   pub from : k ≤ 3 + figure_count
-  pub rest : (zs : List ℕ) (q : ℕ) → Said out zs end (cells_text shown k (drop k numbers)) q → Said out₀ zs end₀ (cells_text shown 2 (drop 2 numbers)) q
+  pub rest : (zs : List ℕ) (q : ℕ) → Said out zs end (cells_text shown k (drop k numbers)) q
+      → Said out₀ zs end₀ (cells_text shown 2 (drop 2 numbers)) q
 
 abbrev pub invariant-loop-k : goal.invariant-loop-k
 invariant-loop-k l = SoFar l.initial.out l.initial.end l.shown l.numbers l.out l.end l.k
