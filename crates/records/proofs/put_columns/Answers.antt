@@ -1,0 +1,38 @@
+-- One column after another. Assumes nothing.
+use Prim.Native.Nat.{ℕ, ◌+◌, ◌*◌, ◌-◌, ◌≤◌}
+use mathlib.Core.Path.{◌≡◌}
+use mathlib.Core.List.{List}
+use native.Mathlib.Numerals.{add-one}
+use lib.ListN.{length, drop, drop_of_length-le}
+use lib.Seq.{drop-cons}
+use Rattle.printing.specs.Decimal.{Put}
+use Rattle.printing.proofs.Puts.{none, and-then}
+use Rattle.line_rows.specs.declared.Form.TheVariants.{Sheet}
+use Rattle.line_rows.specs.Rows.{columns_text}
+use Rattle.records.specs.Table.{number_most}
+use borrow.Author.Rules.{rules}
+use Rattle.records.proofs.put_columns.Invariants.{SoFar}
+use Rattle.records.proofs.put_columns.Goals as goal
+
+pub loop-k-preserved : goal.loop-k-preserved
+unfolding columns_text
+loop-k-preserved c = let put = c.put_column-end in
+    let turn = c.loop-k in
+    let values = c.args.values.now in
+    let first = drop-cons values turn.k 0 c.loop-k-test.true in
+    record {
+      same = search rules;
+      from = search rules;
+      to = search rules;
+      room = search rules;
+      small = search rules;
+      rest = λ zs q p. turn.invariant.rest zs q (rw first (and-then put.ensures.put (rw add-one at p)));
+    }
+
+pub returns : goal.returns
+unfolding columns_text
+returns c = let turn = c.loop-k in
+    let done = drop_of_length-le c.args.values.now c.loop-k-test.false in record { put = turn.invariant.rest turn.out turn.end (rw done (none turn.out turn.end (search rules))); result_bound = search rules }
+
+pub loop-k-init : goal.loop-k-init
+loop-k-init c = record { same = search rules; from = search rules; to = search rules; room = search rules; small = search rules; rest = λ zs q p. p }
