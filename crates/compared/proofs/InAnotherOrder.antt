@@ -43,7 +43,8 @@ found r (x ∷ rs) h = go (λ k. found r rs k) (same r x) refl h
     go ih true t h = record { place = 0; inside = omega arith; is = same_true r x t }
     go ih false t h = let o = ih h in record { place = suc o.place; inside = omega (arith, o.inside); is = o.is }
 
-as-often : (rs ss xs : List (List ℕ)) (x : ℕ) → all_as_often rs ss xs ≡ true → x < length xs → times_in (get_or xs x []) rs ≡ times_in (get_or xs x []) ss
+as-often : (rs ss xs : List (List ℕ)) (x : ℕ) → all_as_often rs ss xs ≡ true → x < length xs
+    → times_in (get_or xs x []) rs ≡ times_in (get_or xs x []) ss
 unfolding all_as_often
 as-often rs ss [] x t h = absurd (omega (arith, h))
 as-often rs ss (r ∷ xs) zero t h =

@@ -16,7 +16,8 @@ use Rattle.account.specs.Judge.{record_row}
 use Rattle.walk.specs.Walk.{Entry, records_in}
 use Rattle.compare.specs.Records.{same}
 use Rattle.compare.specs.Moved.{each_as_often}
-use Rattle.compare.specs.Plans.{runs_of, front_of, back_most, back_runs, back_of, moved_of, paired_of, others_of, plan_of, old_told, new_told, moved_many}
+use Rattle.compare.specs.Plans.{runs_of, front_of, back_most, back_runs, back_of, moved_of, paired_of, others_of, plan_of, old_told, new_told}
+use Rattle.compare.specs.Plans.{moved_many}
 use Rattle.compare.specs.Values.{own_line_lem, alone_text, changed_text, pair_text}
 use Rattle.compare.specs.Sections.{alones_text, pairs_text, told_text, moved_text, others_text}
 use Rattle.compare.proofs.SameBytes.{same_true, same_self}
@@ -131,7 +132,8 @@ alones-at new i (suc m) (e ∷ es) h =
     (prints-right (alone_text new i e.bytes e.lines) (alones-at new (i + 1) m es (omega (arith, h))))
 
 pairs-at : (i j m : ℕ) (es ns : List Entry) → m < length es → m < length ns
-    → Prints (pairs_text i es j ns) (pair_text (i + m) (entry_at es m).bytes (entry_at es m).lines (j + m) (entry_at ns m).bytes (entry_at ns m).lines)
+    → Prints (pairs_text i es j ns) (pair_text (i + m) (entry_at es m).bytes (entry_at es m).lines (j + m) (entry_at ns m).bytes
+        (entry_at ns m).lines)
 unfolding pairs_text
 pairs-at i j m [] ns h k = absurd (omega (arith, h))
 pairs-at i j m (e ∷ es) [] h k = absurd (omega (arith, k))
@@ -164,7 +166,8 @@ between-long o f es h = length-take-le o (drop f es) (let l = length-drop f es i
 
 -- the text has what the plan of two parts asks for
 pub record Covers (under : Bool) (text : List ℕ) (i : ℕ) (es : List Entry) (j : ℕ) (ns : List Entry) : Type 0 where
-  pub told : Prints text (told_text (plan_of es ns).paired (i + (plan_of es ns).front) (take (old_told (plan_of es ns)) (drop (plan_of es ns).front es))
+  pub told : Prints text
+      (told_text (plan_of es ns).paired (i + (plan_of es ns).front) (take (old_told (plan_of es ns)) (drop (plan_of es ns).front es))
       (j + (plan_of es ns).front) (take (new_told (plan_of es ns)) (drop (plan_of es ns).front ns)))
   pub order : 0 < moved_many (plan_of es ns)
       → Prints text (moved_text under (i + (plan_of es ns).front) (j + (plan_of es ns).front) (moved_many (plan_of es ns)))

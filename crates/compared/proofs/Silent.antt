@@ -14,7 +14,8 @@ use Rattle.walk.specs.Walk.{Entry, records_in}
 use Rattle.compare.specs.declared.runs.Counts.{Counts}
 use Rattle.compare.specs.Records.{same}
 use Rattle.compare.specs.Places.{part_of, after_part, subtotal_of, first_bytes}
-use Rattle.compare.specs.Plans.{no_runs, one_more_lem, runs_from, runs_of, front_of, back_most, back_runs, back_of, moved_of, paired_of, others_of, plan_of}
+use Rattle.compare.specs.Plans.{no_runs, one_more_lem, runs_from, runs_of, front_of, back_most, back_runs, back_of, moved_of, paired_of, others_of}
+use Rattle.compare.specs.Plans.{plan_of}
 use Rattle.compare.specs.Plans.{old_told, new_told, moved_many}
 use Rattle.compare.specs.Sections.{silent}
 use Rattle.compare.proofs.SameBytes.{same_true, same_self}

@@ -25,7 +25,8 @@ use Rattle.compare.specs.Places.{heads, closes, ends, part_of, after_part, no_gr
 use Rattle.compare.specs.Places.{close_lines, last_line_lem}
 use Rattle.compare.specs.Figures.{only_text, two_sums_text, sum_text}
 use Rattle.compare.specs.Values.{first_pair}
-use Rattle.compare.specs.Sections.{alones_text, others_text, tail_text, parts_text, group_title, both_groups_text, removed_text, added_text, total_text}
+use Rattle.compare.specs.Sections.{alones_text, others_text, tail_text, parts_text, group_title, both_groups_text, removed_text, added_text}
+use Rattle.compare.specs.Sections.{total_text}
 use Rattle.compare.specs.Sections.{groups_from}
 use Rattle.compare.specs.Sections.{groups_text, last_text, book_text, before_text, beginnings_text}
 use Rattle.compare.proofs.SameBytes.{same_true}
@@ -120,7 +121,8 @@ both_sums : (i : ℕ) (es : List Entry) (j : ℕ) (ns : List Entry)
     → Prints (both_groups_text i es j ns) (sum_text (ascii "subtotal") figure_count (subtotal_at es 0) (subtotal_at ns 0))
 unfolding both_groups_text
 both_sums i es j ns =
-    sums-here (group_title (group_at es) (ascii ":\n")) (first_pair i es j ns) (same (first_bytes es) (first_bytes ns)) true (i + 1) (drop 1 es) (j + 1)
+    sums-here (group_title (group_at es) (ascii ":\n")) (first_pair i es j ns) (same (first_bytes es) (first_bytes ns)) true (i + 1) (drop 1 es)
+        (j + 1)
     (drop 1 ns)
 
 -- ---- the total
@@ -197,7 +199,8 @@ module _ (k i : ℕ) (es : List Entry) (j : ℕ) (ns : List Entry) (r : Rest es)
       let later = groups_from k (i + group_size es) (after_group es) (j + group_size ns) (after_group ns) in
       let s = shorter es (some-there es g) in
       let u = shorter ns (some-there ns h) in
-      let n = ih (i + group_size es) (after_group es) (j + group_size ns) (after_group ns) (rest-group es r) (rest-group ns q) (omega (arith, s, u)) in
+      let n = ih (i + group_size es) (after_group es) (j + group_size ns) (after_group ns) (rest-group es r) (rest-group ns q)
+          (omega (arith, s, u)) in
       let x = prints-right here (prints-all later) in
       let p = prints-left later (both_sums i es j ns) in
       record {
@@ -273,7 +276,8 @@ groups-sums (suc k) i es j ns r q h = go (λ i' es' j' ns' a b l. groups-sums k 
 
 -- what stands before the groups has no heading
 sum-before : (new : Bool) (text : List ℕ) (es ns : List Entry)
-    → ((m : ℕ) → group_at (drop m (after_part es)) < no_group → SumFate new text (group_at (drop m (after_part es))) (subtotal_at (after_part es) m) ns)
+    → ((m : ℕ) → group_at (drop m (after_part es)) < no_group → SumFate new text (group_at (drop m (after_part es))) (subtotal_at (after_part es) m)
+        ns)
     → (m : ℕ) → group_at (drop m es) < no_group → SumFate new text (group_at (drop m es)) (subtotal_at es m) ns
 sum-before new text es ns g m h =
     let n = length (part_of es) in
@@ -286,7 +290,8 @@ sum-before new text es ns g m h =
     (g (m - n) (subst (λ (l : List Entry). group_at l < no_group) (sym d) h)))
     (lt-or-ge m n)
 
-sum-all : {new : Bool} {t t' : List ℕ} {g : ℕ} {s : List ℕ} (ns : List Entry) → Prints t' t → SumFate new t g s (after_part ns) → SumFate new t' g s ns
+sum-all : {new : Bool} {t t' : List ℕ} {g : ℕ} {s : List ℕ} (ns : List Entry) → Prints t' t → SumFate new t g s (after_part ns)
+    → SumFate new t' g s ns
 sum-all ns x f =
     let n = length (part_of ns) in
     let l = ap length (sym (after-drop ns)) ∙ length-drop n ns in

@@ -153,7 +153,8 @@ last-same u (e ∷ es) (n ∷ ns) l = go (λ v. last-same v es ns (omega (arith,
 -- The records called the same at the end are the same, but for the count of a close: of two runs of entries that are equally long.
 pub back-same : (es ns : List Entry) → length es ≡ length ns
     → drop (length es - (runs_of es ns).trailing) (records_in es) ≡ drop (length es - (runs_of es ns).trailing) (records_in ns)
-back-same es ns l = (last-same no_runs es ns l).inside (let g = (runs-most no_runs es ns (length es) (inl (omega arith))).trailing in omega (arith, g))
+back-same es ns l = (last-same no_runs es ns l).inside (let g = (runs-most no_runs es ns (length es) (inl (omega arith))).trailing in
+    omega (arith, g))
 
 -- ---- entries and rule 2
 

@@ -31,7 +31,8 @@ use Rattle.compare.specs.Places.{heads, closes, ends, part_of, after_part, no_gr
 use Rattle.compare.specs.Plans.{plan_of, old_told, new_told, moved_many}
 use Rattle.compare.specs.Figures.{sum_text}
 use Rattle.compare.specs.Values.{own_line_lem, first_pair, pair_text}
-use Rattle.compare.specs.Sections.{alones_text, told_text, moved_text, others_text, tail_text, silent, parts_text, group_title, both_groups_text, removed_text}
+use Rattle.compare.specs.Sections.{alones_text, told_text, moved_text, others_text, tail_text, silent, parts_text, group_title, both_groups_text}
+use Rattle.compare.specs.Sections.{removed_text}
 use Rattle.compare.specs.Sections.{added_text, total_text, groups_from, groups_text, last_text, book_text, before_text, beginnings_text, compare_text}
 use Rattle.compare.proofs.SameBytes.{same_true}
 use Rattle.compare.proofs.Onward.{take-of-take}
@@ -179,7 +180,8 @@ module _ (title headings : List ℕ) (under grouped : Bool) (i : ℕ) (es : List
   has {p = p} x = subst (λ (l : List ℕ). Prints l p) (sym is) x
 
   begun : quiet ≡ false → Prints text begin
-  begun q = has (prints-left (told_here_lem ++ tail_text others s t) (subst (λ (b : Bool). Prints (pick b [] begin) begin) (sym q) (prints-all begin)))
+  begun q = has (prints-left (told_here_lem ++ tail_text others s t)
+      (subst (λ (b : Bool). Prints (pick b [] begin) begin) (sym q) (prints-all begin)))
 
   pub headings-printed : quiet ≡ false → Prints text headings
   headings-printed q =
@@ -434,7 +436,8 @@ groups-reported (suc k) i es j ns r q h = go (λ i' es' j' ns' a b l. groups-rep
 
 part-split : (es : List Entry) → part_of es ++ after_part es ≡ es
 part-split es =
-    ap (λ (l : List Entry). l ++ after_part es) (sym (part-take es)) ∙ ap (λ (l : List Entry). take (length (part_of es)) es ++ l) (sym (after-drop es))
+    ap (λ (l : List Entry). l ++ after_part es) (sym (part-take es)) ∙ ap (λ (l : List Entry). take (length (part_of es)) es ++ l)
+        (sym (after-drop es))
     ∙ take-append-drop (length (part_of es)) es
 
 -- The theorem, of what is printed of two books: each accepted record of either is in the other too, with the same line, or the text names it. Nobody
@@ -459,7 +462,8 @@ unsaid-same alike old new =
     let b = parts-reported (ascii "before the groups:\n") [] true false 0 es 0 ns in
     let whole =
     reported-both text (prints-left (groups ++ last_text alike old new) (prints-all before))
-    (prints-right before (prints-left (last_text alike old new) (prints-all groups))) 0 (part_of es) (after_part es) 0 (part_of ns) (after_part ns) b g in
+    (prints-right before (prints-left (last_text alike old new) (prints-all groups))) 0 (part_of es) (after_part es) 0 (part_of ns)
+        (after_part ns) b g in
     let both =
     subst (λ (x : List Entry). Reported text 0 x 0 ns) (part-split es)
     (subst (λ (x : List Entry). Reported text 0 (part_of es ++ after_part es) 0 x) (part-split ns) whole) in

@@ -31,14 +31,18 @@ use Rattle.compare.specs.declared.Side.{Side}
 use Rattle.compare.specs.declared.places.Place.{Place}
 use Rattle.compare.specs.declared.plans.Plan.{Plan}
 use Rattle.compare.specs.Records.{same, values_in}
-use Rattle.compare.specs.Places.{start, left_of, onward, stands_in, heads, ends, part_of, after_part, no_group, group_at, group_size, after_group, first_bytes}
+use Rattle.compare.specs.Places.{start, left_of, onward, stands_in, heads, ends, part_of, after_part, no_group, group_at, group_size, after_group}
+use Rattle.compare.specs.Places.{first_bytes}
 use Rattle.compare.specs.Places.{part_end_lem, subtotal_of}
 use Rattle.compare.specs.Plans.{plan_of, paired_of, moved_of, front_of, back_of, old_told, new_told, moved_many}
 use Rattle.compare.specs.Values.{first_alone, first_pair}
-use Rattle.compare.specs.Sections.{alones_text, pairs_text, told_text, tail_text, silent, parts_text, group_title, both_groups_text, removed_text, added_text}
+use Rattle.compare.specs.Sections.{alones_text, pairs_text, told_text, tail_text, silent, parts_text, group_title, both_groups_text, removed_text}
+use Rattle.compare.specs.Sections.{added_text}
 use Rattle.compare.specs.Sections.{total_text, groups_from, groups_text, last_text, book_text, before_text, beginnings_text}
-use Rattle.compare.specs.Steps.{Stepping, idle, at_places, beginning, ended, alone_side, side_after, opened, one_told, subtotal_at, open_text, before_step}
-use Rattle.compare.specs.Steps.{old_step, new_step, pair_step, tail_step, section_step, removed_step, added_step, both_step, last_step_lem, group_step}
+use Rattle.compare.specs.Steps.{Stepping, idle, at_places, beginning, ended, alone_side, side_after, opened, one_told, subtotal_at, open_text}
+use Rattle.compare.specs.Steps.{before_step}
+use Rattle.compare.specs.Steps.{old_step, new_step, pair_step, tail_step, section_step, removed_step, added_step, both_step, last_step_lem}
+use Rattle.compare.specs.Steps.{group_step}
 use Rattle.compare.specs.Steps.{verdict_text, verdict_step, no_step, stage_step, side_in, step_of, text_in, cursor_after}
 use Rattle.compare.specs.Inner.{Valid}
 use Rattle.compare.specs.InnerSides.{ValidSide}
@@ -200,13 +204,15 @@ section_rest alike old new c =
 abbrev before_rest : Bool → List ℕ → List ℕ → List ℕ
 before_rest alike old new =
     before_text (entries_of old) (entries_of new)
-    ++ (groups_text (length (part_of (entries_of old))) (after_part (entries_of old)) (length (part_of (entries_of new))) (after_part (entries_of new))
+    ++ (groups_text (length (part_of (entries_of old))) (after_part (entries_of old)) (length (part_of (entries_of new)))
+        (after_part (entries_of new))
     ++ last_text alike old new)
 
 -- text is what is left to print at the cursor c
 pub data Left (alike : Bool) (old new : List ℕ) (c : Cursor) (text : List ℕ) : Type 0 where
   first : c ≡ at_places 0 start start → text ≡ beginnings_text alike old new → Left alike old new c text
-  second : c ≡ at_places 1 start start → text ≡ machine_text (why_of old) ++ (book_text true ++ (machine_text (why_of new) ++ before_rest alike old new))
+  second : c ≡ at_places 1 start start
+      → text ≡ machine_text (why_of old) ++ (book_text true ++ (machine_text (why_of new) ++ before_rest alike old new))
       → Left alike old new c text
   third : c ≡ at_places 2 start start → text ≡ book_text true ++ (machine_text (why_of new) ++ before_rest alike old new) → Left alike old new c text
   fourth : c ≡ at_places 3 start start → text ≡ machine_text (why_of new) ++ before_rest alike old new → Left alike old new c text
@@ -695,7 +701,8 @@ module _ (alike : Bool) (old new : List ℕ) (p q : Place) (v : Valid old p) (w 
           (onward 1 old p).number (left_of old (onward 1 old p)) (onward 1 new q).number (left_of new (onward 1 new q)) in
           let g = groups_from (n - 1) (i + group_size es) (after_group es) (j + group_size ns) (after_group ns) in
           opened-on alike true old new (onward 1 old p) (onward 1 new q) (valid-onward 1 old p v) (valid-onward 1 new q w)
-          (same (first_bytes es) (first_bytes ns)) (group_title (group_at es) (ascii ":\n")) (first_pair i es j ns) (g ++ last_text alike old new) text f
+          (same (first_bytes es) (first_bytes ns)) (group_title (group_at es) (ascii ":\n")) (first_pair i es j ns) (g ++ last_text alike old new)
+              text f
           (is ∙ ap (λ (l : List ℕ). l ++ last_text alike old new) (both_is ∙ ap (λ (l : List ℕ). l ++ g) both-parts)
           ∙ append_assoc parts g (last_text alike old new))
 
@@ -762,7 +769,8 @@ module _ (alike : Bool) (old new : List ℕ) where
       let m = low_end ns (places-low new start (valid-start new)) in
       subst (λ (x : Stepping). Onwards alike old new x text) (sym (at_stage 4))
       (opened-on alike false old new start start (valid-start old) (valid-start new) true (ascii "before the groups:\n") [] _ text
-      (follows alike old new (length (after_part es) + length (after_part ns)) (length (part_of es)) (length (part_of ns)) (after_part es) (after_part ns)
+      (follows alike old new (length (after_part es) + length (after_part ns)) (length (part_of es)) (length (part_of ns)) (after_part es)
+          (after_part ns)
       (part_end_lem old start)
       (part_end_lem new start) l m (omega arith) a (end-left old start (valid-start old)) b (end-left new start (valid-start new))) e)
     where
@@ -805,5 +813,6 @@ module _ (alike : Bool) (old new : List ℕ) where
       ap (λ (x : List ℕ). (step_of alike old new c).text ++ x) (steps-left k (step_of alike old new c).cursor o.rest o.left h) ∙ sym o.is
 
   -- Where the steps have come to their end, however many they were, their pieces, one after the other, are what is said of the two books.
-  pub compared-in-parts : (k : ℕ) → 7 ≤ (cursor_after k alike old new beginning).stage → text_in k alike old new beginning ≡ beginnings_text alike old new
+  pub compared-in-parts : (k : ℕ) → 7 ≤ (cursor_after k alike old new beginning).stage
+      → text_in k alike old new beginning ≡ beginnings_text alike old new
   compared-in-parts k h = steps-left k beginning (beginnings_text alike old new) (first refl refl) h
