@@ -4,25 +4,24 @@ use Prim.Native.Nat.{ℕ, zero, suc, ◌+◌, ◌-◌, ◌≤◌, ◌<◌, min}
 use mathlib.Core.Path.{◌≡◌, refl, sym, ap, ◌∙◌, subst}
 use mathlib.Core.List.{List, [], ◌∷◌, ◌++◌}
 use mathlib.Core.Bool.{Bool, true, false, ◌&&◌, not}
-use mathlib.Core.Logic.{◌⊎◌, inl, inr, ⊎_elim}
+use mathlib.Core.Logic.{⊎_elim}
 use native.Mathlib.Omega.{arith}
-use borrow.Author.Tests.{eqb-true, eqb-false}
+use borrow.Author.Tests.{eqb-true}
 use lib.ListN.{length, get_or, take, drop, length-drop}
 use lib.Seq.{get_or-take, get_or-drop, length-take-le}
 use lib.Dec.{eqb}
-use Rattle.base.specs.Choice.{pick}
 use Rattle.base.proofs.Tests.{by-test, of-choice, no_bool, and_l, and_r, lt-or-ge}
 use Rattle.account.specs.Judge.{record_row}
 use Rattle.walk.specs.Walk.{Entry, records_in}
 use Rattle.compare.specs.Records.{same}
 use Rattle.compare.specs.Moved.{each_as_often}
-use Rattle.compare.specs.Plans.{runs_of, front_of, back_most, back_runs, back_of, moved_of, paired_of, others_of, plan_of, old_told, new_told}
+use Rattle.compare.specs.Plans.{front_of, back_most, back_of, moved_of, paired_of, plan_of, old_told, new_told}
 use Rattle.compare.specs.Plans.{moved_many}
 use Rattle.compare.specs.Values.{own_line_lem, alone_text, changed_text, pair_text}
 use Rattle.compare.specs.Sections.{alones_text, pairs_text, told_text, moved_text, others_text}
 use Rattle.compare.proofs.SameBytes.{same_true, same_self}
 use Rattle.compare.proofs.Pairs.{leading-left, leading-right}
-use Rattle.compared.specs.Reported.{no_entry, entry_at, Prints, SameRecord, Fate, kept, counted, changed, alone, moved, Reported}
+use Rattle.compared.specs.Reported.{no_entry, entry_at, Prints, Fate, kept, counted, changed, alone, moved, Reported}
 use Rattle.compared.proofs.Truths.{front_same, back-same}
 use Rattle.compared.proofs.Silent.{back-few}
 use Rattle.compared.proofs.Counted.{some-others, some_first, some-last}
@@ -133,7 +132,7 @@ alones-at new i (suc m) (e ∷ es) h =
 
 pairs-at : (i j m : ℕ) (es ns : List Entry) → m < length es → m < length ns
     → Prints (pairs_text i es j ns) (pair_text (i + m) (entry_at es m).bytes (entry_at es m).lines (j + m) (entry_at ns m).bytes
-        (entry_at ns m).lines)
+    (entry_at ns m).lines)
 unfolding pairs_text
 pairs-at i j m [] ns h k = absurd (omega (arith, h))
 pairs-at i j m (e ∷ es) [] h k = absurd (omega (arith, k))

@@ -1,20 +1,19 @@
 -- What a section that prints nothing means: both parts have the same records with the same lines, and the same sum.
 -- Assumes nothing.
-use Prim.Native.Nat.{ℕ, zero, suc, ◌+◌, ◌-◌, ◌≤◌, ◌<◌, min}
-use mathlib.Core.Path.{◌≡◌, refl, sym, ap, ◌∙◌, subst}
+use Prim.Native.Nat.{ℕ, zero, suc, ◌+◌, ◌-◌, ◌≤◌, min}
+use mathlib.Core.Path.{◌≡◌, refl, sym, ap, ◌∙◌}
 use mathlib.Core.List.{List, [], ◌∷◌, ◌++◌}
 use mathlib.Core.Bool.{Bool, true, false, ◌&&◌, not}
 use native.Mathlib.Omega.{arith}
-use borrow.Author.Tests.{eq-eqb, ne_eqb, eqb-true, eqb-false}
+use borrow.Author.Tests.{eq-eqb, eqb-true}
 use lib.ListN.{length, take, drop, length-drop, take-append-drop}
 use lib.Dec.{eqb}
 use Rattle.base.specs.Choice.{pick}
-use Rattle.base.proofs.Tests.{by-test, no_bool, and_l, and_r}
+use Rattle.base.proofs.Tests.{by-test, and_l, and_r}
 use Rattle.walk.specs.Walk.{Entry, records_in}
 use Rattle.compare.specs.declared.runs.Counts.{Counts}
 use Rattle.compare.specs.Records.{same}
-use Rattle.compare.specs.Places.{part_of, after_part, subtotal_of, first_bytes}
-use Rattle.compare.specs.Plans.{no_runs, one_more_lem, runs_from, runs_of, front_of, back_most, back_runs, back_of, moved_of, paired_of, others_of}
+use Rattle.compare.specs.Plans.{no_runs, one_more_lem, runs_from, runs_of, front_of, back_most, back_runs, back_of, moved_of, paired_of}
 use Rattle.compare.specs.Plans.{plan_of}
 use Rattle.compare.specs.Plans.{old_told, new_told, moved_many}
 use Rattle.compare.specs.Sections.{silent}

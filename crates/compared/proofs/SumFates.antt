@@ -3,7 +3,7 @@
 use Prim.Native.Nat.{ℕ, zero, suc, ◌+◌, ◌-◌, ◌≤◌, ◌<◌}
 use mathlib.Core.Path.{◌≡◌, refl, sym, ap, ◌∙◌, subst}
 use mathlib.Core.List.{List, [], ◌∷◌, ◌++◌}
-use mathlib.Core.Bool.{Bool, true, false, ◌||◌}
+use mathlib.Core.Bool.{Bool, true, false}
 use mathlib.Core.Logic.{⊎_elim}
 use native.Mathlib.Omega.{arith}
 use borrow.Author.Tests.{eqb-true, eqb-false, ltb-true, ltb-false}
@@ -23,9 +23,9 @@ use Rattle.why.specs.Remarks.{machine_text}
 use Rattle.compare.specs.Records.{same}
 use Rattle.compare.specs.Places.{heads, closes, ends, part_of, after_part, no_group, group_at, group_size, after_group, first_bytes, subtotal_of}
 use Rattle.compare.specs.Places.{close_lines, last_line_lem}
-use Rattle.compare.specs.Figures.{only_text, two_sums_text, sum_text}
+use Rattle.compare.specs.Figures.{two_sums_text, sum_text}
 use Rattle.compare.specs.Values.{first_pair}
-use Rattle.compare.specs.Sections.{alones_text, others_text, tail_text, parts_text, group_title, both_groups_text, removed_text, added_text}
+use Rattle.compare.specs.Sections.{alones_text, others_text, tail_text, group_title, both_groups_text, removed_text, added_text}
 use Rattle.compare.specs.Sections.{total_text}
 use Rattle.compare.specs.Sections.{groups_from}
 use Rattle.compare.specs.Sections.{groups_text, last_text, book_text, before_text, beginnings_text}
@@ -122,7 +122,7 @@ both_sums : (i : ℕ) (es : List Entry) (j : ℕ) (ns : List Entry)
 unfolding both_groups_text
 both_sums i es j ns =
     sums-here (group_title (group_at es) (ascii ":\n")) (first_pair i es j ns) (same (first_bytes es) (first_bytes ns)) true (i + 1) (drop 1 es)
-        (j + 1)
+    (j + 1)
     (drop 1 ns)
 
 -- ---- the total
@@ -200,7 +200,7 @@ module _ (k i : ℕ) (es : List Entry) (j : ℕ) (ns : List Entry) (r : Rest es)
       let s = shorter es (some-there es g) in
       let u = shorter ns (some-there ns h) in
       let n = ih (i + group_size es) (after_group es) (j + group_size ns) (after_group ns) (rest-group es r) (rest-group ns q)
-          (omega (arith, s, u)) in
+      (omega (arith, s, u)) in
       let x = prints-right here (prints-all later) in
       let p = prints-left later (both_sums i es j ns) in
       record {
@@ -277,7 +277,7 @@ groups-sums (suc k) i es j ns r q h = go (λ i' es' j' ns' a b l. groups-sums k 
 -- what stands before the groups has no heading
 sum-before : (new : Bool) (text : List ℕ) (es ns : List Entry)
     → ((m : ℕ) → group_at (drop m (after_part es)) < no_group → SumFate new text (group_at (drop m (after_part es))) (subtotal_at (after_part es) m)
-        ns)
+    ns)
     → (m : ℕ) → group_at (drop m es) < no_group → SumFate new text (group_at (drop m es)) (subtotal_at es m) ns
 sum-before new text es ns g m h =
     let n = length (part_of es) in

@@ -5,12 +5,10 @@ use Prim.Native.Nat.{ℕ, zero, suc, ◌+◌, ◌-◌, ◌≤◌, ◌<◌}
 use mathlib.Core.Path.{◌≡◌, refl, sym, ap, ◌∙◌}
 use mathlib.Core.List.{List, [], ◌∷◌, ◌++◌, append_assoc, append-nil, head-eq_of_cons-eq}
 use mathlib.Core.Bool.{Bool, true, false, ◌&&◌}
-use mathlib.Core.Logic.{◌⊎◌, inl, ⊎_elim}
+use mathlib.Core.Logic.{inl, ⊎_elim}
 use native.Mathlib.Omega.{arith}
-use native.Mathlib.Nat.{sub-zero}
-use borrow.Author.Tests.{lt-ltb, le-leb, eq-eqb, ne_eqb}
+use borrow.Author.Tests.{eq-eqb, ne_eqb}
 use lib.ListN.{length, take, drop, length-drop}
-use lib.Seq.{take-length}
 use Rattle.base.specs.Choice.{pick}
 use Rattle.base.proofs.Tests.{lt-or-ge}
 use Rattle.account.specs.declared.Account.{Account}
@@ -21,19 +19,14 @@ use Rattle.account.specs.Line.{joined, line_of}
 use Rattle.account.specs.Range.{AccountInRange}
 use Rattle.account.specs.Account.{no_record}
 use Rattle.account.specs.Judge.{record_row, values_of, judge}
-use Rattle.account.proofs.Keeps.{in-range-none, in-range-judge, judge-short}
+use Rattle.account.proofs.Keeps.{in-range-none, in-range-judge}
 use Rattle.book.specs.Front.{Front, unfinished, bad_length, whole, need, front}
 use Rattle.book.specs.WholeRecords.{records_of}
-use Rattle.book.specs.State.{holding, no_record_yet}
-use Rattle.book.specs.Run.{Outcome, outcome, book, run}
-use Rattle.book.specs.Call.{Call, fits, answer_of}
+use Rattle.book.specs.State.{no_record_yet}
+use Rattle.book.specs.Run.{book, run}
 use Rattle.book.proofs.Fronts.{meaning}
-use Rattle.book.proofs.Ranges.{range-idle}
 use Rattle.book.proofs.WholeRecords.{records-whole}
 use Rattle.book.proofs.Runs.{book-ended, book-unfinished, book-bad, book-whole}
-use Rattle.book.proofs.Longest.{longest-top}
-use Rattle.book.proofs.Calls.{call_at}
-use Rattle.book.proofs.RecordRuns.{book-one}
 use Rattle.promises.specs.Headings.{accepted_records}
 use Rattle.promises.specs.Subtotals.{heading_after}
 use Rattle.promises.specs.WholeLines.{is_detail, last_heading}
@@ -47,7 +40,7 @@ use Rattle.walk.specs.Walk.{Entry, entry_of, records_in, entries_from, entries_a
 use Rattle.compare.specs.Records.{same}
 use Rattle.compare.specs.Plans.{no_runs, one_more_lem, runs_from, runs_of, front_of}
 use Rattle.walk.proofs.Walks.{records-none, entries-ended, entries-first, entries-refused}
-use Rattle.compare.proofs.SameBytes.{same_true, same_self}
+use Rattle.compare.proofs.SameBytes.{same_true}
 use Rattle.compare.proofs.Pairs.{runs-most}
 
 -- ---- the records at the beginning

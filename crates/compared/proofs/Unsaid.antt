@@ -3,15 +3,14 @@
 use Prim.Native.Nat.{ℕ, zero, suc, ◌+◌, ◌-◌, ◌≤◌, ◌<◌}
 use mathlib.Core.Path.{◌≡◌, refl, sym, ap, ◌∙◌, subst}
 use mathlib.Core.List.{List, [], ◌∷◌, ◌++◌}
-use mathlib.Core.Bool.{Bool, true, false, ◌&&◌, ◌||◌, not}
-use mathlib.Core.Logic.{⊎_elim}
+use mathlib.Core.Bool.{Bool, true, false, ◌&&◌, not}
 use native.Mathlib.Omega.{arith}
-use borrow.Author.Tests.{eqb-true, eqb-false, eq-eqb, ltb-true, ltb-false}
+use borrow.Author.Tests.{eqb-true, eqb-false, ltb-true, ltb-false}
 use lib.ListN.{length, take, drop, length-drop, take-append-drop}
 use lib.Seq.{drop-drop, length-take-le}
 use lib.Dec.{eqb, ltb}
 use Rattle.base.specs.Choice.{pick}
-use Rattle.base.proofs.Tests.{by-test, of-choice, and_l, and_r, and-false, not-true, or_right, lt-or-ge}
+use Rattle.base.proofs.Tests.{by-test, of-choice, and_l, and_r, and-false, not-true, or_right}
 use Rattle.codec.specs.Table.{row_of}
 use Rattle.account.specs.declared.Account.{Account}
 use Rattle.account.specs.declared.sort.Sort.TheVariants.{Heads, Closes}
@@ -20,27 +19,26 @@ use Rattle.account.specs.Judge.{version_of, kind_byte, record_row, first, refusa
 use Rattle.account.specs.Account.{no_record}
 use Rattle.printing.specs.Ascii.{ascii}
 use Rattle.line_bytes.specs.Lines.{figure_count}
-use Rattle.promises.specs.WholeLines.{is_detail}
 use Rattle.book.specs.WholeRecords.{records_of}
-use Rattle.walk.specs.Walk.{Entry, entry_of, accepts, entries_from, entries_of}
+use Rattle.walk.specs.Walk.{Entry, accepts, entries_from, entries_of}
 use Rattle.walk.proofs.Walks.{entries-ended}
 use Rattle.why.specs.Why.{why_of}
 use Rattle.why.specs.Remarks.{machine_text}
 use Rattle.compare.specs.Records.{same}
-use Rattle.compare.specs.Places.{heads, closes, ends, part_of, after_part, no_group, group_at, group_size, after_group, first_bytes, subtotal_of}
+use Rattle.compare.specs.Places.{heads, closes, ends, part_of, after_part, no_group, group_at, group_size, after_group, subtotal_of}
 use Rattle.compare.specs.Plans.{plan_of, old_told, new_told, moved_many}
 use Rattle.compare.specs.Figures.{sum_text}
 use Rattle.compare.specs.Values.{own_line_lem, first_pair, pair_text}
 use Rattle.compare.specs.Sections.{alones_text, told_text, moved_text, others_text, tail_text, silent, parts_text, group_title, both_groups_text}
 use Rattle.compare.specs.Sections.{removed_text}
-use Rattle.compare.specs.Sections.{added_text, total_text, groups_from, groups_text, last_text, book_text, before_text, beginnings_text, compare_text}
+use Rattle.compare.specs.Sections.{added_text, total_text, groups_from, groups_text, last_text, book_text, before_text, beginnings_text}
 use Rattle.compare.proofs.SameBytes.{same_true}
 use Rattle.compare.proofs.Onward.{take-of-take}
-use Rattle.compare.proofs.Sides.{part-few, part-take, plan-front}
-use Rattle.compared.specs.Reported.{entry_at, Prints, SameRecord, Fate, kept, alone, close, Reported}
-use Rattle.compared.proofs.Whole.{after-drop, AllLow, all-low, low-drop, low-after, group-low, some-there, shorter, row-two}
+use Rattle.compare.proofs.Sides.{part-few, part-take}
+use Rattle.compared.specs.Reported.{entry_at, Prints, Fate, kept, alone, close, Reported}
+use Rattle.compared.proofs.Whole.{after-drop, AllLow, all-low, low-drop, group-low, some-there, shorter, row-two}
 use Rattle.compared.proofs.Fates.{prints-all, prints-left, prints-right, prints-in, reported-both, reported-here}
-use Rattle.compared.proofs.SectionFates.{Covers, section-reported, pair-old, pair-new, alones-at}
+use Rattle.compared.proofs.SectionFates.{section-reported, pair-old, pair-new, alones-at}
 
 -- ---- the close is the last record
 
@@ -437,7 +435,7 @@ groups-reported (suc k) i es j ns r q h = go (λ i' es' j' ns' a b l. groups-rep
 part-split : (es : List Entry) → part_of es ++ after_part es ≡ es
 part-split es =
     ap (λ (l : List Entry). l ++ after_part es) (sym (part-take es)) ∙ ap (λ (l : List Entry). take (length (part_of es)) es ++ l)
-        (sym (after-drop es))
+    (sym (after-drop es))
     ∙ take-append-drop (length (part_of es)) es
 
 -- The theorem, of what is printed of two books: each accepted record of either is in the other too, with the same line, or the text names it. Nobody
@@ -463,7 +461,7 @@ unsaid-same alike old new =
     let whole =
     reported-both text (prints-left (groups ++ last_text alike old new) (prints-all before))
     (prints-right before (prints-left (last_text alike old new) (prints-all groups))) 0 (part_of es) (after_part es) 0 (part_of ns)
-        (after_part ns) b g in
+    (after_part ns) b g in
     let both =
     subst (λ (x : List Entry). Reported text 0 x 0 ns) (part-split es)
     (subst (λ (x : List Entry). Reported text 0 (part_of es ++ after_part es) 0 x) (part-split ns) whole) in

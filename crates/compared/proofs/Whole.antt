@@ -1,17 +1,16 @@
 -- The pieces that the program prints, one after the other, are what the definition says of the two books.
 -- Assumes nothing.
-use Prim.Native.Nat.{ℕ, zero, suc, ◌+◌, ◌-◌, ◌≤◌, ◌<◌, min}
+use Prim.Native.Nat.{ℕ, zero, suc, ◌+◌, ◌-◌, ◌≤◌, ◌<◌}
 use mathlib.Core.Path.{◌≡◌, refl, sym, ap, ◌∙◌, subst}
 use mathlib.Core.List.{List, [], ◌∷◌, ◌++◌, append_assoc, append-nil}
 use mathlib.Core.Bool.{Bool, true, false, ◌&&◌, not}
-use mathlib.Core.Logic.{◌⊎◌, inl, inr, ⊎_elim}
 use native.Mathlib.Omega.{arith}
-use borrow.Author.Tests.{eq-eqb, ne_eqb, eqb-true, eqb-false, lt-ltb, le-ltb, ltb-true, ltb-false, le-leb}
+use borrow.Author.Tests.{eqb-true, eqb-false, ltb-true, ltb-false, le-leb}
 use lib.ListN.{length, get_or, take, drop, length-drop}
-use lib.Seq.{take-nil, drop-nil}
+use lib.Seq.{take-nil}
 use lib.Dec.{eqb, ltb, leb}
 use Rattle.base.specs.Choice.{pick}
-use Rattle.base.proofs.Tests.{by-test, of-choice, and_l, and_r, and-false, both_true, not-true, not-false, lt-or-ge}
+use Rattle.base.proofs.Tests.{by-test, of-choice, and_r, and-false, both_true, not-true}
 use Rattle.codec.specs.Table.{table, fields, row_of}
 use Rattle.codec.specs.Codec.{in_twelve, first_bad}
 use Rattle.codec.proofs.Within.{first-within}
@@ -21,7 +20,6 @@ use Rattle.account.proofs.Refusals.{passed, judged-passes}
 use Rattle.account.proofs.Clauses.{in-range-test}
 use Rattle.account.specs.Range.{account_in_range}
 use Rattle.printing.specs.Ascii.{ascii}
-use Rattle.line_bytes.specs.Lines.{figure_count}
 use Rattle.why.specs.Why.{why_of}
 use Rattle.why.specs.Remarks.{machine_text}
 use Rattle.book.specs.WholeRecords.{records_of}
@@ -34,16 +32,16 @@ use Rattle.compare.specs.Records.{same, values_in}
 use Rattle.compare.specs.Places.{start, left_of, onward, stands_in, heads, ends, part_of, after_part, no_group, group_at, group_size, after_group}
 use Rattle.compare.specs.Places.{first_bytes}
 use Rattle.compare.specs.Places.{part_end_lem, subtotal_of}
-use Rattle.compare.specs.Plans.{plan_of, paired_of, moved_of, front_of, back_of, old_told, new_told, moved_many}
+use Rattle.compare.specs.Plans.{plan_of, moved_of, front_of, back_of, old_told, new_told}
 use Rattle.compare.specs.Values.{first_alone, first_pair}
-use Rattle.compare.specs.Sections.{alones_text, pairs_text, told_text, tail_text, silent, parts_text, group_title, both_groups_text, removed_text}
+use Rattle.compare.specs.Sections.{alones_text, pairs_text, told_text, tail_text, parts_text, group_title, both_groups_text, removed_text}
 use Rattle.compare.specs.Sections.{added_text}
 use Rattle.compare.specs.Sections.{total_text, groups_from, groups_text, last_text, book_text, before_text, beginnings_text}
-use Rattle.compare.specs.Steps.{Stepping, idle, at_places, beginning, ended, alone_side, side_after, opened, one_told, subtotal_at, open_text}
+use Rattle.compare.specs.Steps.{Stepping, idle, at_places, beginning, ended, opened, one_told, subtotal_at, open_text}
 use Rattle.compare.specs.Steps.{before_step}
 use Rattle.compare.specs.Steps.{old_step, new_step, pair_step, tail_step, section_step, removed_step, added_step, both_step, last_step_lem}
 use Rattle.compare.specs.Steps.{group_step}
-use Rattle.compare.specs.Steps.{verdict_text, verdict_step, no_step, stage_step, side_in, step_of, text_in, cursor_after}
+use Rattle.compare.specs.Steps.{verdict_text, no_step, stage_step, side_in, step_of, text_in, cursor_after}
 use Rattle.compare.specs.Inner.{Valid}
 use Rattle.compare.specs.InnerSides.{ValidSide}
 use Rattle.compare.proofs.Walks.{valid-start}
@@ -205,7 +203,7 @@ abbrev before_rest : Bool → List ℕ → List ℕ → List ℕ
 before_rest alike old new =
     before_text (entries_of old) (entries_of new)
     ++ (groups_text (length (part_of (entries_of old))) (after_part (entries_of old)) (length (part_of (entries_of new)))
-        (after_part (entries_of new))
+    (after_part (entries_of new))
     ++ last_text alike old new)
 
 -- text is what is left to print at the cursor c
@@ -702,7 +700,7 @@ module _ (alike : Bool) (old new : List ℕ) (p q : Place) (v : Valid old p) (w 
           let g = groups_from (n - 1) (i + group_size es) (after_group es) (j + group_size ns) (after_group ns) in
           opened-on alike true old new (onward 1 old p) (onward 1 new q) (valid-onward 1 old p v) (valid-onward 1 new q w)
           (same (first_bytes es) (first_bytes ns)) (group_title (group_at es) (ascii ":\n")) (first_pair i es j ns) (g ++ last_text alike old new)
-              text f
+          text f
           (is ∙ ap (λ (l : List ℕ). l ++ last_text alike old new) (both_is ∙ ap (λ (l : List ℕ). l ++ g) both-parts)
           ∙ append_assoc parts g (last_text alike old new))
 
@@ -770,7 +768,7 @@ module _ (alike : Bool) (old new : List ℕ) where
       subst (λ (x : Stepping). Onwards alike old new x text) (sym (at_stage 4))
       (opened-on alike false old new start start (valid-start old) (valid-start new) true (ascii "before the groups:\n") [] _ text
       (follows alike old new (length (after_part es) + length (after_part ns)) (length (part_of es)) (length (part_of ns)) (after_part es)
-          (after_part ns)
+      (after_part ns)
       (part_end_lem old start)
       (part_end_lem new start) l m (omega arith) a (end-left old start (valid-start old)) b (end-left new start (valid-start new))) e)
     where
