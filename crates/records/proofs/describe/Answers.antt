@@ -1,7 +1,6 @@
 -- Part by part. Assumes nothing.
 use mathlib.Core.Path.{refl}
 use native.Mathlib.Omega.{arith}
-use borrow.Author.Rules.{rules}
 use Rattle.records.proofs.describe.Goals as goal
 
 pub returns : goal.returns

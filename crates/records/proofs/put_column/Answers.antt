@@ -2,7 +2,6 @@
 use native.Mathlib.Omega.{arith}
 use Rattle.printing.proofs.Puts.{and-then}
 use Rattle.line_rows.proofs.Texts.{with-sign, without_sign}
-use borrow.Author.Rules.{rules}
 use Rattle.records.proofs.put_column.Goals as goal
 
 pub returns-then-is_signed : goal.returns-then-is_signed
@@ -13,7 +12,7 @@ returns-then-is_signed c = let c2 = c in
     let c11 = c8 in
     let p = c2.put_signed.ensures in
     let b = c8.put_byte-after.ensures in
-    let a = c11.args in record { put = rw (with-sign a.column a.v c5.is_Signed.ensures c4.if-is_signed.true) (and-then b p.put); upper_bound = omega (arith, p.upper_bound, b.next) }
+    let a = c11.args in record { put = rw (with-sign a.column a.v c5.is_signed.ensures c4.if-is_signed.true) (and-then b p.put); upper_bound = omega (arith, p.upper_bound, b.next) }
 
 pub returns : goal.returns
 returns c = let c2 = c in
@@ -23,4 +22,4 @@ returns c = let c2 = c in
     let c11 = c8 in
     let p = c2.put_decimal.ensures in
     let b = c8.put_byte-after.ensures in
-    let a = c11.args in record { put = rw (without_sign a.column a.v c5.is_Signed.ensures c4.if-is_signed.false) (and-then b p.put); upper_bound = omega (arith, p.upper_bound, b.next) }
+    let a = c11.args in record { put = rw (without_sign a.column a.v c5.is_signed.ensures c4.if-is_signed.false) (and-then b p.put); upper_bound = omega (arith, p.upper_bound, b.next) }

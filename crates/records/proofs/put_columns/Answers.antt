@@ -1,17 +1,10 @@
 -- One column after another. Assumes nothing.
-use Prim.Native.Nat.{ℕ, ◌+◌, ◌*◌, ◌-◌, ◌≤◌}
-use mathlib.Core.Path.{◌≡◌}
-use mathlib.Core.List.{List}
 use native.Mathlib.Numerals.{add-one}
-use lib.ListN.{length, drop, drop_of_length-le}
+use lib.ListN.{drop_of_length-le}
 use lib.Seq.{drop-cons}
-use Rattle.printing.specs.Decimal.{Put}
 use Rattle.printing.proofs.Puts.{none, and-then}
-use Rattle.line_rows.specs.declared.Form.TheVariants.{Sheet}
 use Rattle.line_rows.specs.Rows.{columns_text}
-use Rattle.records.specs.Table.{number_most}
 use borrow.Author.Rules.{rules}
-use Rattle.records.proofs.put_columns.Invariants.{SoFar}
 use Rattle.records.proofs.put_columns.Goals as goal
 
 pub loop-k-preserved : goal.loop-k-preserved

@@ -2,15 +2,11 @@
 use Prim.Native.Nat.{ℕ, ◌+◌, ◌*◌, ◌-◌, ◌≤◌}
 use mathlib.Core.Path.{◌≡◌}
 use mathlib.Core.List.{List}
-use native.Mathlib.Numerals.{add-one}
-use lib.ListN.{length, drop, drop_of_length-le}
-use lib.Seq.{drop-cons}
+use lib.ListN.{length, drop}
 use Rattle.printing.specs.Decimal.{Put}
-use Rattle.printing.proofs.Puts.{none, and-then}
 use Rattle.line_rows.specs.declared.Form.TheVariants.{Sheet}
 use Rattle.line_rows.specs.Rows.{columns_text}
 use Rattle.records.specs.Table.{number_most}
-use borrow.Author.Rules.{rules}
 use Rattle.records.proofs.put_columns.Given as goal
 
 -- there is room for what is left, and putting it makes the whole

@@ -5,7 +5,6 @@ use native.Mathlib.Omega.{arith}
 use Rattle.printing.proofs.Puts.{and-then}
 use Rattle.records.specs.Table.{Row, row_with}
 use Rattle.records.proofs.Texts.{put_as, entry-none, entry-some}
-use borrow.Author.Rules.{rules}
 use Rattle.records.proofs.put_entry.Goals as goal
 
 pub returns-then-n-eq0 : goal.returns-then-n-eq0
@@ -17,8 +16,11 @@ returns-then-n-eq0 c = let c2 = c in
     let x = c10.args.x in
     let typed = c10.args.typed.now in
     let row : List ℕ → Row = λ l. row_with x.number x.first x.last x.row x.group typed l in
-    let e = c2.put_own.ensures in record { put = put_as (entry-none c10.args.lines.now row
-          c6.subtotal_size-n.ensures.value c4.if-n-eq0.true c5.rest_of-own.ensures) e.put; upper_bound = omega (arith, e.upper_bound) }
+    let e = c2.put_own.ensures in record {
+      put = put_as (entry-none c10.args.lines.now row
+          c6.subtotal_size-n.ensures.value c4.if-n-eq0.true c5.rest_of-own.ensures) e.put;
+      upper_bound = omega (arith, e.upper_bound);
+    }
 
 pub returns : goal.returns
 returns c = let c2 = c in
@@ -32,5 +34,8 @@ returns c = let c2 = c in
     let typed = c15.args.typed.now in
     let row : List ℕ → Row = λ l. row_with x.number x.first x.last x.row x.group typed l in
     let e = c2.put_own-2.ensures in
-    let s = c6.put_subtotal-end.ensures in record { put = put_as (entry-some c15.args.lines.now row
-          c11.subtotal_size-n.ensures.value c9.if-n-eq0.false c10.rest_of-own.ensures c7.first_of.ensures) (and-then s.put e.put); upper_bound = omega (arith, e.upper_bound, s.upper_bound) }
+    let s = c6.put_subtotal-end.ensures in record {
+      put = put_as (entry-some c15.args.lines.now row
+          c11.subtotal_size-n.ensures.value c9.if-n-eq0.false c10.rest_of-own.ensures c7.first_of.ensures) (and-then s.put e.put);
+      upper_bound = omega (arith, e.upper_bound, s.upper_bound);
+    }

@@ -14,7 +14,7 @@ pub total_numbers-numbers-requires : goal.total_numbers-numbers-requires
 total_numbers-numbers-requires c = let c4 = c in omega (arith, size-total c4.args.line.now c.if-line.true, c4.requires.1)
 
 pub returns-then-line : goal.returns-then-line
-returns-then-line c = 
+returns-then-line c =
     let total-count : length c.total_numbers-numbers.result ≡ 3 + figure_count = search rules in
     let c2 = c in
     let c7 = c2 in
@@ -25,7 +25,7 @@ returns-then-line c =
     let e = c2.put_text.ensures in record { put = rw (figures-total c15.args.line.now c15.requires.1 c11.if-line.true c10.total_numbers-numbers.ensures) (and-then p.put e); upper_bound = omega (arith, p.result_bound, e.next, total-count) }
 
 pub returns-else-line : goal.returns-else-line
-returns-else-line c = 
+returns-else-line c =
     let detail-count : length c.detail_numbers-numbers.result ≡ 2 + figure_count = search rules in
     let c2 = c in
     let c7 = c2 in

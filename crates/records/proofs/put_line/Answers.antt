@@ -2,7 +2,6 @@
 use native.Mathlib.Omega.{arith}
 use Rattle.line_rows.proofs.Texts.{size-least}
 use Rattle.records.proofs.Texts.{figures-none}
-use borrow.Author.Rules.{rules}
 use Rattle.records.proofs.put_line.Goals as goal
 
 pub returns-then-line-lt-LINE_SIZE : goal.returns-then-line-lt-LINE_SIZE

@@ -2,7 +2,6 @@
 use native.Mathlib.Omega.{arith}
 use Rattle.printing.proofs.Puts.{none}
 use Rattle.records.proofs.Texts.{group-none, group-some}
-use borrow.Author.Rules.{rules}
 use Rattle.records.proofs.put_line_group.Goals as goal
 
 pub returns-then-line-lt-LINE_SIZE : goal.returns-then-line-lt-LINE_SIZE

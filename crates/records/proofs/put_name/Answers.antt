@@ -2,7 +2,6 @@
 use native.Mathlib.Omega.{arith}
 use Rattle.printing.proofs.Puts.{put-length, and-then}
 use Rattle.records.proofs.Texts.{name-put, name-end}
-use borrow.Author.Rules.{rules}
 use Rattle.records.proofs.put_name.Goals as goal
 
 pub put_byte-requires : goal.put_byte-requires

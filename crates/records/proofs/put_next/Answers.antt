@@ -3,7 +3,6 @@ use mathlib.Core.Path.{ap, ◌∙◌}
 use native.Mathlib.Omega.{arith}
 use lib.ListN.{length, length-drop}
 use Rattle.records.proofs.Steps.{next-is, stops, lines-as, puts}
-use borrow.Author.Rules.{rules}
 use Rattle.records.proofs.put_next.Goals as goal
 
 pub returns-then-t-after : goal.returns-then-t-after

@@ -1,7 +1,6 @@
 -- The commas, then the end of the row. Assumes nothing.
 use native.Mathlib.Omega.{arith}
 use Rattle.printing.proofs.Puts.{and-then}
-use borrow.Author.Rules.{rules}
 use Rattle.records.proofs.put_none.Goals as goal
 
 pub returns : goal.returns

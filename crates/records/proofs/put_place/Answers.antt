@@ -1,7 +1,6 @@
 -- One number after another. Assumes nothing.
 use native.Mathlib.Omega.{arith}
 use Rattle.printing.proofs.Puts.{and-then}
-use borrow.Author.Rules.{rules}
 use Rattle.records.proofs.put_place.Goals as goal
 
 pub returns : goal.returns

@@ -1,12 +1,5 @@
 -- What is left to put makes the whole. Assumes nothing.
-use Prim.Native.Nat.{◌≤◌}
-use mathlib.Core.Path.{◌∙◌}
-use native.Mathlib.Omega.{arith}
-use lib.ListN.{length}
-use borrow.Author.Tests.{not-true, not-false}
-use Rattle.printing.proofs.Puts.{put-length}
-use Rattle.records.proofs.Steps.{Going, going-none, going-stop, going_on, going_end}
-use borrow.Author.Rules.{rules}
+use Rattle.records.proofs.Steps.{Going}
 use Rattle.records.proofs.put_rows.Given as goal
 
 abbrev pub invariant-loop-left : goal.invariant-loop-left

@@ -1,7 +1,6 @@
 -- Cell after cell. Assumes nothing.
 use native.Mathlib.Omega.{arith}
 use Rattle.printing.proofs.Puts.{and-then}
-use borrow.Author.Rules.{rules}
 use Rattle.records.proofs.put_subtotal.Goals as goal
 
 pub returns : goal.returns

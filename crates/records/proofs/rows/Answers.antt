@@ -1,5 +1,5 @@
 -- An account outside its ranges has no more records, and there are none after the book. Assumes nothing.
-use mathlib.Core.Path.{◌≡◌, sym, ap, refl, ◌∙◌}
+use mathlib.Core.Path.{sym, ap, refl, ◌∙◌}
 use mathlib.Core.Bool.{Bool, ◌&&◌}
 use native.Mathlib.Omega.{arith}
 use borrow.Author.Tests.{leb-true}
@@ -8,7 +8,6 @@ use lib.Dec.{leb}
 use Rattle.base.proofs.Tests.{and_l, and_r}
 use Rattle.account.proofs.Clauses.{in-range-parts}
 use Rattle.printing.proofs.Puts.{none}
-use borrow.Author.Rules.{rules}
 use Rattle.records.proofs.rows.Goals as goal
 
 pub put_rows-requires : goal.put_rows-requires

@@ -1,6 +1,5 @@
 -- One text after the other. Assumes nothing.
 use Rattle.printing.proofs.Sayings.{◌⟫◌}
-use borrow.Author.Rules.{rules}
 use Rattle.records.proofs.say_header.Goals as goal
 
 pub returns : goal.returns

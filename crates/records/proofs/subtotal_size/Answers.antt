@@ -1,11 +1,10 @@
 -- By the length and the kind of the first line. Assumes nothing.
 use native.Mathlib.Omega.{arith}
 use Rattle.records.proofs.Texts.{size-short, size-subtotal, size_none}
-use borrow.Author.Rules.{rules}
 use Rattle.records.proofs.subtotal_size.Goals as goal
 
 pub returns-then-lines-lt-LINE_SIZE : goal.returns-then-lines-lt-LINE_SIZE
-returns-then-lines-lt-LINE_SIZE c =  record { value = size-short c.args.lines.now c.if-lines-lt-LINE_SIZE.true; upper_bound = omega arith }
+returns-then-lines-lt-LINE_SIZE c = record { value = size-short c.args.lines.now c.if-lines-lt-LINE_SIZE.true; upper_bound = omega arith }
 
 pub returns-then-lines-eq-SUBTOTAL : goal.returns-then-lines-eq-SUBTOTAL
 returns-then-lines-eq-SUBTOTAL c = let c2 = c in
