@@ -1,6 +1,6 @@
 -- Theorem: however a book is cut into parts and whatever room its lines have, the header and the rows of all calls are the export of its lines.
 -- Assumes nothing.
-use Prim.Native.Nat.{ℕ, zero, suc, ◌+◌, ◌-◌, ◌%◌, ◌<◌, ◌≤◌}
+use Prim.Native.Nat.{ℕ, zero, suc, ◌+◌, ◌-◌, ◌<◌, ◌≤◌}
 use native.Mathlib.Omega.{arith}
 use mathlib.Core.Path.{◌≡◌, refl, sym, ap, ◌∙◌}
 use mathlib.Core.Bool.{true}
@@ -25,7 +25,7 @@ use Rattle.book.specs.Run.{run}
 use Rattle.book.specs.Call.{call}
 use Rattle.book.specs.Way.{Part, way, Ended}
 use Rattle.promises.proofs.StaysInRange.{new-in-range}
-use Rattle.promises.proofs.EachLine.{LineKind, kind-small, Each, run-each, OfLines, call-each}
+use Rattle.promises.proofs.EachLine.{LineKind, kind-small, Each, run-each, call-each}
 use Rattle.sheet.specs.Sheets.{item, made, each_by, line_item, rows_of, export_of}
 use Rattle.sheet.proofs.Runs.{each-one}
 use Rattle.sheet.proofs.RoundTrip.{is-line}

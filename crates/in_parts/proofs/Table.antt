@@ -3,16 +3,15 @@
 use Prim.Native.Nat.{ℕ, zero, suc, ◌+◌, ◌-◌, ◌≤◌, ◌<◌}
 use native.Mathlib.Omega.{arith}
 use mathlib.Core.Path.{◌≡◌, refl, sym, ap, ◌∙◌}
-use mathlib.Core.Bool.{Bool, false}
+use mathlib.Core.Bool.{false}
 use mathlib.Core.Logic.{⊎_elim}
 use mathlib.Core.List.{List, [], ◌∷◌}
-use borrow.Author.Tests.{eqb-true, eqb-false, ne_eqb, lt-ltb, le-ltb}
+use borrow.Author.Tests.{eqb-true, eqb-false, ne_eqb, le-ltb}
 use lib.Dec.{eqb}
 use lib.ListN.{length, get_or, take, drop}
 use lib.Seq.{take_all, length-take-le}
 use Rattle.base.proofs.Tests.{by-test, lt-or-ge}
 use Rattle.codec.specs.Table.{table, fields, size, record_most}
-use Rattle.codec.specs.Codec.{values_at}
 use Rattle.codec.proofs.Values.{values_same}
 use Rattle.account.specs.declared.Account.{Account}
 use Rattle.account.specs.Account.{no_record}
@@ -23,7 +22,7 @@ use Rattle.book.proofs.Runs.{book-ended, book-whole}
 use Rattle.walk.specs.declared.Next.{Next}
 use Rattle.walk.specs.Walk.{next_of}
 use Rattle.walk.proofs.Walks.{stands}
-use Rattle.table.specs.Seen.{end_of, farm_values, seen_by, seen_of}
+use Rattle.table.specs.Seen.{farm_values, seen_by, seen_of}
 use Rattle.table.proofs.Ends.{end-next}
 use Rattle.in_parts.specs.Cut.{deciding_bytes}
 use Rattle.in_parts.proofs.Cut.{drop-take, next-cut, range-next, ends, size-most, one-counted, deciding-some, deciding-less}
