@@ -13,7 +13,7 @@ loop-k-preserved c =
       length-set l.sums l.k c.plus-next.result ∙ l.invariant.0,
       omega (arith, c.loop-k-test.true),
       one-sum c.args.numbers l.sums l.k no_sum c.plus-next.result (omega (arith, l.invariant.0, c.loop-k-test.true))
-          (rw c.is_signed.ensures at c.plus-next.ensures)
+          (cc)
           ∙ l.invariant.2,
     )
 
