@@ -59,9 +59,19 @@ function within(memory, place, count) {
     return new Uint8Array(memory, place, count);
 }
 
-// The three things that a program is given; counts are 64-bit numbers, places 32-bit ones. No read and no write fails. A program is started with one
-// word, `status`, so that it writes its status.
-function given(sources, sinks, bytes) {
+// What a program is given; counts are 64-bit numbers, places 32-bit ones. No read and no write fails. A program is started with one word, `status`, so
+// that it writes its status. It asks its processor for what this machine does in its own way: here every answer is yes. No signal comes. The second
+// book is opened by the name of its descriptor.
+const WORDS = ["program", "status"].map((word) => new TextEncoder().encode(word));
+const NO_SUCH = -1n, TOO_LONG = -2n, PAGE = 65536;
+
+function given(sources, sinks, bytes, page) {
+    let errno = 0;
+    const write = (descriptor, place, count) => {
+        const sink = sinks.get(descriptor) ?? notProvided(`room on descriptor ${descriptor}`);
+        sink.push(bytes(place, Number(count)).slice());
+        return count;
+    };
     return {
         read(descriptor, place, count) {
             const next = sources.get(descriptor) ?? notProvided(`bytes of descriptor ${descriptor}`);
@@ -69,12 +79,21 @@ function given(sources, sinks, bytes) {
             bytes(place, part.length).set(part);
             return BigInt(part.length);
         },
-        write(descriptor, place, count) {
-            const sink = sinks.get(descriptor) ?? notProvided(`room on descriptor ${descriptor}`);
-            sink.push(bytes(place, Number(count)).slice());
-            return count;
+        write,
+        __write: write,
+        rattle_arg(index, place, count) {
+            const word = WORDS[index];
+            if (word === undefined) return NO_SUCH;
+            const fits = word.subarray(0, Number(count));
+            bytes(place, fits.length).set(fits);
+            return fits.length < word.length ? TOO_LONG : BigInt(word.length);
         },
-        rattle_arg_count: () => 2n,
+        rattle_errno: () => errno,
+        rattle_set_errno(number) {
+            errno = number;
+        },
+        __sysv_signal: () => 0n,
+        __x86_get_cpuid_feature_leaf: page,
     };
 }
 
@@ -98,9 +117,17 @@ export function prepare(module, input, more) {
     }
     const sinks = new Map([OUTPUT, REMARKS, STATUS].map((descriptor) => [descriptor, []]));
     const bytes = (place, count) => within(instance.exports.memory.buffer, place >>> 0, count);
-    const env = imports(module, given(sources, sinks, bytes));
+    let yes; // a page of its own, behind all that the program has
+    const page = () => {
+        if (yes === undefined) {
+            yes = instance.exports.memory.grow(1) * PAGE;
+            bytes(yes, PAGE).fill(255);
+        }
+        return yes;
+    };
+    const env = imports(module, given(sources, sinks, bytes, page));
     const instance = new WebAssembly.Instance(module, env);
-    return { instance, written: (descriptor) => joined(sinks.get(descriptor)), tellsStatus: "rattle_arg_count" in env.env };
+    return { instance, written: (descriptor) => joined(sinks.get(descriptor)), tellsStatus: "rattle_arg" in env.env };
 }
 
 // Engines say the same in their own words; calls have a stack of the engine's own too.
