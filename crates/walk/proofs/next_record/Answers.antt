@@ -1,4 +1,5 @@
 -- By the stage and the front. Assumes nothing.
+use Prim.Native.Nat.{◌≤◌, ◌<◌}
 use mathlib.Core.Path.{◌≡◌, refl, sym}
 use native.Mathlib.Omega.{arith}
 use Rattle.account.proofs.Told.{tells-fit, lines-short}
@@ -10,7 +11,12 @@ use Rattle.walk.proofs.next_record.Goals as goal
 
 pub returns-then-a-ge2 : goal.returns-then-a-ge2
 returns-then-a-ge2 c = let a = c.args in
-    let h = c.if-a-ge2.true in record { result = sym (next-ended a.a a.xs.now h); lines = rw (lines-ended a.a a.xs.now h); inside = (omega arith, omega arith, c.requires.0) }
+    let h : 2 ≤ a.a.stage = omega arith in
+    record {
+      result = sym (next-ended a.a a.xs.now h);
+      lines = rw (lines-ended a.a a.xs.now h);
+      inside = (omega arith, omega arith, c.requires.0);
+    }
 
 pub unread-requires : goal.unread-requires
 unread-requires c = c.ready-n.ensures.none c.if-n-eq0.true
@@ -18,7 +24,7 @@ unread-requires c = c.ready-n.ensures.none c.if-n-eq0.true
 pub returns-then-n-eq0 : goal.returns-then-n-eq0
 returns-then-n-eq0 c = let a = c.args in
     let n = c.ready-n.ensures.none c.if-n-eq0.true in
-    let h = c.if-a-ge2.false in
+    let h : a.a.stage < 2 = omega arith in
     rw c.unread.ensures (record {
       result = sym (next-open a.a a.xs.now h);
       lines = rw (lines-open a.a a.xs.now h, no_lines _ a.a a.xs.now n, nothing_written _ a.a a.xs.now n);
@@ -36,7 +42,7 @@ judge-j-requires c =
     let here : let a = c.args in
     (front a.xs.now ≡ whole) × (c.ready-n.result ≡ need a.xs.now) = c.ready-n.ensures.some (omega (arith, c.if-n-eq0.false)) in (
       c.requires.0,
-      c.if-a-ge2.false,
+      omega arith,
       rw c.first_of.ensures (record-whole _ _ (here).0 (here).1),
     )
 
@@ -54,7 +60,7 @@ returns c =
     let e = j in
     let a = e.args in
     let t = j.judge-j.ensures in
-    let x = e.if-a-ge2.false in record {
+    let x : a.a.stage < 2 = omega arith in record {
       result = next-is a.a a.xs.now _ _ _ x (here).0 (here).1 j.first_of.ensures t;
       lines = lines_are a.a a.xs.now _ _ _ x (here).0 (here).1 j.first_of.ensures t _ _
           c.write.ensures;

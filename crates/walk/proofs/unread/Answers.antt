@@ -12,5 +12,6 @@ returns-then-front_of-eq1 c =
 
 pub returns : goal.returns
 returns c =
-    let begun-is : front c.args.xs.now ≡ unfinished = front-begun _ c.requires (λ e. c.if-front_of-eq1.false (rw take-length at c.front_of.ensures ∙ e)) in
+    let begun-is : front c.args.xs.now ≡ unfinished =
+    front-begun _ c.requires (λ e. c.if-front_of-eq1.false (rw take-length at c.front_of.ensures ∙ e)) in
     rw (begun-is)
