@@ -1,0 +1,8 @@
+use mathlib.Core.Path.{sym}
+use native.Mathlib.Omega.{arith}
+use borrow.Author.Rules.{rules}
+use lib.Seq.{length-take-le}
+use Rattle.compare_main.proofs.tell_hint.Goals as goal
+
+pub slice_bounds-report-end : goal.slice_bounds-report-end
+slice_bounds-report-end g c = let s = c.say_hint-n.ensures in sym (length-take-le _ _ (omega (arith, s.put.room, s.long)))
