@@ -95,7 +95,7 @@ stale() {
     [ -x "$program" ] || return 0
     [ -d "$root/crates" ] || return 1 # a copy without sources
     # shellcheck disable=SC2046 # names of crates
-    [ -n "$(cd "$root/crates" && find $(needed) -name '*.rt' -newer "$program")" ]
+    [ -n "$(cd "$root/crates" && find $(needed) -name out -prune -o -name '*.rt' -newer "$program" -print)" ]
 }
 
 # places OF: of what prove.sh prints, a line for each crate that it proves, with its place among so many.
