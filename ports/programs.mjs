@@ -8,7 +8,7 @@
 //
 //     StackExhausted   it ran out of stack
 //     ProgramTrapped   it stopped at any other trap
-//     NotProvided      it asked its machine for what is not here: a file, an argument, the text of an error
+//     NotProvided      it asked its machine for what is not here: a file, another descriptor, the text of an error
 //     NoStatus         it ended without its status
 
 const INPUT = 0, OUTPUT = 1, REMARKS = 2, STATUS = 3, MORE = 5;
@@ -60,10 +60,10 @@ function within(memory, place, count) {
 }
 
 // What a program is given; counts are 64-bit numbers, places 32-bit ones. No read and no write fails. A program is started with one word, `status`, so
-// that it writes its status. It asks its processor for what this machine does in its own way: here every answer is yes. No signal comes. The second
-// book is opened by the name of its descriptor.
+// that it writes its status. It asks its processor for what this machine does in its own way: here every answer is yes. No signal comes. The one file
+// is the second book, by the name of its descriptor.
 const WORDS = ["program", "status"].map((word) => new TextEncoder().encode(word));
-const NO_SUCH = -1n, TOO_LONG = -2n, PAGE = 65536;
+const NO_SUCH = -1n, TOO_LONG = -2n, PAGE = 65536, LONGEST_NAME = 4096;
 
 function given(sources, sinks, bytes, page) {
     let errno = 0;
@@ -73,6 +73,12 @@ function given(sources, sinks, bytes, page) {
         return count;
     };
     return {
+        open(place) {
+            const name = bytes(place, LONGEST_NAME);
+            const file = new TextDecoder().decode(name.subarray(0, name.indexOf(0)));
+            return file === `/dev/fd/${MORE}` && sources.has(MORE) ? MORE : notProvided(`the file ${file}`);
+        },
+        close: () => 0,
         read(descriptor, place, count) {
             const next = sources.get(descriptor) ?? notProvided(`bytes of descriptor ${descriptor}`);
             const part = next(Number(count));

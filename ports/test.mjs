@@ -36,9 +36,15 @@ for (const name of ["no_status", "status_3", "two_bytes"]) {
 }
 throws("trap", [none], "ProgramTrapped", "unreachable");
 throws("zero", [none], "ProgramTrapped", "zero");
-throws("file", [none], "NotProvided", "rattle_open_to_read");
-throws("argument", [none], "NotProvided", "rattle_arg");
-throws("errno", [none], "NotProvided", "rattle_errno");
+gives("opened", [none, bytes("new")], "new", "", 0);
+throws("opened", [none], "NotProvided", "the file /dev/fd/5");
+throws("file", [none, none], "NotProvided", "the file /dev/fd/51");
+gives("words", [none], "statusprogram", "", 0);
+gives("no_word", [none], "statu", "", 0);
+gives("errno", [none], "4", "", 0);
+throws("message", [none], "NotProvided", "__xpg_strerror_r");
+cases += 1;
+assert.deepEqual(ran("yes", none).output, Uint8Array.of(255, 255), "whatever is asked of the processor is there");
 throws("both", [none], "NotProvided", "descriptor 5");
 throws("sixth", [none], "NotProvided", "descriptor 6");
 throws("fourth", [none], "NotProvided", "descriptor 4");
