@@ -20,9 +20,12 @@ crates=$(awk -v program="$program" '
     { sub(/#.*/, ""); if (split($0, part, ":") == 2) needs[part[1]] = part[2] }
     END { reach(program) }' crates.txt)
 
-# Whether the program is linked, and later than the sources of all these.
+# Files of code and proof that are later than the program.
 # shellcheck disable=SC2046,SC2086 # one word a crate
-fresh() { [ -f "$made" ] && [ -z "$(find $(printf 'crates/%s/src ' $crates) -name '*.rt' -newer "$made")" ]; }
+later() { find $(printf 'crates/%s ' $crates) -name out -prune -o \( -name '*.rt' -o -name '*.antt' \) -newer "$made" -print; }
+
+# Whether the program is linked, and later than all these.
+fresh() { [ -f "$made" ] && [ -z "$(later)" ]; }
 
 # step CRATE WORDS...: an rt in the crate's folder; where it fails all that it said is shown
 step() {
