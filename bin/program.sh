@@ -153,6 +153,7 @@ run() {
         ;;
     *) readable "$input" ;;
     esac
+    [ "$(uname -m)" = x86_64 ] || stop 1 "the program is for x86-64; ports/run runs it in WebAssembly, and bin/farmbook opens the page: see README.md"
     if [ $# -gt 1 ]; then
         shift
         begin "$@"
@@ -162,13 +163,7 @@ run() {
     fi
     ! stale || build
 
-    # Programs are for x86-64: on another machine the kit's emulator runs them.
     set -- "$program"
-    if [ "$(uname -m)" != x86_64 ]; then
-        command -v rt >/dev/null || stop 1 "on this machine the Rattle kit runs the program, and its command rt is not there: see README.md"
-        tools=$(dirname "$(dirname "$(rt doc)")")/on/$(uname -m)/toolchain
-        set -- "$tools/bin/qemu-x86_64" "$tools/lib/ld-linux-x86-64.so.2" --library-path "$tools/lib" "$program"
-    fi
     [ "$input" = - ] || exec <"$input"
     [ -z "$heading" ] || [ ! -t 1 ] || printf '%s\n' "$heading" >&2 || :
 

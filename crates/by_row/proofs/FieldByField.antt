@@ -3,6 +3,7 @@
 use mathlib.Core.Path.{◌≡◌, refl, ap, ◌∙◌}
 use mathlib.Core.Bool.{Bool, true, false}
 use mathlib.Core.List.{List, ◌++◌}
+use mathlib.Core.Logic.{◌⊎◌, inl, inr}
 use Prim.Native.Nat.{ℕ, zero, suc, ◌+◌, ◌-◌, ◌<◌, ◌≤◌}
 use native.Mathlib.Omega.{arith}
 use native.Mathlib.Nat.{zero-add}
@@ -16,6 +17,12 @@ use Rattle.codec.specs.Table.{size}
 use Rattle.codec.specs.Codec.{val_at, be, values_at, in_twelve, bytes_of, first_bad}
 use Rattle.codec.proofs.Stores.{put_then}
 use Rattle.codec.proofs.Within.{none}
+
+-- a field that has neither one byte nor two has four
+pub four : {w : ℕ} → (w ≡ 1) ⊎ ((w ≡ 2) ⊎ (w ≡ 4)) → (w ≡ 1 → ⊥) → (w ≡ 2 → ⊥) → w ≡ 4
+four (inl e) p q = absurd (p e)
+four (inr (inl e)) p q = absurd (q e)
+four (inr (inr e)) p q = e
 
 either : (b : Bool) (n : ℕ) → pick b n n ≡ n
 either true n = refl
