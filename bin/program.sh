@@ -104,7 +104,7 @@ places() {
     while IFS= read -r line; do
         case $line in 'prove: '*' proved ('*')') ;; *) continue ;; esac
         place=$((place + 1)) crate=${line#prove: } took=${line##*(}
-        case $took in *' s)') say "$place of $1: ${crate%% *} proved, ${took%)}" ;; esac # the others were proved before
+        case $took in *' s)') say "$place of $1: ${crate%% *} proved, ${took%)}" ;; esac
     done
 }
 

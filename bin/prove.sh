@@ -20,9 +20,13 @@ crates=$(awk -v program="$program" '
     { sub(/#.*/, ""); if (split($0, part, ":") == 2) needs[part[1]] = part[2] }
     END { reach(program) }' crates.txt)
 
-# Files of code and proof that are later than the program.
-# shellcheck disable=SC2046,SC2086 # one word a crate
-later() { find $(printf 'crates/%s ' $crates) -name out -prune -o \( -name '*.rt' -o -name '*.antt' \) -newer "$made" -print; }
+# What of code, proof and crates.txt is later than the program; a folder is where a file of it was added or removed.
+later() {
+    find crates.txt -newer "$made"
+    for crate in $crates; do
+        for part in src specs proofs; do [ ! -d "crates/$crate/$part" ] || find "crates/$crate/$part" -newer "$made"; done
+    done
+}
 
 # Whether the program is linked, and later than all these.
 fresh() { [ -f "$made" ] && [ -z "$(later)" ]; }
@@ -41,12 +45,14 @@ step() {
 mkdir -p target/log target/bin
 if ! fresh; then
     rm -f "$made"
+    touch "target/log/$program.began"
     for each in $crates; do
         began=$(date +%s)
         step "$each" check
         echo "prove: $each proved ($(($(date +%s) - began)) s)"
     done
     step "$program" run
+    touch -r "target/log/$program.began" "$made" # an edit during the build is later
 fi
 cp "$made" "target/bin/$program.$$"
 chmod 755 "target/bin/$program.$$"
