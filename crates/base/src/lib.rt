@@ -8,14 +8,14 @@ ghost use Rattle.base.specs.Choice.{one_more_lem};
 pub fn least(a: usize, b: usize) -> usize
     ensures { result ≡ min a b }
 {
-    if a <= b { a } else { b }
+    a.min(b)
 }
 
 // The next number: a count stays at u64's last.
 pub fn one_more(n: u64) -> u64
     ensures { result ≡ one_more_lem n }
 {
-    if n < u64::MAX { n + 1 } else { n }
+    n.saturating_add(1)
 }
 
 // The first n bytes of s.
@@ -39,12 +39,5 @@ pub fn find(s: &[u8], b: u8) -> usize
     ensures value { result ≡ index_of b s.now }
     ensures upper_bound { result ≤ length s.now }
 {
-    let mut i = 0;
-    while i < s.len() {
-        if s[i] == b {
-            return i;
-        }
-        i += 1;
-    }
-    i
+    s.iter().position(|x| *x == b).unwrap_or(s.len())
 }

@@ -1,7 +1,7 @@
 -- Whole grams as people read them: kilograms with three decimals, so exact to the gram, thin spaces between thousands, a real minus sign. It goes by
 -- the digits themselves, however many there are.
 -- Assumes nothing.
-use Rattle.std.specs.Prelude.{ℕ, ◌-◌, ◌%◌, List, [], ◌∷◌, ◌++◌, Bool, ◌&&◌, length, get_or, take, drop, replicate, leb, ltb, eqb}
+use Rattle.std.specs.Prelude.{ℕ, ◌-◌, ◌%◌, List, [], ◌∷◌, ◌++◌, Bool, ◌&&◌, length, get_or, take, drop, replicate, leb, ltb, eqb, is_some}
 use Rattle.base.specs.Choice.{pick}
 use Rattle.printing.specs.Ascii.{thin_space, minus_sign}
 use Rattle.typed_words.specs.Amounts.{amount_of}
@@ -36,7 +36,7 @@ digits_in w = pick (is_below w) (drop 1 w) w
 
 -- it is a whole number of grams: a number as people type it, without decimals, of at most 20 digits, which is as many as eight bytes can have
 unfoldable pub is_grams : List ℕ → Bool
-is_grams w = leb (length (digits_in w)) 20 && (amount_of 0 (digits_in w)).good
+is_grams w = leb (length (digits_in w)) 20 && is_some (amount_of 0 (digits_in w))
 
 abbrev pub sign_text : List ℕ → List ℕ
 sign_text w = pick (is_below w) minus_sign []

@@ -81,8 +81,7 @@ pub(crate) fn is_grams(word: &[u8]) -> bool
     ensures { result ≡ is_grams word.now }
 {
     let digits = digits_in(word);
-    let amount = typed_words::read_amount(digits, 0);
-    (digits.len() <= 20) & amount.good
+    (digits.len() <= 20) & typed_words::read_amount(digits, 0).is_some()
 }
 
 fn say_sign(out: &mut [u8], at: usize, word: &[u8]) -> usize

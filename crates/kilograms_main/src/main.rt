@@ -79,20 +79,15 @@ fn step(rt: &impl System, line: &mut [u8], rest: &[u8], mut w: Work) -> Stepped
     }
 }
 
-// A proved loop has to end: the steps count down from a number that no part uses up, since each takes a byte.
+// A proved loop has to end: no part uses up as many steps as it has bytes, since each takes one.
 fn take_part(rt: &impl System, line: &mut [u8], part: &[u8], from: Work) -> Work {
     let mut w = from;
-    let mut i = 0;
-    let mut steps = part.len();
-    while steps > 0 {
-        steps -= 1;
-        let done = step(rt, line, &part[i..], w);
+    let mut rest = part;
+    for _ in 0..part.len() {
+        let done = step(rt, line, rest, w);
         w = done.work;
-        i += done.taken;
-        if i == part.len() {
-            return w;
-        }
-        if !w.written {
+        rest = &rest[done.taken..];
+        if (rest.len() == 0) | !w.written {
             return w;
         }
     }

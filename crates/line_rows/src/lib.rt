@@ -77,10 +77,8 @@ fn put_columns(out: &mut [u8], at: usize, form: Form, values: &[u64]) -> usize
     ensures result_bound { result + 21 ≤ at + 21 * length values.now }
 {
     let mut end = at;
-    let mut k = 1;
-    while k < values.len() {
+    for k in 1..values.len() {
         end = put_next(out, end, form, k, values[k]);
-        k += 1;
     }
     end
 }
@@ -168,6 +166,7 @@ pub fn put_lines(out: &mut [u8], form: Form, lines: &[u8]) -> usize
 {
     let mut i = 0;
     let mut at = 0;
+    // A cursor and no count: each record has a length of its own.
     while i < lines.len() {
         let rest = rest_of(lines, i);
         if rest.len() < LINE_SIZE {

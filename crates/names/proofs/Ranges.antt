@@ -13,9 +13,9 @@ use Rattle.base.specs.Choice.{pick}
 use Rattle.base.proofs.Tests.{by-test}
 use Rattle.codec.proofs.EachKind.{no_fields}
 use Rattle.base.specs.Bytes.{index_of, index_after}
-use Rattle.typed_words.specs.declared.Whole.{Whole}
+use Rattle.std.specs.Prelude.{Option, Some, None}
 use Rattle.typed_words.specs.Words.{nth_part, nth_word, leading_of}
-use Rattle.typed_words.specs.Amounts.{a_whole, number_from, amount_of}
+use Rattle.typed_words.specs.Amounts.{number_from, amount_of}
 use Rattle.codec.specs.declared.Field.{Field}
 use Rattle.codec.specs.Table.{field, table, fields}
 use Rattle.names.specs.Names.{table_line, no_row, field_table, field_names, choice_table, expected_table, expected}
@@ -23,25 +23,24 @@ use Rattle.names.specs.Names.{decimals_table, decimals_of, decimals_at}
 use Rattle.names.proofs.Lines.{all_below, at-below}
 
 -- word n of what is expected of a field, as a number with the field's decimals
-abbrev pub told : ℕ → ℕ → ℕ → Whole
+abbrev pub told : ℕ → ℕ → ℕ → Option ℕ
 told k i n = amount_of (decimals_at k i) (nth_word n (expected k i))
 
 abbrev pub field_at : ℕ → ℕ → Field
 field_at k i = get_or (fields k) i (field 0 0 0)
 
-unfoldable is_whole : Whole → ℕ → Bool
-is_whole w n = w.good && eqb w.value n
+unfoldable is_whole : Option ℕ → ℕ → Bool
+is_whole None n = false
+is_whole (Some w) n = eqb w n
 
 passed : (b : Bool) → T b → b ≡ true
 passed true t = refl
 passed false t = absurd t
 
-is-whole : (w : Whole) (n : ℕ) → T (is_whole w n) → w ≡ a_whole n
+is-whole : (w : Option ℕ) (n : ℕ) → T (is_whole w n) → w ≡ Some n
 unfolding is_whole
-is-whole w n t =
-    let good : w.good ≡ true = passed w.good (and_l w.good (eqb w.value n) t) in
-    let value : w.value ≡ n = eqb-true w.value n (passed (eqb w.value n) (and_r w.good (eqb w.value n) t)) in
-    rw (← good, ← value)
+is-whole None n t = absurd t
+is-whole (Some w) n t = ap (λ (x : ℕ). Some x) (eqb-true w n (passed (eqb w n) t))
 
 abbrev range_told : ℕ → ℕ → Bool
 range_told k i = is_whole (told k i 0) (field_at k i).1 && is_whole (told k i 2) (field_at k i).2
@@ -53,7 +52,7 @@ all_told : T (all_below no_row kind_told)
 unfolding all_below is_whole amount_of number_from nth_part nth_word leading_of index_of index_after table choice_table expected_table decimals_table
 all_told = tt
 
-pub ranges-true : (k i : ℕ) → i < length (fields k) → (told k i 0 ≡ a_whole (field_at k i).1) × (told k i 2 ≡ a_whole (field_at k i).2)
+pub ranges-true : (k i : ℕ) → i < length (fields k) → (told k i 0 ≡ Some (field_at k i).1) × (told k i 2 ≡ Some (field_at k i).2)
 ranges-true k i h =
     let low = is_whole (told k i 0) (field_at k i).1 in
     let high = is_whole (told k i 2) (field_at k i).2 in

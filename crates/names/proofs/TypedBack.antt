@@ -11,7 +11,8 @@ use lib.Dec.{T, leb, ltb, eqb, eqb→eq}
 use lib.Ieee.Fits.{and_l, and_r}
 use borrow.Author.Tests.{le-leb, ltb-true, ltb-false}
 use Rattle.base.proofs.Tests.{by-test}
-use Rattle.typed_words.specs.Amounts.{is_digit, a_whole, amount_of, all_digits, value_after_lem, Writes}
+use Rattle.std.specs.Prelude.{Some}
+use Rattle.typed_words.specs.Amounts.{is_digit, amount_of, all_digits, value_after_lem, Writes}
 use Rattle.typed_words.proofs.TypedExact.{all_more, exact_read}
 use Rattle.printing.specs.Decimal.{digit, decimal, last_digits, without_last, pointed}
 use Rattle.printing.proofs.Digits.{decimal-small, decimal-more, amount-fits}
@@ -108,8 +109,8 @@ writes d n =
     }
 
 -- a number with d decimals, printed with all of them
-pub pointed-back : (d n : ℕ) → n < all_more → amount_of d (pointed d n) ≡ a_whole n
-pointed-back d n h = let e : min n all_more ≡ n = omega arith in exact_read d (pointed d n) n (writes d n) ∙ ap a_whole e
+pub pointed-back : (d n : ℕ) → n < all_more → amount_of d (pointed d n) ≡ Some n
+pointed-back d n h = let e : min n all_more ≡ n = omega arith in exact_read d (pointed d n) n (writes d n) ∙ ap (λ (x : ℕ). Some x) e
 
 -- ---- how long it is
 

@@ -6,6 +6,7 @@ use mathlib.Core.Bool.{Bool, true, false}
 use mathlib.Core.List.{List, [], ◌++◌}
 use lib.ListN.{length}
 use lib.Dec.{ltb}
+use Rattle.std.specs.Prelude.{unwrap_or}
 use Rattle.typed_words.specs.Words.{nth_word}
 use Rattle.typed_words.specs.Amounts.{amount_of}
 use Rattle.printing.specs.Ascii.{ascii}
@@ -14,12 +15,12 @@ use Rattle.names.specs.Usual.{goes_by, range_for, usual_in, for_text}
 -- b is whether the ranges go by class or column, range the one for `who`
 module _ (ranges : List ℕ) (d who : ℕ) {b : Bool} (by : b ≡ goes_by ranges) where
   module _ {range : List ℕ} {low high : ℕ} (one : range ≡ range_for ranges who) where
-    pub by_word : b ≡ true → low ≡ (amount_of d (nth_word 1 range)).value → high ≡ (amount_of d (nth_word 2 range)).value
+    pub by_word : b ≡ true → low ≡ unwrap_or (amount_of d (nth_word 1 range)) 0 → high ≡ unwrap_or (amount_of d (nth_word 2 range)) 0
         → record { some = ltb 0 (length range); low = low; high = high } ≡ usual_in ranges d who
     unfolding usual_in
     by_word t l h = let e = sym by ∙ t in rw (l, h, one, e) refl
 
-    pub for-all : b ≡ false → low ≡ (amount_of d (nth_word 0 range)).value → high ≡ (amount_of d (nth_word 1 range)).value
+    pub for-all : b ≡ false → low ≡ unwrap_or (amount_of d (nth_word 0 range)) 0 → high ≡ unwrap_or (amount_of d (nth_word 1 range)) 0
         → record { some = ltb 0 (length range); low = low; high = high } ≡ usual_in ranges d who
     unfolding usual_in
     for-all t l h = let e = sym by ∙ t in rw (l, h, one, e) refl

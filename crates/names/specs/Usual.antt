@@ -1,6 +1,6 @@
 -- Which values are usual: what people are asked to look at again, and no rule of the book's. The sources are document 000 (18.45 MJ a kg of dry
 -- matter, Ym 6.5 per cent) and document 002 (tables A4-12, A4-14 and A4-19 to A4-24), taken wide.
-use Rattle.std.specs.Prelude.{ℕ, ◌-◌, Bool, List, [], ◌++◌, length, ltb, eqb}
+use Rattle.std.specs.Prelude.{ℕ, ◌-◌, Bool, List, [], ◌++◌, length, ltb, eqb, unwrap_or}
 use Rattle.base.specs.Choice.{pick}
 use Rattle.base.specs.Bytes.{index_of}
 use Rattle.typed_words.specs.Words.{nth_part, nth_word}
@@ -38,8 +38,8 @@ unfoldable pub usual_in : List ℕ → ℕ → ℕ → Usual
 usual_in ranges d who =
     record {
       some = ltb 0 (length (range_for ranges who));
-      low = (amount_of d (nth_word (pick (goes_by ranges) 1 0) (range_for ranges who))).value;
-      high = (amount_of d (nth_word (pick (goes_by ranges) 2 1) (range_for ranges who))).value;
+      low = unwrap_or (amount_of d (nth_word (pick (goes_by ranges) 1 0) (range_for ranges who))) 0;
+      high = unwrap_or (amount_of d (nth_word (pick (goes_by ranges) 2 1) (range_for ranges who))) 0;
     }
 
 abbrev pub usual_of : ℕ → ℕ → ℕ → Usual

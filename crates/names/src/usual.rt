@@ -1,5 +1,5 @@
 // Which values are usual: a person is asked to look at any other again.
-ghost use Rattle.std.specs.Prelude.{◌≡◌, ◌-◌, ◌≤◌, length};
+ghost use Rattle.std.specs.Prelude.{◌≡◌, ◌-◌, ◌≤◌, length, unwrap_or};
 ghost use Rattle.printing.specs.Said.{Said};
 ghost use Rattle.typed_words.specs.Words.{nth_word};
 ghost use Rattle.typed_words.specs.Amounts.{amount_of};
@@ -7,8 +7,9 @@ ghost use Rattle.names.specs.Names.{decimals_at};
 ghost use Rattle.names.specs.Usual.{usual_ranges, goes_by, range_for, usual_of, for_text, to_text, usual_text};
 
 use crate::{cell, decimals, say_value};
+use base::find;
 use printing::say;
-use typed_words::{index_of, part, read_amount, word};
+use typed_words::{part, read_amount, word};
 
 // Which values of a field are usual, from low to high, in the book's unit; none are asked for where `some` is false.
 #[derive(Clone, Copy)]
@@ -36,7 +37,7 @@ const USUAL: [u8; 265] = *b"
 fn goes_by(ranges: &[u8]) -> bool
     ensures { result ≡ goes_by ranges.now }
 {
-    index_of(ranges, b'|') < ranges.len()
+    find(ranges, b'|') < ranges.len()
 }
 
 // The range for the class or column `who`.
@@ -49,12 +50,11 @@ fn range_for(ranges: &[u8], who: usize) -> &[u8]
     ranges
 }
 
-// The number that the word n of a range types for field i.
+// The number that the word n of a range types for field i; 0 where it is none.
 fn limit(range: &[u8], n: usize, row: u64, i: usize) -> u64
-    ensures { result ≡ (amount_of (decimals_at row i) (nth_word n range.now)).value }
+    ensures { result ≡ unwrap_or (amount_of (decimals_at row i) (nth_word n range.now)) 0 }
 {
-    let w = read_amount(word(range, n), decimals(row, i));
-    w.value
+    read_amount(word(range, n), decimals(row, i)).unwrap_or(0)
 }
 
 // What is usual of field i for the class or column `who`.

@@ -58,18 +58,15 @@ fn put_spaced(out: &mut [u8], at: usize, v: u64) -> usize
     put_decimal(out, after, v)
 }
 
-// The numbers from index i on, each with a space before it.
-fn put_rest(out: &mut [u8], at: usize, values: &[u64], i: usize) -> usize
-    requires i_in_bounds { i ≤ length values.now }
-    requires values_in_bounds { at + 21 * length values.now ≤ length out.old + 21 * i }
-    ensures put { Put out.old out.new at (spaced (drop i values.now)) result }
-    ensures i_bound { result + 21 * i ≤ at + 21 * length values.now }
+// The numbers, each with a space before it.
+fn put_rest(out: &mut [u8], at: usize, values: &[u64]) -> usize
+    requires { at + 21 * length values.now ≤ length out.old }
+    ensures put { Put out.old out.new at (spaced values.now) result }
+    ensures upper_bound { result ≤ at + 21 * length values.now }
 {
     let mut end = at;
-    let mut k = i;
-    while k < values.len() {
-        end = put_spaced(out, end, values[k]);
-        k += 1;
+    for &v in values {
+        end = put_spaced(out, end, v);
     }
     end
 }
@@ -84,7 +81,7 @@ pub fn put_numbers(out: &mut [u8], at: usize, values: &[u64]) -> usize
         return put_byte(out, at, b'\n');
     }
     let first = put_decimal(out, at, values[0]);
-    let end = put_rest(out, first, values, 1);
+    let end = put_rest(out, first, &values[1..]);
     put_byte(out, end, b'\n')
 }
 
@@ -148,12 +145,9 @@ pub fn put_text(out: &mut [u8], at: usize, text: &[u8]) -> usize
     requires { at + length text.now ≤ length out.old }
     ensures { Put out.old out.new at text.now result }
 {
-    let mut i = 0;
-    while i < text.len() {
-        out[at + i] = text[i];
-        i += 1;
-    }
-    at + i
+    let end = at + text.len();
+    out[at..end].copy_from_slice(text);
+    end
 }
 
 // As much of the text as fits: what is said to people is cut off at the buffer's end.

@@ -2,8 +2,8 @@
 -- Assumes nothing.
 use Prim.Native.Nat.{ℕ, zero, suc, ◌-◌, ◌≤◌, ◌<◌}
 use native.Mathlib.Omega.{arith}
-use mathlib.Core.Path.{◌≡◌, refl}
-use mathlib.Core.Bool.{Bool, true, false, ◌&&◌, not}
+use mathlib.Core.Path.{◌≡◌, refl, sym, ap}
+use mathlib.Core.Bool.{Bool, true, false, ◌&&◌, not, true≢false}
 use mathlib.Core.Logic.{⊎_elim}
 use mathlib.Core.List.{List, [], ◌∷◌}
 use lib.ListN.{length}
@@ -12,9 +12,9 @@ use borrow.Author.Tests.{leb-true, ltb-true, eqb-true}
 use Rattle.base.specs.Choice.{pick}
 use Rattle.base.proofs.Tests.{and_l, and_r, lt-or-ge, not-true}
 use Rattle.base.specs.Bytes.{index_of, index_after}
-use Rattle.typed_words.specs.declared.Whole.{Whole}
+use Rattle.std.specs.Prelude.{Option, Some, None, is_some}
 use Rattle.typed_words.specs.Words.{nth_part, nth_word, leading_of, same_text_lem, lowered}
-use Rattle.typed_words.specs.Amounts.{a_whole, number_from, amount_of}
+use Rattle.typed_words.specs.Amounts.{number_from, amount_of}
 use Rattle.names.specs.Names.{kind_table, kind_name, choice_table, is_choice, choice_word, decimals_table, decimals_at}
 use Rattle.codec.specs.Table.{table, fields, field_at, row_kind, last_row}
 use Rattle.writer.specs.Line.{named_from, kind_of}
@@ -53,9 +53,14 @@ is_word (b ∷ s) e =
 word_test_lem : ℕ → Bool
 word_test_lem k = is_word_lem (kind_name k) && (leb 1 (length (kind_name k)) && leb (length (kind_name k)) 7)
 
+-- it is n
+abbrev is_number : Option ℕ → ℕ → Bool
+is_number None n = false
+is_number (Some m) n = eqb m n
+
 -- and the typist takes it for the kind of the row
 kind_test : ℕ → Bool
-kind_test k = (kind_of (kind_name k)).good && eqb (kind_of (kind_name k)).value (row_kind k)
+kind_test k = is_number (kind_of (kind_name k)) (row_kind k)
 
 words-computed : each word_test_lem last_row ≡ true
 unfolding each is_word_lem word_test_lem kind_table nth_part index_of index_after
@@ -71,7 +76,7 @@ kinds-computed = refl
 abbrev choice_test_lem : ℕ → ℕ → ℕ → Bool
 choice_test_lem k i v =
     is_word_lem (choice_word k i v)
-    && ((leb 1 (length (choice_word k i v)) && leb (length (choice_word k i v)) 20) && not (amount_of (decimals_at k i) (choice_word k i v)).good)
+    && ((leb 1 (length (choice_word k i v)) && leb (length (choice_word k i v)) 20) && not (is_some (amount_of (decimals_at k i) (choice_word k i v))))
 
 -- each word of a choice is so; the numbers of any other field are below 10^15
 abbrev value_test : ℕ → ℕ → Bool
@@ -107,15 +112,14 @@ module _ (k : ℕ) (least : 1 ≤ k) (most : k ≤ last_row) where
   pub name-short : length (kind_name k) ≤ 7
   name-short = leb-true (length (kind_name k)) 7 (and_r (leb 1 (length (kind_name k))) (leb (length (kind_name k)) 7) name-length)
 
-  pub kind-back : kind_of (kind_name k) ≡ a_whole (row_kind k)
+  pub kind-back : kind_of (kind_name k) ≡ Some (row_kind k)
   unfolding kind_test
   kind-back =
-      let t = each_at kind_test last_row kinds-computed k least most in
-      let w = kind_of (kind_name k) in
-      whole_is w (and_l w.good (eqb w.value (row_kind k)) t) (eqb-true w.value (row_kind k) (and_r w.good (eqb w.value (row_kind k)) t))
+      number_is (kind_of (kind_name k)) (each_at kind_test last_row kinds-computed k least most)
     where
-      whole_is : (w : Whole) → w.good ≡ true → w.value ≡ row_kind k → w ≡ a_whole (row_kind k)
-      whole_is w g v = rw (← g, ← v)
+      number_is : (w : Option ℕ) → is_number w (row_kind k) ≡ true → w ≡ Some (row_kind k)
+      number_is None t = absurd (true≢false (sym t))
+      number_is (Some m) t = ap (λ (x : ℕ). Some x) (eqb-true m (row_kind k) t)
 
   abbrev each-field : Bool
   each-field = each (λ (j : ℕ). value_test k (j - 1)) (length (fields k))
@@ -156,7 +160,7 @@ module _ (k : ℕ) (least : 1 ≤ k) (most : k ≤ last_row) where
       long_enough = leb 1 (length word) && leb (length word) 20
 
       abbrev no_number_lem : Bool
-      no_number_lem = not (amount_of (decimals_at k i) word).good
+      no_number_lem = not (is_some (amount_of (decimals_at k i) word))
 
       pub choice-word : Word (choice_word k i v)
       choice-word = is_word word (and_l (is_word_lem word) (long_enough && no_number_lem) choice_test)
@@ -170,5 +174,9 @@ module _ (k : ℕ) (least : 1 ≤ k) (most : k ≤ last_row) where
       pub choice-short : length (choice_word k i v) ≤ 20
       choice-short = leb-true (length word) 20 (and_r (leb 1 (length word)) (leb (length word) 20) (and_l long_enough no_number_lem choice-rest))
 
-      pub choice-other : (amount_of (decimals_at k i) (choice_word k i v)).good ≡ false
-      choice-other = not-true _ (and_r long_enough no_number_lem choice-rest)
+      pub choice-other : amount_of (decimals_at k i) (choice_word k i v) ≡ None
+      choice-other = none-is (amount_of (decimals_at k i) word) (not-true _ (and_r long_enough no_number_lem choice-rest))
+        where
+          none-is : (n : Option ℕ) → is_some n ≡ false → n ≡ None
+          none-is None e = refl
+          none-is (Some m) e = absurd (true≢false e)

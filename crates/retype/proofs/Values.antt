@@ -11,7 +11,7 @@ use borrow.Author.Tests.{lt-ltb, ne_eqb}
 use Rattle.base.proofs.Tests.{of-choice}
 use Rattle.base.specs.Bytes.{index_of}
 use Rattle.typed_words.specs.Words.{leading_of, nth_word}
-use Rattle.typed_words.specs.Amounts.{a_whole}
+use Rattle.std.specs.Prelude.{Some}
 use Rattle.text_lines.specs.Lines.{has}
 use Rattle.text_lines.proofs.Bytes.{absent, index-other, has-not, has-behind}
 use Rattle.codec.specs.Table.{fields, field_at, last_row, Of}
@@ -21,7 +21,7 @@ use Rattle.printing.specs.Decimal.{pointed}
 use Rattle.names.specs.Names.{is_choice, choice_word, decimals_at, value_text}
 use Rattle.names.proofs.TypedBack.{pointed-back, number-length, choice-least, choice-back}
 use Rattle.writer.specs.Line.{has_field, by_choice, value_at}
-use Rattle.writer.proofs.TypedLines.{number-value, choice-value}
+use Rattle.writer.proofs.TypedLines.{read-value}
 use Rattle.retype.specs.Typed.{values_typed}
 use Rattle.retype.proofs.Words.{Word, first-is, past_is, first-blank, past-blank, none-in-word}
 use Rattle.retype.proofs.Decimals.{pointed_word, pointed-some}
@@ -32,7 +32,7 @@ pub record ReadAs (row i v : ℕ) (s : List ℕ) : Type 0 where
   pub word : Word s
   pub some : 0 < length s
   pub short : length s ≤ 20
-  pub back : value_at row i s ≡ a_whole v
+  pub back : value_at row i s ≡ Some v
 
 -- what is typed of the value is
 abbrev pub ReadsBack : ℕ → ℕ → ℕ → Type 0
@@ -57,21 +57,21 @@ module _ (row i v : ℕ) (least : 1 ≤ row) (most : row ≤ last_row) (h : i < 
         word = pointed_word d v;
         some = pointed-some d v;
         short = number-length row i v m;
-        back = sym (number-value row i (pointed d v) has-field (sym (pointed-back d v m)) refl);
+        back = sym (read-value row i (pointed d v) has-field (sym (pointed-back d v m)) refl);
       }
 
   choice-is : is_choice row i ≡ true → ReadAs row i v (choice_word row i v)
   choice-is c =
       let l = choice-least row i v h c w.above w.below in
       let some : v ≡ 0 → ⊥ = λ e. omega arith in
-      let by : a_whole v ≡ by_choice v = rw (ne_eqb v 0 some) refl in
+      let by : Some v ≡ by_choice v = rw (ne_eqb v 0 some) refl in
       record {
         word = choice-word row least most i h c v l w.below;
         some = choice-some row least most i h c v l w.below;
         short = choice-short row least most i h c v l w.below;
         back =
-            sym (choice-value row i (choice_word row i v) has-field refl (choice-other row least most i h c v l w.below)
-            (sym (choice-back row i v h c w.above w.below)) by);
+            sym (read-value row i (choice_word row i v) has-field (sym (choice-other row least most i h c v l w.below))
+            (by ∙ ap by_choice (sym (choice-back row i v h c w.above w.below))));
       }
 
   pub reads-back : ReadsBack row i v

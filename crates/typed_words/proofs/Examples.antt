@@ -3,61 +3,61 @@ use mathlib.Core.Path.{◌≡◌, refl}
 use mathlib.Core.Bool.{true}
 use mathlib.Core.List.{[], ◌∷◌}
 use Rattle.base.specs.Bytes.{index_of, index_after}
-use Rattle.typed_words.specs.Numbers.{no_whole}
+use Rattle.std.specs.Prelude.{Some, None}
 use Rattle.typed_words.specs.Words.{lowered, same_text_lem, nth_part}
-use Rattle.typed_words.specs.Amounts.{a_whole, number_from, amount_of}
+use Rattle.typed_words.specs.Amounts.{number_from, amount_of}
 
 -- 300.00 with 2 decimals
-all-places : amount_of 2 (51 ∷ 48 ∷ 48 ∷ 46 ∷ 48 ∷ 48 ∷ []) ≡ a_whole 30000
+all-places : amount_of 2 (51 ∷ 48 ∷ 48 ∷ 46 ∷ 48 ∷ 48 ∷ []) ≡ Some 30000
 unfolding amount_of number_from index_of index_after
 all-places = refl
 
 -- 6.5 with 2
-place-filled : amount_of 2 (54 ∷ 46 ∷ 53 ∷ []) ≡ a_whole 650
+place-filled : amount_of 2 (54 ∷ 46 ∷ 53 ∷ []) ≡ Some 650
 unfolding amount_of number_from index_of index_after
 place-filled = refl
 
 -- 340, 340.5 and 340.50 with 2
-no-point-typed : amount_of 2 (51 ∷ 52 ∷ 48 ∷ []) ≡ a_whole 34000
+no-point-typed : amount_of 2 (51 ∷ 52 ∷ 48 ∷ []) ≡ Some 34000
 unfolding amount_of number_from index_of index_after
 no-point-typed = refl
 
-half-typed : amount_of 2 (51 ∷ 52 ∷ 48 ∷ 46 ∷ 53 ∷ []) ≡ a_whole 34050
+half-typed : amount_of 2 (51 ∷ 52 ∷ 48 ∷ 46 ∷ 53 ∷ []) ≡ Some 34050
 unfolding amount_of number_from index_of index_after
 half-typed = refl
 
-both-places : amount_of 2 (51 ∷ 52 ∷ 48 ∷ 46 ∷ 53 ∷ 48 ∷ []) ≡ a_whole 34050
+both-places : amount_of 2 (51 ∷ 52 ∷ 48 ∷ 46 ∷ 53 ∷ 48 ∷ []) ≡ Some 34050
 unfolding amount_of number_from index_of index_after
 both-places = refl
 
 -- 650 with none
-no-decimals : amount_of 0 (54 ∷ 53 ∷ 48 ∷ []) ≡ a_whole 650
+no-decimals : amount_of 0 (54 ∷ 53 ∷ 48 ∷ []) ≡ Some 650
 unfolding amount_of number_from index_of index_after
 no-decimals = refl
 
 -- 6.505 with 2
-third-place : amount_of 2 (54 ∷ 46 ∷ 53 ∷ 48 ∷ 53 ∷ []) ≡ no_whole
+third-place : amount_of 2 (54 ∷ 46 ∷ 53 ∷ 48 ∷ 53 ∷ []) ≡ None
 unfolding amount_of number_from index_of index_after
 third-place = refl
 
 -- 6.5 with none
-point-alone : amount_of 0 (54 ∷ 46 ∷ 53 ∷ []) ≡ no_whole
+point-alone : amount_of 0 (54 ∷ 46 ∷ 53 ∷ []) ≡ None
 unfolding amount_of number_from index_of index_after
 point-alone = refl
 
 -- .5 and 5. with 2
-nothing-before : amount_of 2 (46 ∷ 53 ∷ []) ≡ no_whole
+nothing-before : amount_of 2 (46 ∷ 53 ∷ []) ≡ None
 unfolding amount_of number_from index_of index_after
 nothing-before = refl
 
-nothing-behind : amount_of 2 (53 ∷ 46 ∷ []) ≡ no_whole
+nothing-behind : amount_of 2 (53 ∷ 46 ∷ []) ≡ None
 unfolding amount_of number_from index_of index_after
 nothing-behind = refl
 
 -- 20 digits
 twenty-digits : amount_of 2
     (49 ∷ 50 ∷ 51 ∷ 52 ∷ 53 ∷ 54 ∷ 55 ∷ 56 ∷ 57 ∷ 48 ∷ 49 ∷ 50 ∷ 51 ∷ 52 ∷ 53 ∷ 54 ∷ 55 ∷ 56 ∷ 57 ∷ 48 ∷ [])
-    ≡ a_whole 1000000000000000
+    ≡ Some 1000000000000000
 unfolding amount_of number_from index_of index_after
 twenty-digits = refl
 

@@ -13,8 +13,6 @@ use Rattle.typed_words.proofs.read_decimal.Kinds as double
 use Rattle.typed_words.proofs.read_decimal.Reads as double-contract
 use Rattle.typed_words.proofs.read_whole.Kinds as digits
 use Rattle.typed_words.proofs.read_whole.Reads as digits-contract
-use Rattle.typed_words.proofs.index_of.Kinds as index
-use Rattle.typed_words.proofs.index_of.Reads as index-contract
 use Rattle.typed_words.proofs.word.Kinds as nth
 use Rattle.typed_words.proofs.word.Reads as nth-contract
 
@@ -66,10 +64,3 @@ one-is-word κs args f g e e' p q = p ∙ sym q
 -- A name compared, whatever its capitals.
 pub one-is-name : OneAnswer named.ps named.r named-contract.Learnt
 one-is-name κs args f g e e' p q = p ∙ sym q
-
-pub index-of-asks-nothing : AsksNothing index.ps index-contract.Asked
-index-of-asks-nothing κs args = tt
-
--- Where a byte stands.
-pub one-index-of : OneAnswer index.ps index.r index-contract.Learnt
-one-index-of κs args f g e e' p q = p.0 ∙ sym q.0

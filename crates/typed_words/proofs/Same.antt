@@ -1,15 +1,27 @@
--- Laws of `same_text_lem`, byte by byte.
-use Prim.Native.Nat.{ℕ, suc, ◌+◌, ◌<◌, ◌≤◌}
-use native.Mathlib.Numerals.{add-one}
+-- `same_text_lem` is the library's equality of two texts, and `lowered` its `map` of small letters.
+use Prim.Native.Nat.{ℕ, suc}
 use mathlib.Core.Path.{◌≡◌, refl, ap, ◌∙◌}
-use mathlib.Core.Bool.{true, false, ◌&&◌}
-use mathlib.Core.List.{List, [], ◌∷◌}
-use lib.ListN.{length, get_or, drop, drop_of_length-le}
-use lib.Seq.{drop-cons}
+use mathlib.Core.Bool.{Bool, false, ◌&&◌}
+use mathlib.Core.List.{List, [], ◌∷◌, map}
 use lib.Dec.{eqb}
-use borrow.Author.Tests.{eq-eqb, ne_eqb}
+use lib.ListN.{length}
 use Rattle.base.proofs.Tests.{and-false}
-use Rattle.typed_words.specs.Words.{same_text_lem}
+use Rattle.std.specs.Bool.{Decides, one_answer, nat_eq}
+use Rattle.std.specs.Cmp.Lexicographic.{pointwise, bytes_decides}
+use native.Mathlib.Omega.{arith}
+use Rattle.std.proofs.lemmas.Bool.Decides.{nat_tests}
+use Rattle.std.specs.Char.{to_ascii_lowercase}
+use Rattle.typed_words.specs.Words.{same_text_lem, small_letter, lowered}
+
+pub same-text : (s t : List ℕ) → pointwise nat_eq s t ≡ same_text_lem s t
+unfolding same_text_lem
+same-text [] [] = refl
+same-text [] (y ∷ t) = refl
+same-text (x ∷ s) [] = refl
+same-text (x ∷ s) (y ∷ t) = ap (λ (r : Bool). eqb x y && r) (same-text s t)
+
+pub same-decided : (s t : List ℕ) (r : Bool) → Decides r (s ≡ t) → r ≡ same_text_lem s t
+same-decided s t r d = one_answer r (pointwise nat_eq s t) d (bytes_decides s t) ∙ same-text s t
 
 pub other_length : (a b : List ℕ) → (length a ≡ length b → ⊥) → same_text_lem a b ≡ false
 unfolding same_text_lem
@@ -18,17 +30,12 @@ other_length [] (y ∷ ys) h = refl
 other_length (x ∷ xs) [] h = refl
 other_length (x ∷ xs) (y ∷ ys) h = rw (other_length xs ys (λ e. h (ap suc e))) (and-false (eqb x y))
 
-module _ (a b : List ℕ) (i : ℕ) (m : i < length a) (n : i < length b) where
-  at_byte : same_text_lem (drop i a) (drop i b) ≡ (eqb (get_or a i 0) (get_or b i 0) && same_text_lem (drop (i + 1) a) (drop (i + 1) b))
-  unfolding same_text_lem
-  at_byte = rw (add-one, drop-cons a i 0 m, drop-cons b i 0 n)
+pub lowered-map : (s : List ℕ) → map to_ascii_lowercase s ≡ lowered s
+unfolding lowered
+lowered-map [] = refl
+lowered-map (b ∷ s) = let e : to_ascii_lowercase b ≡ small_letter b = grind (arith, nat_tests) in rw (e, lowered-map s)
 
-  pub goes_on : get_or a i 0 ≡ get_or b i 0 → same_text_lem (drop i a) (drop i b) ≡ same_text_lem (drop (i + 1) a) (drop (i + 1) b)
-  goes_on e = at_byte ∙ rw (eq-eqb (get_or a i 0) (get_or b i 0) e)
-
-  pub differs : (get_or a i 0 ≡ get_or b i 0 → ⊥) → same_text_lem (drop i a) (drop i b) ≡ false
-  differs e = at_byte ∙ rw (ne_eqb (get_or a i 0) (get_or b i 0) e)
-
-pub at-end : (a b : List ℕ) (i : ℕ) → length a ≤ i → length b ≤ i → same_text_lem (drop i a) (drop i b) ≡ true
-unfolding same_text_lem
-at-end a b i m n = rw (drop_of_length-le a m, drop_of_length-le b n)
+pub length-lowered : (s : List ℕ) → length (lowered s) ≡ length s
+unfolding lowered
+length-lowered [] = refl
+length-lowered (b ∷ s) = ap suc (length-lowered s)

@@ -14,9 +14,9 @@ use lib.Dec.{leb, ltb, eqb}
 use borrow.Author.Tests.{lt-ltb, le-leb, eq-eqb, ne_eqb, ltb-true, leb-true, eqb-true, eqb-false}
 use Rattle.base.proofs.Tests.{and_l, and_r, by-test}
 use Rattle.base.specs.Bytes.{index_of, index_after}
-use Rattle.typed_words.specs.declared.Whole.{Whole}
+use Rattle.std.specs.Prelude.{Option, Some, is_some}
 use Rattle.typed_words.specs.Numbers.{goes_on_lem, before_point, behind_point}
-use Rattle.typed_words.specs.Amounts.{is_digit, a_whole, number_from, places_fit, filled_up, amount_of, all_digits, value_after_lem, Writes, WritesOne}
+use Rattle.typed_words.specs.Amounts.{is_digit, number_from, places_fit, filled_up, amount_of, all_digits, value_after_lem, Writes, WritesOne}
 
 -- the largest number that a word is read as
 abbrev pub all_more : ℕ
@@ -25,16 +25,16 @@ all_more = 1000000000000000
 -- ---- digits
 
 -- digits are read as their number, up to 10^15
-number_is : (u : ℕ) (s : List ℕ) → number_from (min u all_more) s ≡ goes_on_lem (all_digits s) (a_whole (min (value_after_lem u s) all_more))
+number_is : (u : ℕ) (s : List ℕ) → number_from (min u all_more) s ≡ goes_on_lem (all_digits s) (Some (min (value_after_lem u s) all_more))
 unfolding number_from all_digits value_after_lem
 number_is u [] = refl
 number_is u (b ∷ s) =
     let e : min (min u all_more * 10 + (b - 48)) all_more ≡ min (u * 10 + (b - 48)) all_more = omega arith in
-    by-digit (is_digit b) (all_digits s) (number_from (min (min u all_more * 10 + (b - 48)) all_more) s) (a_whole (min (value_after_lem (u * 10 +
+    by-digit (is_digit b) (all_digits s) (number_from (min (min u all_more * 10 + (b - 48)) all_more) s) (Some (min (value_after_lem (u * 10 +
     (b - 48)) s) all_more))
     (rw e (number_is (u * 10 + (b - 48)) s))
   where
-    by-digit : (x y : Bool) (w v : Whole) → w ≡ goes_on_lem y v → goes_on_lem x w ≡ goes_on_lem (x && y) v
+    by-digit : (x y : Bool) (w v : Option ℕ) → w ≡ goes_on_lem y v → goes_on_lem x w ≡ goes_on_lem (x && y) v
     by-digit true y w v e = e
     by-digit false y w v e = refl
 
@@ -165,7 +165,7 @@ module _ (d : ℕ) (s : List ℕ) (v : ℕ) (w : Writes d s v) where
   filled : filled_up d s ≡ (w.whole ++ w.places) ++ replicate (d - length w.places) 48
   filled = rw (parts.before, parts.behind) (sym (append_assoc w.whole w.places (replicate (d - length w.places) 48)))
 
-  pub exact_read : amount_of d s ≡ a_whole (min v all_more)
+  pub exact_read : amount_of d s ≡ Some (min v all_more)
   unfolding amount_of
   exact_read =
       let digits = w.whole ++ w.places in
@@ -178,15 +178,15 @@ module _ (d : ℕ) (s : List ℕ) (v : ℕ) (w : Writes d s v) where
 
 -- ---- what is read is written
 
-good_left : (x : Bool) (v : Whole) → (goes_on_lem x v).good ≡ true → x ≡ true
+good_left : (x : Bool) (v : Option ℕ) → is_some (goes_on_lem x v) ≡ true → x ≡ true
 good_left true v g = refl
 good_left false v g = absurd (true≢false (sym g))
 
-good_right : (x : Bool) (v : Whole) → (goes_on_lem x v).good ≡ true → v.good ≡ true
+good_right : (x : Bool) (v : Option ℕ) → is_some (goes_on_lem x v) ≡ true → is_some v ≡ true
 good_right true v g = g
 good_right false v g = absurd (true≢false (sym g))
 
-module _ (d : ℕ) (s : List ℕ) (g : (amount_of d s).good ≡ true) where
+module _ (d : ℕ) (s : List ℕ) (g : is_some (amount_of d s) ≡ true) where
   some-point : Bool
   some-point = eqb (index_of 46 s) (length s) || ltb 0 (length (behind_point s))
 
@@ -197,8 +197,8 @@ module _ (d : ℕ) (s : List ℕ) (g : (amount_of d s).good ≡ true) where
   filled-digits : all_digits (filled_up d s) ≡ true
   unfolding amount_of
   filled-digits =
-      good_left (all_digits (filled_up d s)) (a_whole (min (value_after_lem 0 (filled_up d s)) all_more))
-      (ap (λ (x : Whole). x.good) (sym (number_is 0 (filled_up d s))) ∙ good_right (places_fit d s) (number_from 0 (filled_up d s)) g)
+      good_left (all_digits (filled_up d s)) (Some (min (value_after_lem 0 (filled_up d s)) all_more))
+      (ap (λ (x : Option ℕ). is_some x) (sym (number_is 0 (filled_up d s))) ∙ good_right (places_fit d s) (number_from 0 (filled_up d s)) g)
 
   both-digits : all_digits (before_point s ++ behind_point s) ≡ true
   both-digits =
@@ -245,14 +245,14 @@ module _ (d : ℕ) (s : List ℕ) (g : (amount_of d s).good ≡ true) where
       }
 
 -- what is refused as a number writes none
-pub none_written : (d : ℕ) (s : List ℕ) → (amount_of d s).good ≡ false → (v : ℕ) → Writes d s v → ⊥
-none_written d s g v w = true≢false (sym (ap (λ (x : Whole). x.good) (exact_read d s v w)) ∙ g)
+pub none_written : (d : ℕ) (s : List ℕ) → is_some (amount_of d s) ≡ false → (v : ℕ) → Writes d s v → ⊥
+none_written d s g v w = true≢false (sym (ap (λ (x : Option ℕ). is_some x) (exact_read d s v w)) ∙ g)
 
 -- the theorem
 pub record Exact (d : ℕ) (s : List ℕ) : Type 0 where
-  pub read : (v : ℕ) → Writes d s v → amount_of d s ≡ a_whole (min v all_more)
-  pub written : (amount_of d s).good ≡ true → WritesOne d s
-  pub none : (amount_of d s).good ≡ false → (v : ℕ) → Writes d s v → ⊥
+  pub read : (v : ℕ) → Writes d s v → amount_of d s ≡ Some (min v all_more)
+  pub written : is_some (amount_of d s) ≡ true → WritesOne d s
+  pub none : is_some (amount_of d s) ≡ false → (v : ℕ) → Writes d s v → ⊥
 
 pub typed-exact : (d : ℕ) (s : List ℕ) → Exact d s
 typed-exact d s = record { read = exact_read d s; written = read-exact d s; none = none_written d s }

@@ -2,7 +2,7 @@
 -- and their values in the book's unit: whole numbers of the last decimal.
 use Rattle.std.specs.Prelude.{ℕ, ◌+◌, ◌-◌, ◌*◌, ◌^◌, ◌≤◌, min, ◌≡◌, Bool, true, ◌&&◌, ◌||◌, ◌⊎◌, List, [], ◌∷◌, ◌++◌, length, replicate, leb, ltb, eqb}
 use Rattle.base.specs.Bytes.{index_of}
-use Rattle.typed_words.specs.declared.Whole.{Whole}
+use Rattle.std.specs.Prelude.{Option, Some}
 use Rattle.typed_words.specs.Numbers.{goes_on_lem, before_point, behind_point}
 
 abbrev pub is_digit : ℕ → Bool
@@ -12,12 +12,9 @@ is_digit b = leb 48 b && leb b 57
 abbrev pub with_digit : ℕ → ℕ → ℕ
 with_digit v b = min (v * 10 + (b - 48)) 1000000000000000
 
-abbrev pub a_whole : ℕ → Whole
-a_whole v = record { good = true; value = v }
-
 -- the number of the digits of s, going on from v
-unfoldable pub number_from : ℕ → List ℕ → Whole
-number_from v [] = a_whole v
+unfoldable pub number_from : ℕ → List ℕ → Option ℕ
+number_from v [] = Some v
 number_from v (b ∷ s) = goes_on_lem (is_digit b) (number_from (with_digit v b) s)
 
 -- at least one byte before the point; where there is a point, from 1 up to d after it
@@ -30,7 +27,7 @@ abbrev pub filled_up : ℕ → List ℕ → List ℕ
 filled_up d s = before_point s ++ (behind_point s ++ replicate (d - length (behind_point s)) 48)
 
 -- a number with up to d decimals, times 10^d: with 2 decimals 6.5 is 650, and 6 is 600
-unfoldable pub amount_of : ℕ → List ℕ → Whole
+unfoldable pub amount_of : ℕ → List ℕ → Option ℕ
 amount_of d s = goes_on_lem (places_fit d s) (number_from 0 (filled_up d s))
 
 -- ---- what it is to write a number, without reading it

@@ -1,14 +1,18 @@
 -- What a line asks, by the tests that the code makes one after the other.
 -- Assumes nothing.
-use Rattle.std.proofs.Common.{◌≡◌, ℕ, ◌<◌, ◌≤◌, List, length, sym, eq-eqb, ne_eqb, le-leb}
+use Rattle.std.proofs.Common.{◌≡◌, ℕ, ◌<◌, ◌≤◌, List, length, sym, ap, eq-eqb, ne_eqb, le-leb}
 use borrow.Author.Tests.{lt-leb}
+use Rattle.std.specs.Prelude.{Result, Ok, Err}
+use Rattle.std.specs.Result.{IsErrAnd}
 use Rattle.typed_words.specs.Words.{nth_word}
 use Rattle.slip.specs.declared.Ration.{Ration}
-use Rattle.whatif.specs.declared.Named.{Named}
-use Rattle.whatif.specs.declared.Asked.TheVariants.{Nothing, Estimate, Wrong}
-use Rattle.whatif.specs.Asked.{fault_of, ration_in, change_in, asked_of}
+use Rattle.slip.specs.declared.Change.{Change}
+use Rattle.whatif.specs.declared.Fault.{Fault}
+use Rattle.whatif.specs.declared.Fault.TheVariants.{TooLong}
+use Rattle.whatif.specs.declared.Asked.TheVariants.{Nothing, Wrong}
+use Rattle.whatif.specs.Asked.{words_read, estimate_of, asked_of}
 
-pub too_long : (line : List ℕ) → 1024 ≤ length line → Wrong 9 ≡ asked_of line
+pub too_long : (line : List ℕ) → 1024 ≤ length line → Wrong TooLong ≡ asked_of line
 unfolding asked_of
 too_long line h = sym (rw (le-leb 1024 (length line) h))
 
@@ -18,12 +22,12 @@ module _ (line : List ℕ) (short : length line < 1024) {w : List ℕ} (first : 
   unfolding asked_of
   no_word z = sym (rw (lt-leb 1024 (length line) short, ← first, eq-eqb (length w) 0 z))
 
-  module _ (some : length w ≡ 0 → ⊥) {f : ℕ} (fault : f ≡ fault_of line) where
-    pub wrong : (f ≡ 0 → ⊥) → Wrong f ≡ asked_of line
-    unfolding asked_of
-    wrong n = sym (rw (lt-leb 1024 (length line) short, ← first, ne_eqb (length w) 0 some, ← fault, ne_eqb f 0 n))
+  -- r is what its words say
+  pub estimate : (length w ≡ 0 → ⊥) → {r : Result (Ration × Change) Fault} → r ≡ words_read line → estimate_of r ≡ asked_of line
+  unfolding asked_of
+  estimate some e = sym (rw (lt-leb 1024 (length line) short, ← first, ne_eqb (length w) 0 some, ← e))
 
-    pub estimate : f ≡ 0 → {r : Ration} {n : Named} → r ≡ ration_in line → n ≡ change_in line → Estimate r n.change ≡ asked_of line
-    unfolding asked_of
-    estimate z a b =
-        sym (rw (lt-leb 1024 (length line) short, ne_eqb (length (nth_word 0 line)) 0 (rw first at some), ← fault, eq-eqb f 0 z, a, b))
+-- what the exit of a `?` returns
+pub faulted : {A : Type 0} {f : Fault} (r : Result A Fault) → IsErrAnd r (λ e. e ≡ f) → r ≡ Err f
+faulted (Ok x) a = absurd a
+faulted (Err e) a = ap (λ (x : Fault). Err x) a

@@ -8,10 +8,12 @@ use Rattle.names.specs.Names.{all_printed}
 use Rattle.typed_words.specs.Words.{leading_of, nth_word, nth_part, same_text_lem, lowered}
 use Rattle.slip.specs.Slip.{double}
 use Rattle.slip.specs.declared.Change.TheVariants.{Feed}
+use Rattle.std.specs.Prelude.{is_some}
+use Rattle.whatif.specs.declared.Fault.TheVariants.{NoNumber}
 use Rattle.whatif.specs.Asked.{change_named}
 use Rattle.whatif.specs.Told.{columns, ranges, wrong_number, fault_text, out_text}
 
-wrong-ge : fault_text 1 (ascii "3x 6.5 40 365 feed 1.1") ≡ ascii "GE: \"3x\" is no number; expected 1 to 1000 MJ"
+wrong-ge : fault_text (NoNumber 0) (ascii "3x 6.5 40 365 feed 1.1") ≡ ascii "GE: \"3x\" is no number; expected 1 to 1000 MJ"
 unfolding fault_text wrong_number columns ranges leading_of nth_word nth_part index_of index_after all_printed
 wrong-ge = refl
 
@@ -28,6 +30,6 @@ unfolding columns ranges leading_of nth_word nth_part index_of index_after round
 wrong-ym = refl
 
 -- capitals or not
-capitals : (x : Float) → (change_named (ascii "Feed") x ≡ change_named (ascii "feed") x) × ((change_named (ascii "YM") x).good ≡ true)
+capitals : (x : Float) → (change_named (ascii "Feed") x ≡ change_named (ascii "feed") x) × (is_some (change_named (ascii "YM") x) ≡ true)
 unfolding same_text_lem lowered
 capitals x = (refl, refl)

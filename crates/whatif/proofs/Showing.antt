@@ -1,12 +1,12 @@
 -- Laws of `shown` and `difference`: the ways to them.
-use Rattle.std.proofs.Common.{◌≡◌, ℕ, ◌+◌, ◌-◌, ◌*◌, ◌^◌, ◌<◌, ◌≤◌, true, false, ◌&&◌, T, List, [], ◌∷◌, ◌++◌, pos, arith, ltb→lt, lt→ltb, le-ltb, lt-ltb, eq-eqb, ne_eqb}
+use Rattle.std.proofs.Common.{◌≡◌, ℕ, ◌+◌, ◌-◌, ◌*◌, ◌^◌, ◌<◌, ◌≤◌, true, false, T, List, ◌∷◌, ◌++◌, pos, arith, ltb→lt, lt→ltb, le-ltb, lt-ltb, eq-eqb, ne_eqb}
 use lib.Ieee.{Float, nan, inf, fin, binary64, round, up, down, lt, to_unsigned}
 use lib.Ieee.Fits.{and_l, and_r, down_pos}
 use Rattle.printing.specs.Decimal.{thousandths, Put}
 use Rattle.printing.specs.Ascii.{ascii}
 use Rattle.slip.specs.declared.Slip.{Slip}
-use Rattle.whatif.specs.declared.Grams.{Grams}
-use Rattle.whatif.specs.Shown.{scaled, showable, grams_of, shown, spaced_shown, difference, compared}
+use Rattle.std.specs.Prelude.{Option, Some, None}
+use Rattle.whatif.specs.Shown.{scaled, showable, grams_of, grams_text, shown, spaced_shown, difference, compared}
 
 -- what is below 10^15 is below 2^64
 wider : (y : Float) → T (lt y (fin false 30517578125 (pos 15))) → T (lt y (fin false 1 (pos 64)))
@@ -26,33 +26,25 @@ module _ (x : Float) where
   unfolding round
   below e = wider (scaled x) (and_r (lt (fin true 1 (pos 0)) (scaled x)) (lt (scaled x) (round binary64 false 1000000000000000 1)) (rw e tt))
 
-  pub is-grams : (v : ℕ) → showable x ≡ true → v ≡ to_unsigned 64 (scaled x) → record { good = true; value = v } ≡ grams_of x
+  pub is-grams : (v : ℕ) → showable x ≡ true → v ≡ to_unsigned 64 (scaled x) → Some v ≡ grams_of x
   unfolding grams_of
   is-grams v e q = rw (e, q)
 
-  pub no-grams : showable x ≡ false → record { good = false; value = 0 } ≡ grams_of x
+  pub no-grams : showable x ≡ false → None ≡ grams_of x
   unfolding grams_of
   no-grams e = rw e
 
   -- g is x in thousandths
-  module _ {g : Grams} (is : g ≡ grams_of x) {xs zs : List ℕ} {at r : ℕ} where
-    pub put-number : g.good ≡ true → Put xs zs at (thousandths g.value) r → Put xs zs at (shown x) r
-    put-number e p = rw (← is, e) p
-
-    pub put-dash : g.good ≡ false → Put xs zs at (45 ∷ []) r → Put xs zs at (shown x) r
-    put-dash e p = rw (← is, e) p
+  pub put-grams : {g h : Option ℕ} {xs zs : List ℕ} {at r : ℕ} → g ≡ grams_of x → g ≡ h → Put xs zs at (grams_text h) r → Put xs zs at (shown x) r
+  put-grams is e p = rw (← is, e) p
 
 -- a and b are two numbers in thousandths
-module _ (x y : Float) {a b : Grams} (is_a : a ≡ grams_of x) (is_b : b ≡ grams_of y) {xs zs : List ℕ} {at r : ℕ} where
-  pub put-none : a.good && b.good ≡ false → Put xs zs at (45 ∷ []) r → Put xs zs at (difference x y) r
-  put-none e p = rw (← is_a, ← is_b, e) p
+module _ (x y : Float) {xs zs : List ℕ} {at r : ℕ} {a b : ℕ} (is_a : Some a ≡ grams_of x) (is_b : Some b ≡ grams_of y) where
+  pub put-less : a < b → Put xs zs at (45 ∷ thousandths (b - a)) r → Put xs zs at (difference x y) r
+  put-less h p = rw (← is_a, ← is_b, lt-ltb a b h) p
 
-  module _ (both : a.good && b.good ≡ true) where
-    pub put-less : a.value < b.value → Put xs zs at (45 ∷ thousandths (b.value - a.value)) r → Put xs zs at (difference x y) r
-    put-less h p = rw (← is_a, ← is_b, both, lt-ltb a.value b.value h) p
-
-    pub put-more : b.value ≤ a.value → Put xs zs at (thousandths (a.value - b.value)) r → Put xs zs at (difference x y) r
-    put-more h p = rw (← is_a, ← is_b, both, le-ltb a.value b.value h) p
+  pub put-more : b ≤ a → Put xs zs at (thousandths (a - b)) r → Put xs zs at (difference x y) r
+  put-more h p = rw (← is_a, ← is_b, le-ltb a b h) p
 
 -- a slip's code says whether there is a difference
 module _ (s : Slip) (before : Float) {xs zs : List ℕ} {at r : ℕ} where

@@ -5,7 +5,7 @@ use Rattle.std.specs.Float.Ieee.{round, add, mul, lt, to_unsigned}
 use Rattle.base.specs.Choice.{pick}
 use Rattle.printing.specs.Decimal.{decimal, thousandths}
 use Rattle.printing.specs.Ascii.{ascii}
-use Rattle.whatif.specs.declared.Grams.{Grams}
+use Rattle.std.specs.Prelude.{Option, Some, None}
 use Rattle.slip.specs.declared.Ration.{Ration}
 use Rattle.slip.specs.declared.Slip.{Slip}
 
@@ -18,12 +18,16 @@ abbrev pub showable : Float → Bool
 showable x = lt (fin true 1 (pos 0)) (scaled x) && lt (scaled x) (round binary64 false 1000000000000000 1)
 
 -- x in whole thousandths, to the nearest, where it can be shown
-unfoldable pub grams_of : Float → Grams
-grams_of x = pick (showable x) (record { good = true; value = to_unsigned 64 (scaled x) }) (record { good = false; value = 0 })
+unfoldable pub grams_of : Float → Option ℕ
+grams_of x = pick (showable x) (Some (to_unsigned 64 (scaled x))) None
+
+abbrev pub grams_text : Option ℕ → List ℕ
+grams_text None = ascii "-"
+grams_text (Some grams) = thousandths grams
 
 -- x with three decimals; a dash where it is not from 0 to 10^12, or no number
 abbrev pub shown : Float → List ℕ
-shown x = pick (grams_of x).good (thousandths (grams_of x).value) (ascii "-")
+shown x = grams_text (grams_of x)
 
 -- a space, and x
 abbrev pub spaced_shown : Float → List ℕ
@@ -37,10 +41,14 @@ ration_text r = spaced_shown r.ge ++ (spaced_shown r.ym ++ (spaced_shown r.head 
 abbrev pub signed : ℕ → ℕ → List ℕ
 signed a b = pick (nat_lt a b) (45 ∷ thousandths (b - a)) (thousandths (a - b))
 
+abbrev pub signed_text : Option ℕ → Option ℕ → List ℕ
+signed_text None b = ascii "-"
+signed_text (Some a) None = ascii "-"
+signed_text (Some a) (Some b) = signed a b
+
 -- after less before, from the two numbers as they are shown
 abbrev pub difference : Float → Float → List ℕ
-difference after before =
-    pick ((grams_of after).good && (grams_of before).good) (signed (grams_of after).value (grams_of before).value) (ascii "-")
+difference after before = signed_text (grams_of after) (grams_of before)
 
 -- the kg before the change, and the difference; a refused slip has dashes
 abbrev pub compared : Slip → Float → List ℕ

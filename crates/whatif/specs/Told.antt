@@ -1,5 +1,5 @@
 -- What people are told of a line of document 01's what-if slip that gives no estimate: what is wrong, the word, and what was expected.
-use Rattle.std.specs.Prelude.{ℕ, ◌-◌, Bool, true, false, ◌&&◌, List, [], ◌++◌, ◌==◌}
+use Rattle.std.specs.Prelude.{ℕ, Bool, true, false, ◌&&◌, List, [], ◌++◌, ◌==◌}
 use Rattle.base.specs.Choice.{pick, one_more_lem}
 use Rattle.printing.specs.Ascii.{ascii}
 use Rattle.printing.specs.Decimal.{decimal}
@@ -9,6 +9,9 @@ use Rattle.slip.specs.Slip.{ge_in_range, ym_in_range, head_in_range, days_in_ran
 use Rattle.slip.specs.declared.Change.{Change}
 use Rattle.slip.specs.declared.Change.TheVariants.{Feed, Ym, Head}
 use Rattle.slip.specs.declared.Ration.{Ration}
+use Rattle.std.specs.Prelude.{Option, Some, None}
+use Rattle.whatif.specs.declared.Fault.{Fault}
+use Rattle.whatif.specs.declared.Fault.TheVariants.{TooLong, TooFew, TooMany, NoNumber, NoChange}
 use Rattle.whatif.specs.declared.Asked.{Asked}
 use Rattle.whatif.specs.declared.Asked.TheVariants.{Nothing, Estimate, Wrong}
 use Rattle.whatif.specs.declared.Counts.{Counts}
@@ -30,8 +33,17 @@ number_row (Feed x) = 4
 number_row (Ym x) = 1
 number_row (Head x) = 4
 
+-- with no change it is a factor's
+abbrev pub row_named : Option Change → ℕ
+row_named None = 4
+row_named (Some change) = number_row change
+
 abbrev pub row_of : ℕ → Change → ℕ
 row_of place change = pick (place == 5) (number_row change) place
+
+-- of the word at a place in a line
+abbrev pub row_at : ℕ → List ℕ → ℕ
+row_at place line = pick (place == 5) (row_named (change_in line)) place
 
 abbrev pub expected : ℕ → List ℕ
 expected row = ascii "; expected" ++ nth_part 59 row ranges
@@ -47,20 +59,20 @@ no_number_lem place = pick (place == 3) (ascii " is no count of days") (ascii " 
 
 unfoldable pub wrong_number : ℕ → List ℕ → List ℕ
 wrong_number place line =
-    nth_word place columns ++ (ascii ": " ++ (quoted (nth_word place line) ++ (no_number_lem place ++ expected (row_of place (change_in line).change))))
+    nth_word place columns ++ (ascii ": " ++ (quoted (nth_word place line) ++ (no_number_lem place ++ expected (row_at place line))))
 
--- by the fault's number
-unfoldable pub fault_text : ℕ → List ℕ → List ℕ
-fault_text fault line =
-    pick (fault == 9) (ascii "the line is too long: at most 1023 bytes before its #")
-    (pick (fault == 8) (ascii "expected GE Ym head days CHANGE X")
-    (pick (fault == 7) (ascii "one word too many: " ++ quoted (nth_word 6 line))
-    (pick (fault == 5) (quoted (nth_word 4 line) ++ ascii " is no change; expected feed, ym or head") (wrong_number (fault - 1) line))))
+-- by the fault
+unfoldable pub fault_text : Fault → List ℕ → List ℕ
+fault_text TooLong line = ascii "the line is too long: at most 1023 bytes before its #"
+fault_text TooFew line = ascii "expected GE Ym head days CHANGE X"
+fault_text TooMany line = ascii "one word too many: " ++ quoted (nth_word 6 line)
+fault_text NoChange line = quoted (nth_word 4 line) ++ ascii " is no change; expected feed, ym or head"
+fault_text (NoNumber place) line = wrong_number place line
 
 abbrev pub line_start : ℕ → List ℕ
 line_start number = ascii "line " ++ decimal number
 
-abbrev pub unread_text : ℕ → ℕ → List ℕ → List ℕ
+abbrev pub unread_text : ℕ → Fault → List ℕ → List ℕ
 unread_text number fault line = line_start number ++ (ascii ": not read: " ++ (fault_text fault line ++ ascii "\n"))
 
 -- ---- a slip that is refused

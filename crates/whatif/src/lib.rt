@@ -6,19 +6,29 @@ mod telling;
 ghost use Rattle.std.specs.Prelude.{◌≡◌, ◌+◌, ◌≤◌, [], ◌∷◌, length};
 ghost use Rattle.printing.specs.Decimal.{decimal, Put};
 ghost use Rattle.typed_words.specs.Words.{nth_word};
-ghost use Rattle.typed_words.specs.Numbers.{decimal_of};
-ghost use Rattle.whatif.specs.Asked.{change_named, days_of, unless, ration_fault, change_fault, fault_of, ration_in, change_in, asked_of};
+ghost use Rattle.whatif.specs.Asked.{number_at, change_named, change_in, days_of, ration_read, change_read, words_read, fault_of, asked_of};
+ghost use Rattle.std.specs.Result.{result_err};
 ghost use Rattle.whatif.specs.Shown.{grams_of, shown, spaced_shown, ration_text, difference, compared, slip_line};
 
 use slip::{Change, Ration, Slip};
 pub use telling::{counted, say_answer, say_counts, say_remark, status};
+
+// What is wrong with a line; a word by its place, counted from 0.
+#[derive(Clone, Copy)]
+pub enum Fault {
+    TooLong,
+    TooFew,
+    TooMany,
+    NoNumber(usize),
+    NoChange,
+}
 
 // What a line asks: nothing where it has no word; where something is wrong, what.
 #[derive(Clone, Copy)]
 pub enum Asked {
     Nothing,
     Estimate(Ration, Change),
-    Wrong(usize),
+    Wrong(Fault),
 }
 
 // Lines so far that were answered, refused and not read.
@@ -29,118 +39,81 @@ pub struct Counts {
     pub unread: u64,
 }
 
-// A change by its name; with another name it is not good.
-#[derive(Clone, Copy)]
-struct Named {
-    good: bool,
-    change: Change,
-}
-
-// Thousandths; not good where there is no such number to show.
-#[derive(Clone, Copy)]
-struct Grams {
-    good: bool,
-    value: u64,
-}
-
-fn decimal_word(line: &[u8], n: usize) -> typed_words::Double
-    ensures { result ≡ decimal_of (nth_word n line.now) }
+// The word at a place as a number.
+fn number_at(line: &[u8], place: usize) -> Result<f64, Fault>
+    ensures { result ≡ number_at place line.now }
 {
-    typed_words::read_decimal(typed_words::word(line, n))
+    typed_words::read_decimal(typed_words::word(line, place)).ok_or(Fault::NoNumber(place))
 }
 
 // Whole days that a ration can carry.
-fn read_days(line: &[u8]) -> typed_words::Whole
-    ensures value { result ≡ days_of (nth_word 3 line.now) }
-    ensures value_bound { result.value ≤ 65535 }
+fn read_days(line: &[u8]) -> Option<u16>
+    ensures { result ≡ days_of (nth_word 3 line.now) }
 {
-    let days = typed_words::read_whole(typed_words::word(line, 3));
-    if days.value <= 65535 {
-        return days;
+    let days = typed_words::read_whole(typed_words::word(line, 3))?;
+    if 65535 < days {
+        return None;
     }
-    typed_words::Whole {
-        good: false,
-        value: 0,
-    }
+    Some(days as u16)
 }
 
-// Capitals or not.
-fn read_change(line: &[u8], x: f64) -> Named
-    ensures { result ≡ change_named (nth_word 4 line.now) x }
+// The change of this name, capitals or not, with its number.
+fn named_change(name: &[u8], x: f64) -> Option<Change>
+    ensures { result ≡ change_named name.now x }
 {
-    let name = typed_words::word(line, 4);
     if typed_words::is_name(name, b"feed") {
-        return Named {
-            good: true,
-            change: Change::Feed(x),
-        };
+        return Some(Change::Feed(x));
     }
     if typed_words::is_name(name, b"ym") {
-        return Named {
-            good: true,
-            change: Change::Ym(x),
-        };
+        return Some(Change::Ym(x));
     }
-    Named {
-        good: typed_words::is_name(name, b"head"),
-        change: Change::Head(x),
+    if typed_words::is_name(name, b"head") {
+        return Some(Change::Head(x));
     }
+    None
 }
 
-// The fault where a test fails, else the other.
-pub(crate) fn fault_unless(good: bool, fault: usize, other: usize) -> usize
-    ensures { result ≡ unless good fault other }
-{
-    if good { other } else { fault }
-}
-
-fn ration_fault(line: &[u8], other: usize) -> usize
-    ensures { result ≡ ration_fault line.now other }
-{
-    let days = fault_unless(read_days(line).good, 4, other);
-    let head = fault_unless(decimal_word(line, 2).good, 3, days);
-    let ym = fault_unless(decimal_word(line, 1).good, 2, head);
-    fault_unless(decimal_word(line, 0).good, 1, ym)
-}
-
-fn change_fault(line: &[u8]) -> usize
-    ensures { result ≡ change_fault line.now }
-{
-    let more = fault_unless(typed_words::word(line, 6).len() == 0, 7, 0);
-    let x = decimal_word(line, 5);
-    let named = read_change(line, x.value);
-    let number = fault_unless(x.good, 6, more);
-    fault_unless(named.good, 5, number)
-}
-
-// The first fault: 1 to 6 the word at that place, 7 a word too many, 8 too few, 0 none.
-fn line_fault(line: &[u8]) -> usize
-    ensures { result ≡ fault_of line.now }
-{
-    let other = ration_fault(line, change_fault(line));
-    fault_unless(0 < typed_words::word(line, 5).len(), 8, other)
-}
-
-fn ration_in(line: &[u8]) -> Ration
-    ensures { result ≡ ration_in line.now }
-{
-    let ge = decimal_word(line, 0);
-    let ym = decimal_word(line, 1);
-    let head = decimal_word(line, 2);
-    let days = read_days(line);
-    Ration {
-        ge: ge.value,
-        ym: ym.value,
-        head: head.value,
-        days: days.value as u16,
-    }
-}
-
-pub(crate) fn change_in(line: &[u8]) -> Named
+// The change that a line names; its number is 0 where that is none.
+pub(crate) fn change_in(line: &[u8]) -> Option<Change>
     ensures { result ≡ change_in line.now }
 {
-    let x = decimal_word(line, 5);
-    read_change(line, x.value)
+    let x = typed_words::read_decimal(typed_words::word(line, 5));
+    named_change(typed_words::word(line, 4), x.unwrap_or(0.0))
+}
+
+fn read_ration(line: &[u8]) -> Result<Ration, Fault>
+    ensures { result ≡ ration_read line.now }
+{
+    let ge = number_at(line, 0)?;
+    let ym = number_at(line, 1)?;
+    let head = number_at(line, 2)?;
+    let days = read_days(line).ok_or(Fault::NoNumber(3))?;
+    Ok(Ration { ge, ym, head, days })
+}
+
+// The change, its number, and no word behind.
+fn read_change(line: &[u8]) -> Result<Change, Fault>
+    ensures { result ≡ change_read line.now }
+{
+    let change = change_in(line).ok_or(Fault::NoChange)?;
+    let _x = number_at(line, 5)?;
+    if typed_words::word(line, 6).len() != 0 {
+        return Err(Fault::TooMany);
+    }
+    Ok(change)
+}
+
+// The six words of a line: the first fault from the left.
+fn read_words(line: &[u8]) -> Result<(Ration, Change), Fault>
+    ensures value { result ≡ words_read line.now }
+    ensures fault { result_err result ≡ fault_of line.now }
+{
+    if typed_words::word(line, 5).len() == 0 {
+        return Err(Fault::TooFew);
+    }
+    let ration = read_ration(line)?;
+    let change = read_change(line)?;
+    Ok((ration, change))
 }
 
 // GE Ym head days CHANGE X, on a line of at most 1,023 bytes.
@@ -148,36 +121,26 @@ pub fn read_line(line: &[u8]) -> Asked
     ensures { result ≡ asked_of line.now }
 {
     if 1024 <= line.len() {
-        return Asked::Wrong(9);
+        return Asked::Wrong(Fault::TooLong);
     }
     if typed_words::word(line, 0).len() == 0 {
         return Asked::Nothing;
     }
-    let fault = line_fault(line);
-    if fault != 0 {
-        return Asked::Wrong(fault);
+    match read_words(line) {
+        Ok((ration, change)) => Asked::Estimate(ration, change),
+        Err(fault) => Asked::Wrong(fault),
     }
-    let ration = ration_in(line);
-    let named = change_in(line);
-    let change = named.change;
-    Asked::Estimate(ration, change)
 }
 
 // Thousandths of x, to the nearest, where x can be shown.
-fn in_grams(x: f64) -> Grams
+fn in_grams(x: f64) -> Option<u64>
     ensures { result ≡ grams_of x }
 {
     let y = x * 1000.0 + 0.5;
     if (-1.0 < y) & (y < 1000000000000000.0) {
-        return Grams {
-            good: true,
-            value: std::num::truncating_f64_to_u64(y),
-        };
+        return Some(std::num::truncating_f64_to_u64(y));
     }
-    Grams {
-        good: false,
-        value: 0,
-    }
+    None
 }
 
 // Three decimals, or a dash.
@@ -186,11 +149,10 @@ fn put_shown(out: &mut [u8], at: usize, x: f64) -> usize
     ensures put { Put out.old out.new at (shown x) result }
     ensures upper_bound { result ≤ at + 24 }
 {
-    let g = in_grams(x);
-    if g.good {
-        return printing::put_thousandths(out, at, g.value);
+    match in_grams(x) {
+        Some(grams) => printing::put_thousandths(out, at, grams),
+        None => printing::put_byte(out, at, b'-'),
     }
-    printing::put_byte(out, at, b'-')
 }
 
 fn put_spaced_shown(out: &mut [u8], at: usize, x: f64) -> usize
@@ -220,16 +182,14 @@ fn put_difference(out: &mut [u8], at: usize, after: f64, before: f64) -> usize
     ensures put { Put out.old out.new at (difference after before) result }
     ensures upper_bound { result ≤ at + 25 }
 {
-    let a = in_grams(after);
-    let b = in_grams(before);
-    if !(a.good & b.good) {
+    let (Some(a), Some(b)) = (in_grams(after), in_grams(before)) else {
         return printing::put_byte(out, at, b'-');
-    }
-    if a.value < b.value {
+    };
+    if a < b {
         let minus = printing::put_byte(out, at, b'-');
-        return printing::put_thousandths(out, minus, b.value - a.value);
+        return printing::put_thousandths(out, minus, b - a);
     }
-    printing::put_thousandths(out, at, a.value - b.value)
+    printing::put_thousandths(out, at, a - b)
 }
 
 // The kg before the change and the difference; a refused slip has dashes.

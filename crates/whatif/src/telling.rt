@@ -3,11 +3,12 @@ ghost use Rattle.std.specs.Prelude.{◌≡◌, ◌-◌, ◌≤◌, length};
 ghost use Rattle.typed_words.specs.Words.{nth_word};
 ghost use Rattle.printing.specs.Said.{Said};
 ghost use Rattle.slip.specs.Slip.{within, what_if, double};
-ghost use Rattle.whatif.specs.Told.{columns, number_row, row_of, expected, quoted, no_number_lem, wrong_number, fault_text, line_start, unread_text};
+ghost use Rattle.whatif.specs.Asked.{unless};
+ghost use Rattle.whatif.specs.Told.{columns, number_row, row_at, row_of, expected, quoted, no_number_lem, wrong_number, fault_text, line_start, unread_text};
 ghost use Rattle.whatif.specs.Told.{out_of_ration, changed_place, out_place, changed_word, out_text, refused_text, refusal_text, slip_text};
 ghost use Rattle.whatif.specs.Told.{answer_text, remark_text, answered_by, with_slip, counted_of, counts_text, status_of};
 
-use crate::{Asked, Counts, change_in, fault_unless, put_slip, read_line};
+use crate::{Asked, Counts, Fault, change_in, put_slip, read_line};
 use base::first_of;
 use slip::{Change, Ration};
 
@@ -51,6 +52,19 @@ fn number_row(change: Change) -> usize
     }
 }
 
+// The row of the word at a place; X with no change has a factor's.
+fn row_at(line: &[u8], place: usize) -> usize
+    ensures { result ≡ row_at place line.now }
+{
+    if place != 5 {
+        return place;
+    }
+    match change_in(line) {
+        Some(change) => number_row(change),
+        None => 4,
+    }
+}
+
 fn row_of(place: usize, change: Change) -> usize
     ensures { result ≡ row_of place change }
 {
@@ -74,9 +88,7 @@ fn say_wrong_number(out: &mut [u8], at: usize, line: &[u8], place: usize) -> usi
     requires { at ≤ length out.old }
     ensures { Said out.old out.new at (wrong_number place line.now) result }
 {
-    let named = change_in(line);
-    let change = named.change;
-    let row = row_of(place, change);
+    let row = row_at(line, place);
     let name = say_column(out, at, place);
     let colon = printing::say(out, name, b": ");
     let word = say_quoted(out, colon, typed_words::word(line, place));
@@ -84,38 +96,27 @@ fn say_wrong_number(out: &mut [u8], at: usize, line: &[u8], place: usize) -> usi
     say_expected(out, none, row)
 }
 
-fn place_of(fault: usize) -> usize
-    ensures { result ≡ fault - 1 }
-{
-    if fault == 0 {
-        return 0;
-    }
-    fault - 1
-}
-
-fn say_fault(out: &mut [u8], at: usize, line: &[u8], fault: usize) -> usize
+fn say_fault(out: &mut [u8], at: usize, line: &[u8], fault: Fault) -> usize
     requires { at ≤ length out.old }
     ensures { Said out.old out.new at (fault_text fault line.now) result }
 {
-    if fault == 9 {
-        return printing::say(
+    match fault {
+        Fault::TooLong => printing::say(
             out,
             at,
             b"the line is too long: at most 1023 bytes before its #",
-        );
+        ),
+        Fault::TooFew => printing::say(out, at, b"expected GE Ym head days CHANGE X"),
+        Fault::TooMany => {
+            let end = printing::say(out, at, b"one word too many: ");
+            say_quoted(out, end, typed_words::word(line, 6))
+        }
+        Fault::NoChange => {
+            let end = say_quoted(out, at, typed_words::word(line, 4));
+            printing::say(out, end, b" is no change; expected feed, ym or head")
+        }
+        Fault::NoNumber(place) => say_wrong_number(out, at, line, place),
     }
-    if fault == 8 {
-        return printing::say(out, at, b"expected GE Ym head days CHANGE X");
-    }
-    if fault == 7 {
-        let end = printing::say(out, at, b"one word too many: ");
-        return say_quoted(out, end, typed_words::word(line, 6));
-    }
-    if fault == 5 {
-        let end = say_quoted(out, at, typed_words::word(line, 4));
-        return printing::say(out, end, b" is no change; expected feed, ym or head");
-    }
-    say_wrong_number(out, at, line, place_of(fault))
 }
 
 fn say_start(out: &mut [u8], at: usize, number: u64) -> usize
@@ -126,7 +127,7 @@ fn say_start(out: &mut [u8], at: usize, number: u64) -> usize
     printing::say_number(out, end, number)
 }
 
-fn say_unread(out: &mut [u8], at: usize, number: u64, line: &[u8], fault: usize) -> usize
+fn say_unread(out: &mut [u8], at: usize, number: u64, line: &[u8], fault: Fault) -> usize
     requires { at ≤ length out.old }
     ensures { Said out.old out.new at (unread_text number fault line.now) result }
 {
@@ -143,13 +144,20 @@ fn in_range(x: f64, lo: f64, hi: f64) -> bool
     (lo <= x) & (x <= hi)
 }
 
+// The place where a test fails, else the other.
+fn place_unless(good: bool, place: usize, other: usize) -> usize
+    ensures { result ≡ unless good place other }
+{
+    if good { other } else { place }
+}
+
 fn out_of_ration(r: Ration) -> usize
     ensures { result ≡ out_of_ration r }
 {
-    let days = fault_unless((1 <= r.days) & (r.days <= 366), 3, 5);
-    let head = fault_unless(in_range(r.head, 1.0, 20000.0), 2, days);
-    let ym = fault_unless(in_range(r.ym, 0.5, 20.0), 1, head);
-    fault_unless(in_range(r.ge, 1.0, 1000.0), 0, ym)
+    let days = place_unless((1 <= r.days) & (r.days <= 366), 3, 5);
+    let head = place_unless(in_range(r.head, 1.0, 20000.0), 2, days);
+    let ym = place_unless(in_range(r.ym, 0.5, 20.0), 1, head);
+    place_unless(in_range(r.ge, 1.0, 1000.0), 0, ym)
 }
 
 fn changed_place(change: Change) -> usize

@@ -7,16 +7,17 @@ use mathlib.Core.Bool.{Bool, true, false, ◌&&◌, not}
 use native.Mathlib.Omega.{arith}
 use native.Mathlib.Numerals.{add-one}
 use mathlib.Core.Logic.{⊎_elim}
-use borrow.Author.Tests.{eq-eqb, ne_eqb, lt-ltb, le-ltb, lt-leb, le-leb, eqb-true}
+use borrow.Author.Tests.{eq-eqb, ne_eqb, lt-ltb, le-ltb, lt-leb, le-leb}
 use lib.ListN.{length, set, replicate, length-append}
 use lib.Seq.{take_all, take-append-le, set_at, append_snoc}
 use lib.Dec.{eqb, ltb}
 use Rattle.base.specs.Choice.{pick}
-use Rattle.base.proofs.Tests.{by-test, lt-or-ge}
+use Rattle.base.proofs.Tests.{lt-or-ge}
 use Rattle.codec.specs.Table.{last_kind, last_row}
-use Rattle.typed_words.specs.declared.Whole.{Whole}
+use Rattle.std.specs.Prelude.{Option, Some, None}
+use Rattle.std.specs.Option.{option_or}
 use Rattle.typed_words.specs.Words.{nth_word, same_text_lem, lowered}
-use Rattle.typed_words.specs.Amounts.{a_whole, amount_of}
+use Rattle.typed_words.specs.Amounts.{amount_of}
 use Rattle.names.specs.Names.{kind_name, chosen, decimals_at}
 use Rattle.book.specs.declared.State.{State}
 use Rattle.make_record.specs.declared.Written.{Written}
@@ -51,11 +52,11 @@ named_none w k h = let z : last_kind - k ≡ 0 = omega arith in rw z
 -- ---- a kind by its name, or by its number
 
 module _ (w : List ℕ) {n : ℕ} (e : n ≡ named_from last_kind 0 (lowered w)) where
-  pub by_number : {x : Whole} → n ≡ 0 → x ≡ amount_of 0 w → x ≡ kind_of w
+  pub by_number : {x : Option ℕ} → n ≡ 0 → x ≡ amount_of 0 w → x ≡ kind_of w
   unfolding kind_of
   by_number z f = rw (← e, eq-eqb _ _ z) f
 
-  pub by_name : (n ≡ 0 → ⊥) → record { good = true; value = n } ≡ kind_of w
+  pub by_name : (n ≡ 0 → ⊥) → Some n ≡ kind_of w
   unfolding kind_of
   by_name h = rw (← e, ne_eqb _ _ h)
 
@@ -78,22 +79,21 @@ module _ (kind : ℕ) (line : List ℕ) where
 
 -- ---- a value
 
-pub chosen-value : (k : ℕ) → record { good = not (eqb k 0); value = k } ≡ by_choice k
-chosen-value k = by-test (eqb k 0) (λ t. rw (t, eqb-true k 0 t) refl) (λ f. rw f refl)
+pub choice-none : (k : ℕ) → k ≡ 0 → None ≡ by_choice k
+choice-none k e = rw (eq-eqb k 0 e)
+
+pub choice-some : (k : ℕ) → (k ≡ 0 → ⊥) → Some k ≡ by_choice k
+choice-some k h = rw (ne_eqb k 0 h)
 
 module _ (row i : ℕ) (w : List ℕ) where
-  pub not-read : has_field row i ≡ false → a_whole 0 ≡ value_at row i w
+  pub not-read : has_field row i ≡ false → Some 0 ≡ value_at row i w
   unfolding value_at
   not-read f = rw f refl
 
-  module _ (has : has_field row i ≡ true) {x : Whole} (n : x ≡ amount_of (decimals_at row i) w) where
-    pub number-value : x.good ≡ true → x ≡ value_at row i w
+  module _ (has : has_field row i ≡ true) {x : Option ℕ} (n : x ≡ amount_of (decimals_at row i) w) where
+    pub read-value : {y : Option ℕ} → y ≡ option_or x (by_choice (chosen row i w)) → y ≡ value_at row i w
     unfolding value_at
-    number-value g = rw (has, ← n, g) refl
-
-    pub choice-value : x.good ≡ false → {k : ℕ} → k ≡ chosen row i w → {y : Whole} → y ≡ by_choice k → y ≡ value_at row i w
-    unfolding value_at
-    choice-value g e f = rw (f, e, has, ← n, g) refl
+    read-value f = rw (f, has, ← n)
 
 -- ---- the values, one after the other
 
@@ -175,23 +175,22 @@ module _ {line : List ℕ} {kind : ℕ} {values : List ℕ} {n : ℕ} (r : Readi
     read-end z = read_up 0 (no_word z)
 
     -- x is what it reads as
-    module _ (some : length w ≡ 0 → ⊥) {x : Whole} (f : x ≡ value_at kind n w) where
+    module _ (some : length w ≡ 0 → ⊥) {x : Option ℕ} (f : x ≡ value_at kind n w) where
       -- it is no number
-      no_number : x.good ≡ false → values_from (512 - n) n kind line ≡ wrong_at (n + 2)
+      no_number : x ≡ None → values_from (512 - n) n kind line ≡ wrong_at (n + 2)
       unfolding values_from
       no_number b = let k : n + 2 ≡ suc (suc n) = omega arith in rw (k, more-values, word-is, ← f, ne_eqb _ _ some, b)
 
-      pub read-wrong : x.good ≡ false → record { values = values; count = n; wrong = n + 2 } ≡ listed (values_from 512 0 kind line)
+      pub read-wrong : x ≡ None → record { values = values; count = n; wrong = n + 2 } ≡ listed (values_from 512 0 kind line)
       read-wrong b = read_up (n + 2) (no_number b)
 
       -- it is one
-      a-number : x.good ≡ true → values_from (512 - n) n kind line ≡ with x.value (values_from (512 - (n + 1)) (n + 1) kind line)
+      a-number : {v : ℕ} → x ≡ Some v → values_from (512 - n) n kind line ≡ with v (values_from (512 - (n + 1)) (n + 1) kind line)
       unfolding values_from
       a-number b = rw (more-values, word-is, ← f, ne_eqb _ _ some, b, add-one)
 
-      read_one : {values' : List ℕ} → x.good ≡ true → values' ≡ stored_of values n x.value → Reading line kind values' (n + 1)
-      read_one b g =
-          let v = x.value in
+      read_one : {values' : List ℕ} {v : ℕ} → x ≡ Some v → values' ≡ stored_of values n v → Reading line kind values' (n + 1)
+      read_one {v = v} b g =
           record {
             so_far = r.so_far ++ (v ∷ []);
             long = omega (arith, length-append r.so_far (v ∷ []), r.long);
@@ -201,10 +200,10 @@ module _ {line : List ℕ} {kind : ℕ} {values : List ℕ} {n : ℕ} (r : Readi
           }
 
       -- the value has a place, or none
-      pub read-in : x.good ≡ true → n < 13 → {values' : List ℕ} → values' ≡ set values n x.value → Reading line kind values' (n + 1)
+      pub read-in : {v : ℕ} → x ≡ Some v → n < 13 → {values' : List ℕ} → values' ≡ set values n v → Reading line kind values' (n + 1)
       read-in b l g = read_one b (g ∙ rw (lt-ltb _ _ l))
 
-      pub read_past : x.good ≡ true → 13 ≤ n → {values' : List ℕ} → values' ≡ values → Reading line kind values' (n + 1)
+      pub read_past : {v : ℕ} → x ≡ Some v → 13 ≤ n → {values' : List ℕ} → values' ≡ values → Reading line kind values' (n + 1)
       read_past b l g = read_one b (g ∙ rw (le-ltb _ _ l))
 
 -- ---- the line
@@ -220,27 +219,27 @@ module _ (text : List ℕ) where
     unfolding line_said
     says_nothing z = sym (rw (lt-leb _ _ short, ← e, eq-eqb _ _ z))
 
-    module _ (some : length w ≡ 0 → ⊥) {kind : Whole} (k : kind ≡ kind_of w) where
+    module _ (some : length w ≡ 0 → ⊥) {kind : Option ℕ} (k : kind ≡ kind_of w) where
       by-kind : line_said text ≡ by_kind kind text
       unfolding line_said
       by-kind = rw (lt-leb _ _ short, ← e, ne_eqb _ _ some, ← k)
 
-      pub wrong-kind : kind.good ≡ false → no_record (Wrong 0 1) ≡ line_said text
+      pub wrong-kind : kind ≡ None → no_record (Wrong 0 1) ≡ line_said text
       wrong-kind b = sym (by-kind ∙ rw b)
 
-      module _ (good : kind.good ≡ true) {v : Values} {row : ℕ} (l : row ≡ row_of_line kind.value text)
+      module _ {number : ℕ} (good : kind ≡ Some number) {v : Values} {row : ℕ} (l : row ≡ row_of_line number text)
           (f : v ≡ listed (values_from 512 0 row text)) where
-        read-so : v ≡ listed (values_from 512 0 (row_of_line kind.value text) text)
+        read-so : v ≡ listed (values_from 512 0 (row_of_line number text) text)
         read-so = rw l at f
 
-        wrong-is : v.wrong ≡ (values_from 512 0 (row_of_line kind.value text) text).wrong
+        wrong-is : v.wrong ≡ (values_from 512 0 (row_of_line number text) text).wrong
         wrong-is = ap (λ (x : Values). x.wrong) read-so
 
-        pub wrong-value : (v.wrong ≡ 0 → ⊥) → no_record (Wrong kind.value v.wrong) ≡ line_said text
+        pub wrong-value : (v.wrong ≡ 0 → ⊥) → no_record (Wrong number v.wrong) ≡ line_said text
         wrong-value n = sym (by-kind ∙ rw (good, ← wrong-is, ne_eqb _ _ n))
 
         pub says-record : v.wrong ≡ 0
-            → record { said = Record; entry = record { kind = kind.value; values = v.values; count = v.count } } ≡ line_said text
+            → record { said = Record; entry = record { kind = number; values = v.values; count = v.count } } ≡ line_said text
         says-record z = sym (by-kind ∙ rw (good, ← wrong-is, eq-eqb _ _ z, read-so))
 
 -- ---- an entry, completed and written

@@ -1,12 +1,12 @@
 -- Document 02, W1: "Advisers now type a book into one program". One record a line: the kind's name or number, then its values in the order of
 -- document 01 with blanks between; a line with no word says nothing. What stands behind a # is gone before a line comes here.
-use Rattle.std.specs.Prelude.{ℕ, zero, suc, ◌-◌, Bool, true, ◌&&◌, not, List, [], ◌∷◌, ◌++◌, length, take, replicate, eqb, leb, ltb}
+use Rattle.std.specs.Prelude.{ℕ, zero, suc, ◌-◌, Bool, ◌&&◌, not, List, [], ◌∷◌, ◌++◌, length, take, replicate, eqb, leb, ltb}
 use Rattle.base.specs.Choice.{pick}
 use Rattle.codec.specs.Table.{fields, last_kind, last_row}
-use Rattle.typed_words.specs.declared.Whole.{Whole}
+use Rattle.std.specs.Prelude.{Option, Some, None}
+use Rattle.std.specs.Option.{option_or}
 use Rattle.typed_words.specs.Words.{nth_word, same_text_lem, lowered}
-use Rattle.typed_words.specs.Numbers.{no_whole}
-use Rattle.typed_words.specs.Amounts.{a_whole, amount_of}
+use Rattle.typed_words.specs.Amounts.{amount_of}
 use Rattle.names.specs.Names.{kind_name, chosen, decimals_at}
 use Rattle.book.specs.declared.State.{State}
 use Rattle.make_record.specs.Write.{Write, write}
@@ -24,8 +24,8 @@ named_from zero k w = 0
 named_from (suc n) k w = pick (same_text_lem w (kind_name (suc k))) (suc k) (named_from n (suc k) w)
 
 -- a kind by its name, in capitals or not, or else by a whole number
-unfoldable pub kind_of : List ℕ → Whole
-kind_of w = pick (eqb (named_from last_kind 0 (lowered w)) 0) (amount_of 0 w) (record { good = true; value = named_from last_kind 0 (lowered w) })
+unfoldable pub kind_of : List ℕ → Option ℕ
+kind_of w = pick (eqb (named_from last_kind 0 (lowered w)) 0) (amount_of 0 w) (Some (named_from last_kind 0 (lowered w)))
 
 -- ---- the row of the table
 
@@ -59,24 +59,25 @@ abbrev pub has_field : ℕ → ℕ → Bool
 has_field row i = ltb i (length (fields row))
 
 -- the number k of a choice; 0 is none
-abbrev pub by_choice : ℕ → Whole
-by_choice k = pick (eqb k 0) no_whole (a_whole k)
+abbrev pub by_choice : ℕ → Option ℕ
+by_choice k = pick (eqb k 0) None (Some k)
 
 -- a word as the value of a row's field i: a number in the unit that people say, or the word of a choice. A word after the last field is counted
 -- and not read
-unfoldable pub value_at : ℕ → ℕ → List ℕ → Whole
-value_at row i word =
-    pick (has_field row i) (pick (amount_of (decimals_at row i) word).good (amount_of (decimals_at row i) word) (by_choice (chosen row i word)))
-    (a_whole 0)
+unfoldable pub value_at : ℕ → ℕ → List ℕ → Option ℕ
+value_at row i word = pick (has_field row i) (option_or (amount_of (decimals_at row i) word) (by_choice (chosen row i word))) (Some 0)
+
+-- the value before those that r reads, or the place where there is none
+abbrev pub with_value : Option ℕ → ℕ → Read → Read
+with_value None place r = wrong_at place
+with_value (Some v) place r = with v r
 
 -- at most n values of a row, from field i on: the words behind the kind's
 unfoldable pub values_from : ℕ → ℕ → ℕ → List ℕ → Read
 values_from zero i row line = nothing_more
 values_from (suc n) i row line =
     pick (eqb (length (nth_word (suc i) line)) 0) nothing_more
-    (pick (value_at row i (nth_word (suc i) line)).good
-    (with (value_at row i (nth_word (suc i) line)).value (values_from n (suc i) row line))
-    (wrong_at (suc (suc i))))
+    (with_value (value_at row i (nth_word (suc i) line)) (suc (suc i)) (values_from n (suc i) row line))
 
 -- the first 13, zeros behind
 abbrev pub padded : List ℕ → List ℕ
@@ -97,8 +98,9 @@ no_record said = record { said = said; entry = entry 0 [] }
 abbrev pub by_values_lem : ℕ → Read → Line
 by_values_lem kind r = pick (eqb r.wrong 0) (record { said = Record; entry = entry kind r.values }) (no_record (Wrong kind r.wrong))
 
-abbrev pub by_kind : Whole → List ℕ → Line
-by_kind kind text = pick kind.good (by_values_lem kind.value (values_from 512 0 (row_of_line kind.value text) text)) (no_record (Wrong 0 1))
+abbrev pub by_kind : Option ℕ → List ℕ → Line
+by_kind None text = no_record (Wrong 0 1)
+by_kind (Some kind) text = by_values_lem kind (values_from 512 0 (row_of_line kind text) text)
 
 -- what a line says that has no comment: a line of 1,024 bytes or more is not read; the others have no more than 512 words
 unfoldable pub line_said : List ℕ → Line

@@ -1,6 +1,6 @@
 -- What the person who types is told: a remark on each line that failed or was withheld, values that are unusual, a group where it ends, and the
 -- verdict.
-use Rattle.std.specs.Prelude.{ℕ, ◌+◌, ◌-◌, ◌*◌, min, Bool, true, false, ◌&&◌, ◌||◌, not, List, [], ◌++◌, length, get_or, drop, eqb, leb}
+use Rattle.std.specs.Prelude.{ℕ, ◌+◌, ◌-◌, ◌*◌, min, Bool, true, false, ◌&&◌, ◌||◌, not, List, [], ◌++◌, length, get_or, drop, eqb, leb, is_some}
 use Rattle.base.specs.Choice.{pick}
 use Rattle.base.specs.Bytes.{index_of}
 use Rattle.printing.specs.Ascii.{ascii}
@@ -44,7 +44,7 @@ expected_text k i = pick (has_field k i) (ascii "; expected" ++ expected k i) []
 
 -- a number, however many decimals it has
 abbrev pub is_number : List ℕ → Bool
-is_number w = (amount_of (length w) w).good
+is_number w = is_some (amount_of (length w) w)
 
 -- what stands after the first comma
 abbrev pub after_comma : List ℕ → List ℕ
@@ -52,7 +52,7 @@ after_comma w = drop (index_of 44 w + 1) w
 
 -- a comma stands where the point should: digits, a comma, and at most d digits
 unfoldable pub has_comma : ℕ → List ℕ → Bool
-has_comma d w = ((amount_of 0 (nth_part 44 0 w)).good && (amount_of 0 (after_comma w)).good) && leb (length (after_comma w)) d
+has_comma d w = (is_some (amount_of 0 (nth_part 44 0 w)) && is_some (amount_of 0 (after_comma w))) && leb (length (after_comma w)) d
 
 -- what a word w for field i is not: 27.9 is a number, but none for a field without decimals
 unfoldable pub none_text : ℕ → ℕ → List ℕ → List ℕ

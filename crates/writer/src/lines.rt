@@ -1,5 +1,5 @@
 // What is told of a line that is not read or refused.
-ghost use Rattle.std.specs.Prelude.{◌≡◌, ◌++◌, ◌-◌, ◌≤◌, eqb, length};
+ghost use Rattle.std.specs.Prelude.{◌≡◌, ◌++◌, ◌-◌, ◌≤◌, eqb, length, is_some};
 ghost use Rattle.base.specs.Choice.{pick};
 ghost use Rattle.printing.specs.Ascii.{ascii};
 ghost use Rattle.printing.specs.Said.{Said};
@@ -71,22 +71,20 @@ fn say_expected(out: &mut [u8], at: usize, row: u64, i: usize) -> usize
 fn is_number(word: &[u8]) -> bool
     ensures { result ≡ is_number word.now }
 {
-    let w = typed_words::read_amount(word, word.len());
-    w.good
+    typed_words::read_amount(word, word.len()).is_some()
 }
 
 fn is_whole(word: &[u8]) -> bool
-    ensures { result ≡ (amount_of 0 word.now).good }
+    ensures { result ≡ is_some (amount_of 0 word.now) }
 {
-    let w = typed_words::read_amount(word, 0);
-    w.good
+    typed_words::read_amount(word, 0).is_some()
 }
 
 // What stands after the first comma.
 fn after_comma(word: &[u8]) -> &[u8]
     ensures { result.now ≡ after_comma word.now }
 {
-    let p = typed_words::index_of(word, b',');
+    let p = base::find(word, b',');
     if p == word.len() {
         return base::rest_of(word, p);
     }

@@ -9,7 +9,6 @@ ghost use Rattle.writer.specs.Line.{completed_of, write_entry};
 use book::State;
 use codec::kinds::{CLOSE, FARM};
 use make_record::Written;
-use typed_words::Whole;
 
 // How many values are typed and the first 13 of them, zeros behind; the place of a word that is no number, counted from 1, or 0.
 #[derive(Clone, Copy)]
@@ -57,17 +56,14 @@ fn named(word: &[u8]) -> u64
     0
 }
 
-fn read_kind(word: &[u8]) -> Whole
+fn read_kind(word: &[u8]) -> Option<u64>
     ensures { result ≡ kind_of word.now }
 {
     let number = named(word);
     if number == 0 {
         return typed_words::read_amount(word, 0);
     }
-    Whole {
-        good: true,
-        value: number,
-    }
+    Some(number)
 }
 
 // The row of the table that a line of the kind is read by.
@@ -92,30 +88,24 @@ pub fn has_field(row: u64, i: usize) -> bool
 }
 
 // The number of a choice; 0 is none.
-fn by_choice(k: u64) -> Whole
+fn by_choice(k: u64) -> Option<u64>
     ensures { result ≡ by_choice k }
 {
-    Whole {
-        good: k != 0,
-        value: k,
+    if k == 0 {
+        return None;
     }
+    Some(k)
 }
 
 // A word as the value of field i; one after the last field is not read.
-fn read_value(word: &[u8], row: u64, i: usize) -> Whole
+fn read_value(word: &[u8], row: u64, i: usize) -> Option<u64>
     ensures { result ≡ value_at row i word.now }
 {
     if !has_field(row, i) {
-        return Whole {
-            good: true,
-            value: 0,
-        };
+        return Some(0);
     }
     let number = typed_words::read_amount(word, names::decimals(row, i));
-    if number.good {
-        return number;
-    }
-    by_choice(names::choice(word, row, i))
+    number.or_else(|| by_choice(names::choice(word, row, i)))
 }
 
 // The words behind the kind, as numbers: a line has no more than 512 words.
@@ -133,16 +123,15 @@ fn read_values(line: &[u8], row: u64) -> Values
                 wrong: 0,
             };
         }
-        let number = read_value(word, row, count);
-        if !number.good {
+        let Some(number) = read_value(word, row, count) else {
             return Values {
                 values: values,
                 count: count,
                 wrong: count + 2,
             };
-        }
+        };
         if count < 13 {
-            values[count] = number.value;
+            values[count] = number;
         }
         count += 1;
     }
@@ -178,20 +167,19 @@ pub fn read_line(text: &[u8]) -> Line
     if first.len() == 0 {
         return without(Said::Nothing);
     }
-    let kind = read_kind(first);
-    if !kind.good {
+    let Some(kind) = read_kind(first) else {
         return without(Said::Wrong(0, 1));
-    }
-    let row = row_of_line(kind.value, text);
+    };
+    let row = row_of_line(kind, text);
     let v = read_values(text, row);
     if v.wrong != 0 {
-        return without(Said::Wrong(kind.value, v.wrong));
+        return without(Said::Wrong(kind, v.wrong));
     }
     let values = v.values;
     Line {
         said: Said::Record,
         entry: Entry {
-            kind: kind.value,
+            kind,
             values: values,
             count: v.count,
         },

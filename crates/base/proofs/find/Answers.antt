@@ -1,15 +1,15 @@
-use native.Mathlib.Omega.{arith}
-use Rattle.base.proofs.Bytes.{index-here, index-on, index-none}
+use Rattle.std.proofs.Common.{◌≡◌, ◌∙◌, sym}
+use Rattle.std.proofs.lemmas.Iterator.{IsFirst-from_position, YieldsList-from_slice, index_from_first}
+use borrow.Author.Rules.{rules}
+use borrow.Author.Tests.{tests}
+use Rattle.base.specs.Bytes.{index_of}
+use Rattle.base.proofs.Bytes.{index-end, index-first, index-next}
 use Rattle.base.proofs.find.Goals as goal
 
-pub returns-then-s-i-clause-value : goal.returns-then-s-i-clause-value
-returns-then-s-i-clause-value c = omega (arith, index-here c.args.b c.args.s.now c.loop-i.i c.loop-i-test.true c.if-s-i.true)
-
-pub loop-i-preserved : goal.loop-i-preserved
-loop-i-preserved c = record {
-  within = omega arith;
-  so_far = omega (arith, index-on c.args.b c.args.s.now c.loop-i.i c.loop-i-test.true c.if-s-i.false);
-}
-
 pub returns-clause-value : goal.returns-clause-value
-returns-clause-value c = omega (arith, index-none c.args.b c.args.s.now c.loop-i.i c.loop-i-test.false)
+returns-clause-value c =
+    let b = c.args.b in
+    let first = IsFirst-from_position _ _ _ (λ x. x ≡ b) (λ x. x ≡ b → ⊥) c.position.ensures.ran
+    (YieldsList-from_slice c.args.s.now (search rules)) (λ x q k. search (rules, tests)) (λ x q k. search (rules, tests)) in
+    c.unwrap_or.ensures
+    ∙ sym (index_from_first (index_of b) (λ x. x ≡ b) (λ x. x ≡ b → ⊥) (index-end b) (index-first b) (index-next b) c.args.s.now _ first)

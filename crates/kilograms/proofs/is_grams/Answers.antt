@@ -4,4 +4,4 @@ use Rattle.kilograms.proofs.is_grams.Goals as goal
 
 pub returns : goal.returns
 unfolding is_grams
-returns c = rw (c.read_amount-amount.ensures, c.digits_in-digits.ensures)
+returns c = rw (c.is_some.ensures, c.read_amount.ensures, c.digits_in-digits.ensures)

@@ -14,8 +14,6 @@ loop-k-preserved c =
     let first = drop-cons c.args.values.now turn.k 0 c.loop-k-test.true in
     record {
       same = search rules;
-      from = search rules;
-      to = search rules;
       room = search rules;
       small = search rules;
       rest = λ zs q p. turn.invariant.rest zs q (rw first (and-then c.put_next-end.ensures.put (rw add-one at p)));
@@ -29,4 +27,4 @@ returns c =
     record { put = turn.invariant.rest turn.out turn.end (rw done (none turn.out turn.end (search rules))); result_bound = search rules }
 
 pub loop-k-init : goal.loop-k-init
-loop-k-init c = record { same = search rules; from = search rules; to = search rules; room = search rules; small = search rules; rest = λ zs q p. p }
+loop-k-init c = record { same = search rules; room = search rules; small = search rules; rest = λ zs q p. p }

@@ -6,28 +6,26 @@ use Rattle.printing.specs.Decimal.{spaced}
 use Rattle.printing.proofs.Puts.{none, and-then, put-length}
 use Rattle.printing.proofs.put_rest.Goals as goal
 
-pub loop-k-init : goal.loop-k-init
-loop-k-init c =
-    record { same = omega arith; from = omega arith; to = omega arith; room = omega arith; small = omega arith; rest = λ zs q p. p }
+pub loop-v-init : goal.loop-v-init
+loop-v-init c = record { same = omega arith; room = omega arith; small = omega arith; rest = λ zs q p. p }
 
-pub loop-k-preserved : goal.loop-k-preserved
+pub loop-v-preserved : goal.loop-v-preserved
 unfolding spaced
-loop-k-preserved c =
+loop-v-preserved c =
     let put = c.put_spaced-end.ensures in
-    let turn = c.loop-k in
+    let turn = c.loop-v in
     let keeps = put-length put.put in
     record {
       same = omega arith;
-      from = omega arith;
-      to = omega arith;
       room = omega arith;
       small = omega arith;
-      rest = λ zs q p. turn.invariant.rest zs q (rw (drop-cons c.args.values.now turn.k 0 c.loop-k-test.true) (and-then put.put (rw add-one at p)));
+      rest = λ zs q p. turn.invariant.rest zs q (rw (drop-cons c.args.values.now turn.v-index 0 c.loop-v-test.true)
+      (and-then put.put (rw add-one at p)));
     }
 
 pub returns : goal.returns
 unfolding spaced
 returns c =
-    let turn = c.loop-k in
-    let done = drop_of_length-le c.args.values.now c.loop-k-test.false in
-    record { put = turn.invariant.rest turn.out turn.end (rw done (none turn.out turn.end (omega arith))); i_bound = omega arith }
+    let turn = c.loop-v in
+    let done = drop_of_length-le c.args.values.now c.loop-v-test.false in
+    record { put = turn.invariant.rest turn.out turn.end (rw done (none turn.out turn.end (omega arith))); upper_bound = omega arith }

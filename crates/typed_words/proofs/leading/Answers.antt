@@ -1,30 +1,17 @@
-use mathlib.Core.Path.{◌≡◌, ◌∙◌}
-use native.Mathlib.Omega.{arith}
-use lib.ListN.{drop}
-use Rattle.typed_words.specs.Words.{leading_of}
-use Rattle.typed_words.proofs.Blanks.{goes_on, ends, at-end}
+use mathlib.Core.Path.{◌≡◌, sym, ◌∙◌}
+use mathlib.Core.Bool.{true, false, beq}
 use borrow.Author.Rules.{rules}
+use borrow.Author.Tests.{tests}
+use Rattle.std.proofs.lemmas.Iterator.{IsFirst-from_position, YieldsList-from_slice, index_from_first}
+use Rattle.typed_words.specs.Words.{is_blank, leading_of}
+use Rattle.typed_words.proofs.Blanks.{leading-none, leading-ends, leading-goes-on}
 use Rattle.typed_words.proofs.leading.Goals as goal
 
-pub returns-then-is_blank-blanks : goal.returns-then-is_blank-blanks
-returns-then-is_blank-blanks c = let turn = c.loop-i in
-    let args = c.args in
-    let test = c.is_blank in
-    let e : leading_of args.blanks (drop turn.i args.s.now) ≡ 0 =
-    ends args.blanks args.s.now turn.i c.loop-i-test.true test.result test.ensures c.if-is_blank-blanks.true in record { value = omega arith; upper_bound = search rules }
-
-pub loop-i-preserved : goal.loop-i-preserved
-loop-i-preserved c = let turn = c.loop-i in
-    let args = c.args in
-    let test = c.is_blank in (
-      search rules,
-      turn.invariant.1
-          ∙ goes_on args.blanks args.s.now turn.i c.loop-i-test.true test.result test.ensures
-          c.if-is_blank-blanks.false,
-    )
-
-pub returns : goal.returns
-returns c =
-    let turn = c.loop-i in
-    let e : leading_of c.args.blanks (drop turn.i c.args.s.now) ≡ 0 = at-end c.args.blanks c.args.s.now turn.i c.loop-i-test.false in
-    record { value = omega arith; upper_bound = search rules }
+pub returns-clause-value : goal.returns-clause-value
+returns-clause-value c =
+    let blanks = c.args.blanks in
+    let first = IsFirst-from_position _ _ _ (λ x. beq (is_blank x) blanks ≡ false) (λ x. beq (is_blank x) blanks ≡ true) c.position.ensures.ran
+    (YieldsList-from_slice c.args.s.now (search rules)) (λ x q k. search (rules, tests)) (λ x q k. search (rules, tests)) in
+    c.unwrap_or.ensures
+    ∙ sym (index_from_first (leading_of blanks) (λ x. beq (is_blank x) blanks ≡ false) (λ x. beq (is_blank x) blanks ≡ true) (leading-none blanks)
+    (leading-ends blanks) (leading-goes-on blanks) c.args.s.now _ first)

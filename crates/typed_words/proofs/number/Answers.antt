@@ -1,24 +1,21 @@
-use mathlib.Core.Path.{sym, ◌∙◌}
 use native.Mathlib.Omega.{arith}
-use Rattle.typed_words.proofs.Amounts.{low, goes_on, breaks-off, at-end}
-use borrow.Author.Rules.{rules}
+use mathlib.Core.Path.{sym, ◌∙◌}
+use Rattle.typed_words.proofs.Amounts.{goes_on, breaks-off, at-end}
 use Rattle.typed_words.proofs.number.Goals as goal
 
-pub returns-then-not-is_digit : goal.returns-then-not-is_digit
-returns-then-not-is_digit c = let turn = c.loop-i in
-    let s = c.args.s.now in
-    let test = c.is_digit in
-    let here = breaks-off turn.v s turn.i c.loop-i-test.true test.result test.ensures in record { value = sym (turn.invariant.2 ∙ here c.if-not-is_digit.true); value_bound = search rules }
+pub returns-then-not-is_ascii_digit-clause-value : goal.returns-then-not-is_ascii_digit-clause-value
+returns-then-not-is_ascii_digit-clause-value c =
+    let turn = c.loop-b in
+    sym (turn.invariant.so_far
+    ∙ breaks-off turn.v c.args.s.now turn.b-index c.loop-b-test.true c.is_ascii_digit.result c.is_ascii_digit.ensures.value
+    c.if-not-is_ascii_digit.true)
 
-pub loop-i-preserved : goal.loop-i-preserved
-loop-i-preserved c = let turn = c.loop-i in
-    let s = c.args.s.now in
-    let test = c.is_digit in
-    let here = goes_on turn.v s turn.i c.loop-i-test.true test.result test.ensures in
-    (search rules, omega (arith, c.with_digit-v.ensures), rw c.with_digit-v.ensures (turn.invariant.2 ∙ here c.if-not-is_digit.false))
+pub loop-b-preserved : goal.loop-b-preserved
+loop-b-preserved c =
+    let turn = c.loop-b in
+    let on = goes_on turn.v c.args.s.now turn.b-index c.loop-b-test.true c.is_ascii_digit.result c.is_ascii_digit.ensures.value
+    c.if-not-is_ascii_digit.false in
+    record { most = omega (arith, c.with_digit-v.ensures); so_far = rw c.with_digit-v.ensures (turn.invariant.so_far ∙ on) }
 
-pub returns : goal.returns
-returns c = let turn = c.loop-i in record { value = sym (turn.invariant.2 ∙ at-end turn.v c.args.s.now turn.i c.loop-i-test.false); value_bound = search rules }
-
-pub with_digit-v-requires : goal.with_digit-v-requires
-with_digit-v-requires c = record { v_bound = search rules; le_b = low _ c.is_digit.result c.is_digit.ensures c.if-not-is_digit.false }
+pub returns-clause-value : goal.returns-clause-value
+returns-clause-value c = let turn = c.loop-b in sym (turn.invariant.so_far ∙ at-end turn.v c.args.s.now turn.b-index c.loop-b-test.false)

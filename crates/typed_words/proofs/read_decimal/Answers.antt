@@ -1,27 +1,24 @@
-use lib.Ieee.{of_bits}
-use Rattle.typed_words.proofs.Decimals.{few-places, is-decimal, is_none}
-use borrow.Author.Rules.{rules}
+use mathlib.Core.Path.{refl, sym, ◌∙◌}
+use Rattle.typed_words.proofs.Amounts.{decimal-parts}
 use Rattle.typed_words.proofs.read_decimal.Goals as goal
 
-pub nearest-requires : goal.nearest-requires
-nearest-requires c = let parts = c in
-    let whole = parts.digits-whole.result in record {
-      n_bound = search rules;
-      k_bound = few-places parts.find-p.result whole parts.digits-all.result parts.behind_point-fraction.result.now
-          c.if-p-whole.true;
-    }
+pub returns-then-not-is_decimal : goal.returns-then-not-is_decimal
+returns-then-not-is_decimal c =
+    sym (decimal-parts 0 c.args.s.now c.find-p.ensures.value refl c.behind_point-fraction.ensures ∙ rw c.if-not-is_decimal.true)
 
-pub returns-then-p-whole : goal.returns-then-p-whole
-returns-then-p-whole c = let parts = c in
-    let front = parts in
-    is-decimal front.args.s.now front.find-p.ensures.value front.first_of.ensures
-    parts.digits-whole.ensures.value
-    parts.behind_point-fraction.ensures parts.digits-all.ensures.value c.nearest.result c.if-p-whole.true c.nearest.ensures
+pub returns-in_err-whole : goal.returns-in_err-whole
+returns-in_err-whole c =
+    c.from_residual.ensures
+    ∙ sym (decimal-parts 0 c.args.s.now c.find-p.ensures.value c.first_of.ensures c.behind_point-fraction.ensures
+    ∙ rw (c.if-not-is_decimal.false, ← c.digits.ensures.value, c.in_err-whole.was))
+
+pub returns-in_err-all : goal.returns-in_err-all
+returns-in_err-all c =
+    c.from_residual-in_err-all.ensures
+    ∙ sym (decimal-parts 0 c.args.s.now c.find-p.ensures.value c.first_of.ensures c.behind_point-fraction.ensures
+    ∙ rw (c.if-not-is_decimal.false, ← c.digits.ensures.value, c.in_ok-whole.was, ← c.digits-2.ensures.value, c.in_err-all.was))
 
 pub returns : goal.returns
-unfolding of_bits
-returns c = let parts = c in
-    let front = parts in
-    is_none front.args.s.now front.find-p.ensures.value front.first_of.ensures
-    parts.digits-whole.ensures.value
-    parts.behind_point-fraction.ensures parts.digits-all.ensures.value c.if-p-whole.false
+returns c =
+    sym (decimal-parts 0 c.args.s.now c.find-p.ensures.value c.first_of.ensures c.behind_point-fraction.ensures
+    ∙ rw (c.if-not-is_decimal.false, ← c.digits.ensures.value, c.in_ok-whole.was, ← c.digits-2.ensures.value, c.in_ok-all.was, ← c.nearest.ensures))

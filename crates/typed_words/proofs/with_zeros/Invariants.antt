@@ -6,7 +6,7 @@ use Rattle.typed_words.proofs.with_zeros.Given as goal
 
 -- the zeros that are left make the number
 abbrev pub invariant-loop-i : goal.invariant-loop-i
-invariant-loop-i l = (l.i ≤ l.k) × (l.end ≤ 1000000000000000) × (number_from l.v (replicate l.k 48) ≡ number_from l.end (replicate (l.k - l.i) 48))
-
-abbrev pub decreases-loop-i : goal.decreases-loop-i
-decreases-loop-i l = l.k - l.i
+invariant-loop-i l = record {
+  most : l.end ≤ 1000000000000000;
+  so_far : number_from l.v (replicate l.k 48) ≡ number_from l.end (replicate (l.k - l.i) 48);
+}

@@ -2,4 +2,4 @@ use mathlib.Core.Path.{refl}
 use Rattle.names.proofs.usual.goes_by.Goals as goal
 
 pub returns : goal.returns
-returns c = rw c.index_of.ensures.value refl
+returns c = rw c.find.ensures.value refl

@@ -8,10 +8,10 @@ returns c = let ym = c in
     let head = ym in
     let days = head in
     rw (
-      c.fault_unless.ensures,
-      ym.fault_unless-ym.ensures,
-      head.fault_unless-head.ensures,
-      days.fault_unless-days.ensures,
+      c.place_unless.ensures,
+      ym.place_unless-ym.ensures,
+      head.place_unless-head.ensures,
+      days.place_unless-days.ensures,
       c.in_range-3.ensures,
       ym.in_range-2.ensures,
       head.in_range.ensures,

@@ -10,4 +10,4 @@ returns c =
     ⟫ c.say-colon.ensures
     ⟫ (rw c.word.ensures at c.say_quoted-word.ensures)
     ⟫ c.say_no_number-none.ensures
-    ⟫ (rw (c.row_of-row.ensures, c.change_in-named.ensures) at c.say_expected.ensures)
+    ⟫ (rw c.row_at-row.ensures at c.say_expected.ensures)

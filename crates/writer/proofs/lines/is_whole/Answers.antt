@@ -1,5 +1,4 @@
-use mathlib.Core.Path.{refl}
 use Rattle.writer.proofs.lines.is_whole.Goals as goal
 
 pub returns : goal.returns
-returns c = rw c.read_amount-w.ensures refl
+returns c = rw (c.is_some.ensures, c.read_amount.ensures)
