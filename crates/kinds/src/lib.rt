@@ -74,10 +74,8 @@ fn say_words(out: &mut [u8], at: usize, row: u64, i: usize, n: u64) -> usize
     ensures { Said out.old out.new at (choice_word row i 1 ++ choices_from (n - 1) 2 row i) result }
 {
     let mut end = say_choice(out, at, row, i, 1);
-    let mut v = 1;
-    while v < n {
-        v += 1;
-        end = say_word(out, end, row, i, v);
+    for v in 1..n {
+        end = say_word(out, end, row, i, v + 1);
     }
     end
 }
@@ -164,10 +162,8 @@ fn say_fields(out: &mut [u8], at: usize, row: u64) -> usize
 {
     let n = values_of(row);
     let mut end = at;
-    let mut i = 0;
-    while i < n {
+    for i in 0..n {
         end = say_field(out, end, row, i);
-        i += 1;
     }
     end
 }
@@ -181,10 +177,8 @@ pub fn say_kinds(out: &mut [u8]) -> usize
         0,
         b"row,kind,version,name,field,label,decimals,lowest,highest,unit,choices,usual,help\r\n",
     );
-    let mut row = 1;
-    while row <= codec::LAST_ROW {
+    for row in 1..codec::LAST_ROW + 1 {
         end = say_fields(out, end, row);
-        row += 1;
     }
     end
 }

@@ -57,10 +57,8 @@ fn say_all(out: &mut [u8], at: usize, row: u64) -> usize
 {
     let n = by_row::table::values_of(row);
     let mut end = say_one(out, at, row, 0);
-    let mut i = 1;
-    while i < n {
+    for i in 1..n {
         end = say_next(out, end, row, i);
-        i += 1;
     }
     end
 }
@@ -84,10 +82,8 @@ pub fn say_screen(out: &mut [u8]) -> usize
         0,
         b"Each kind as it is typed, then its values in order.\n",
     );
-    let mut row = 1;
-    while row <= codec::LAST_ROW {
+    for row in 1..codec::LAST_ROW + 1 {
         end = say_row(out, end, row);
-        row += 1;
     }
     end
 }

@@ -23,8 +23,8 @@ use Rattle.account.proofs.Refusals.{passed, weighed-passes}
 use Rattle.book.specs.declared.State.{State}
 use Rattle.book.specs.State.{in_range, holding}
 use Rattle.book.proofs.Ranges.{range-parts, range-test}
-use Rattle.make_record.specs.declared.Answer.{Answer}
-use Rattle.make_record.specs.declared.Answer.TheVariants.{Wrote, Refused}
+use Rattle.std.specs.Prelude.{Ok, Err}
+use Rattle.make_record.specs.Write.{Answer}
 use Rattle.make_record.specs.declared.Written.{Written}
 use Rattle.make_record.specs.Write.{Write, refusal_by, next, refusals, answer_of, refusing, writing, by_answer, write_row, written_of, record_laid}
 use Rattle.make_record.specs.Write.{Ready}
@@ -126,7 +126,7 @@ module _ (s : State) (k row : ℕ) (v : List ℕ) (room : ℕ) where
           wrote l = rw (values-pass, ne_eqb _ _ still, le-ltb _ _ l)
 
           pub wrote_so : (n : ℕ) → n ≡ 2 + length_of row → n ≤ room
-              → record { state = holding b []; written = n; answer = Wrote } ≡ written_of (write_row s k row v room)
+              → record { state = holding b []; written = n; answer = Ok tt } ≡ written_of (write_row s k row v room)
           wrote_so n f l = rw (wrote (rw f at l), e, f, record-length row v)
 
 -- ---- what is known where a record is written
@@ -136,11 +136,11 @@ abbrev pub AllFalse : List (Bool × Refusal) → Type 0
 AllFalse [] = Unit {0}
 AllFalse (t ∷ ts) = (t.0 ≡ false) × AllFalse ts
 
-head-false : (b : Bool) (r : Refusal) (a : Answer) → pick b (Refused r) a ≡ Wrote → (b ≡ false) × (a ≡ Wrote)
+head-false : (b : Bool) (r : Refusal) (a : Answer) → pick b (Err r) a ≡ Ok tt → (b ≡ false) × (a ≡ Ok tt)
 head-false true r a e = let z : ◌≡◌ {A = ℕ} 0 1 = cc in absurd (omega arith)
 head-false false r a e = (refl, e)
 
-all-false : (ts : List (Bool × Refusal)) → answer_of ts ≡ Wrote → AllFalse ts
+all-false : (ts : List (Bool × Refusal)) → answer_of ts ≡ Ok tt → AllFalse ts
 unfolding answer_of
 all-false [] e = tt
 all-false (t ∷ ts) e = let h = head-false t.0 t.1 (answer_of ts) e in (h.0, all-false ts h.1)
@@ -154,7 +154,7 @@ pub record Written-so (s : State) (k row : ℕ) (v : List ℕ) (room : ℕ) : Ty
   pub is : write_row s k row v room ≡ writing s row v
 
 module _ (s : State) (k row : ℕ) (v : List ℕ) (room : ℕ) where
-  by-wrote : answer_of (refusals s k row v room) ≡ Wrote → Written-so s k row v room
+  by-wrote : answer_of (refusals s k row v room) ≡ Ok tt → Written-so s k row v room
   unfolding refusals
   by-wrote e =
       let t = all-false (refusals s k row v room) e in
@@ -172,13 +172,13 @@ module _ (s : State) (k row : ℕ) (v : List ℕ) (room : ℕ) where
       }
 
   -- the answer says it
-  pub written-so : (write_row s k row v room).answer ≡ Wrote → Written-so s k row v room
+  pub written-so : (write_row s k row v room).answer ≡ Ok tt → Written-so s k row v room
   unfolding write_row
   written-so e = go (answer_of (refusals s k row v room)) refl e
     where
-      go : (a : Answer) → answer_of (refusals s k row v room) ≡ a → (by_answer a s row v).answer ≡ Wrote → Written-so s k row v room
-      go Wrote f e = by-wrote f
-      go (Refused r) f e = let z : ◌≡◌ {A = ℕ} 0 1 = cc in absurd (omega arith)
+      go : (a : Answer) → answer_of (refusals s k row v room) ≡ a → (by_answer a s row v).answer ≡ Ok tt → Written-so s k row v room
+      go (Ok u) f e = by-wrote f
+      go (Err r) f e = let z : ◌≡◌ {A = ℕ} 0 1 = cc in absurd (omega arith)
 
   -- some bytes say it
   pub bytes-so : (length (write_row s k row v room).bytes ≡ 0 → ⊥) → Written-so s k row v room
@@ -186,8 +186,8 @@ module _ (s : State) (k row : ℕ) (v : List ℕ) (room : ℕ) where
   bytes-so h = go (answer_of (refusals s k row v room)) refl h
     where
       go : (a : Answer) → answer_of (refusals s k row v room) ≡ a → (length (by_answer a s row v).bytes ≡ 0 → ⊥) → Written-so s k row v room
-      go Wrote f h = by-wrote f
-      go (Refused r) f h = absurd (h refl)
+      go (Ok u) f h = by-wrote f
+      go (Err r) f h = absurd (h refl)
 
 -- ---- the buffer
 

@@ -26,8 +26,8 @@ use Rattle.book.proofs.Ranges.{range-parts}
 use Rattle.book.proofs.RunLeaves.{run-leaves}
 use Rattle.book.proofs.Readings.{reading-none}
 use Rattle.book.proofs.Calls.{done-ended}
-use Rattle.make_record.specs.declared.Answer.{Answer}
-use Rattle.make_record.specs.declared.Answer.TheVariants.{Wrote, Refused}
+use Rattle.std.specs.Prelude.{Ok, Err}
+use Rattle.make_record.specs.Write.{Answer}
 use Rattle.make_record.specs.Write.{numbers, row_for, next, refusals, answer_of, by_answer, write_row, write, Ready, OfKind, saying}
 use Rattle.make_record.proofs.Rows.{of_row}
 use Rattle.make_record.proofs.Answers.{written-so, by-13, by-own, by-3, by_4, by-reader, wrote}
@@ -35,7 +35,7 @@ use Rattle.make_record.proofs.OneRecord.{run-one, call-one, is-kind, judge-is}
 
 -- ---- a record that is written
 
-module _ (s : State) (k : ℕ) (v : List ℕ) (room : ℕ) (e : (write s k v room).answer ≡ Wrote) where
+module _ (s : State) (k : ℕ) (v : List ℕ) (room : ℕ) (e : (write s k v room).answer ≡ Ok tt) where
   -- The state that the writer hands back is the one that the reader reaches on the bytes written, all of which it takes.
   pub next-state : run s (write s k v room).bytes ≡ record {
     state = (write s k v room).state;
@@ -63,7 +63,7 @@ module _ (s : State) (k : ℕ) (v : List ℕ) (room : ℕ) (e : (write s k v roo
 -- ---- a record that is refused
 
 -- A refusal writes nothing and keeps the state.
-pub refusal-keeps : (s : State) (k : ℕ) (v : List ℕ) (room : ℕ) (r : Refusal) → (write s k v room).answer ≡ Refused r
+pub refusal-keeps : (s : State) (k : ℕ) (v : List ℕ) (room : ℕ) (r : Refusal) → (write s k v room).answer ≡ Err r
     → ((write s k v room).state ≡ s) × ((write s k v room).bytes ≡ [])
 unfolding write_row
 refusal-keeps s k v room r e = go (answer_of (refusals s k (row_for k (length v)) v room)) e
@@ -71,9 +71,9 @@ refusal-keeps s k v room r e = go (answer_of (refusals s k (row_for k (length v)
     row : ℕ
     row = row_for k (length v)
 
-    go : (a : Answer) → (by_answer a s row v).answer ≡ Refused r → ((by_answer a s row v).state ≡ s) × ((by_answer a s row v).bytes ≡ [])
-    go Wrote e = let z : ◌≡◌ {A = ℕ} 0 1 = cc in absurd (omega arith)
-    go (Refused q) e = (refl, refl)
+    go : (a : Answer) → (by_answer a s row v).answer ≡ Err r → ((by_answer a s row v).state ≡ s) × ((by_answer a s row v).bytes ≡ [])
+    go (Ok u) e = let z : ◌≡◌ {A = ℕ} 0 1 = cc in absurd (omega arith)
+    go (Err q) e = (refl, refl)
 
 module _ (s : State) (y : Ready s) (k : ℕ) (v : List ℕ) (room : ℕ) where
   -- Of values that fit their bytes, with room for the record, the writer refuses exactly those whose record the reader refuses, with the
@@ -88,14 +88,14 @@ module _ (s : State) (y : Ready s) (k : ℕ) (v : List ℕ) (room : ℕ) where
       (go (eqb (next s (row_for k (length v)) v).stage 3) refl)
     where
       go : (b : Bool) → eqb (next s (row_for k (length v)) v).stage 3 ≡ b
-          → (write s k v room).answer ≡ pick b (Refused (next s (row_for k (length v)) v).refusal) Wrote
+          → (write s k v room).answer ≡ pick b (Err (next s (row_for k (length v)) v).refusal) (Ok tt)
       go true e = rw (by-reader s k (row_for k (length v)) v room y o (next s (row_for k (length v)) v) refl (eqb-true _ _ e))
       go false e = rw (wrote s k (row_for k (length v)) v room y o (next s (row_for k (length v)) v) refl (eqb-false _ _ e) h)
 
   -- r is any record of that kind, of a version that the kind has
   module _ (r : List ℕ) (version : wrong_version r ≡ false) (kind : kind_byte r ≡ k) where
     -- For a kind that there is not the writer gives what the reader gives for any record of that kind.
-    pub kind-as-reader : ltb k 1 || ltb last_kind k ≡ true → (write s k v room).answer ≡ Refused (judge s.account r).account.refusal
+    pub kind-as-reader : ltb k 1 || ltb last_kind k ≡ true → (write s k v room).answer ≡ Err (judge s.account r).account.refusal
     unfolding judge first
     kind-as-reader e =
         let none : wrong_kind r ≡ true = rw (kind, other k e) refl in
@@ -111,7 +111,7 @@ module _ (s : State) (y : Ready s) (k : ℕ) (v : List ℕ) (room : ℕ) where
     -- For a wrong count of values the writer gives what the reader gives for any record of that kind that is not of its version's length.
     pub count-as-reader : 1 ≤ k → k ≤ last_kind → (length v ≡ length (fields (row_for k (length v))) → ⊥)
         → (val_at r 0 2 ≡ length_of (record_row r) → ⊥)
-        → (write s k v room).answer ≡ Refused (judge s.account r).account.refusal
+        → (write s k v room).answer ≡ Err (judge s.account r).account.refusal
     unfolding judge first
     count-as-reader l m n h =
         let b : ltb k 1 || ltb last_kind k ≡ false = rw (le-ltb _ _ l, le-ltb _ _ m) in
@@ -142,5 +142,5 @@ pub stays-in-range : (s : State) (k : ℕ) (v : List ℕ) (room : ℕ) → InRan
 stays-in-range s k v room i = go (write s k v room).answer refl
   where
     go : (a : Answer) → (write s k v room).answer ≡ a → InRange (write s k v room).state
-    go Wrote e = let n = (run-leaves s (write s k v room).bytes i).range in rw (next-state s k v room e) at n
-    go (Refused r) e = rw (refusal-keeps s k v room r e).0 i
+    go (Ok u) e = let n = (run-leaves s (write s k v room).bytes i).range in rw (next-state s k v room e) at n
+    go (Err r) e = rw (refusal-keeps s k v room r e).0 i

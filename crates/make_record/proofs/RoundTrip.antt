@@ -22,7 +22,7 @@ use Rattle.account.proofs.Refusals.{judged-passes}
 use Rattle.account.proofs.Told.{right-length}
 use Rattle.book.specs.declared.State.{State}
 use Rattle.book.specs.State.{holding}
-use Rattle.make_record.specs.declared.Answer.TheVariants.{Wrote}
+use Rattle.std.specs.Prelude.{Ok}
 use Rattle.make_record.specs.Write.{row_for, write_row, write, Ready, OfKind}
 use Rattle.make_record.proofs.Answers.{written-so, wrote}
 use Rattle.make_record.proofs.OneRecord.{is-kind, version-written, kind-written, values-read}
@@ -30,7 +30,7 @@ use Rattle.make_record.proofs.Rows.{version-of-row, kind-of-row, of_row, row-aga
 
 -- What it writes is a record of the kind, of version 2 where it is a farm record of four values and else of version 1, and its fields are the
 -- values.
-pub reads-back : (s : State) (k : ℕ) (v : List ℕ) (room : ℕ) → (write s k v room).answer ≡ Wrote
+pub reads-back : (s : State) (k : ℕ) (v : List ℕ) (room : ℕ) → (write s k v room).answer ≡ Ok tt
     → (version_of (write s k v room).bytes ≡ pick (eqb k 1 && eqb (length v) 4) 2 1)
     × (kind_byte (write s k v room).bytes ≡ k)
     × (values_of (write s k v room).bytes ≡ v)
@@ -50,7 +50,7 @@ reads-back s k v room e =
 -- An accepted record, read and written again by the state that reads it, is the same bytes, and the state is the one that the reader reaches.
 pub written-again : (s : State) (r : List ℕ) (room : ℕ) → Ready s → Bytes r → WholeRecord r → ((judge s.account r).account.stage ≡ 3 → ⊥)
     → length r ≤ room
-    → write s (kind_byte r) (values_of r) room ≡ record { state = holding (judge s.account r).account []; bytes = r; answer = Wrote }
+    → write s (kind_byte r) (values_of r) room ≡ record { state = holding (judge s.account r).account []; bytes = r; answer = Ok tt }
 written-again s r room y b w h f =
     let k = record_row r in
     let v = values_of r in

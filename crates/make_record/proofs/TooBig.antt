@@ -18,7 +18,7 @@ use Rattle.codec.proofs.Within.{none, Good, too-high}
 use Rattle.account.specs.Account.{refused}
 use Rattle.account.specs.Judge.{first, in_place_lem, weigh}
 use Rattle.book.specs.declared.State.{State}
-use Rattle.make_record.specs.declared.Answer.TheVariants.{Refused}
+use Rattle.std.specs.Prelude.{Err}
 use Rattle.make_record.specs.Write.{row_for, write, Ready, OfKind}
 use Rattle.make_record.proofs.Answers.{by-reader}
 
@@ -65,7 +65,7 @@ module _ (k : ℕ) (v : List ℕ) (j : ℕ) (h : j < length (fields k)) (before 
 
   -- Where neither 5 nor 6 comes first, the writer refuses values of its kind by 7, with its position, whatever the buffer's size.
   pub too-big-is-seven : (kind : ℕ) → k ≡ row_for kind (length v) → (s : State) (n : ℕ) → Ready s → OfKind kind k v → s.account.records < 4096
-      → in_place_lem s.account k ≡ true → (write s kind v n).answer ≡ Refused (record { code = 7; accepted = s.account.records; field = suc j })
+      → in_place_lem s.account k ≡ true → (write s kind v n).answer ≡ Err (record { code = 7; accepted = s.account.records; field = suc j })
   unfolding weigh first
   too-big-is-seven kind row s n y o r p =
       let q : suc j ≡ 0 → ⊥ = λ e. omega arith in

@@ -1,6 +1,6 @@
 -- Document 02, W1: "given a record's field values in order, and a state, it writes the record and hands back the reader's next state, or gives
 -- the number the reader would give, writes nothing and keeps the state".
-use Rattle.std.specs.Prelude.{ℕ, ◌+◌, ◌≤◌, ◌<◌, ◌≡◌, List, [], ◌∷◌, ◌++◌, Bool, ◌&&◌, ◌||◌, not, length, drop, ltb, eqb}
+use Rattle.std.specs.Prelude.{ℕ, ◌+◌, ◌≤◌, ◌<◌, ◌≡◌, List, [], ◌∷◌, ◌++◌, Bool, ◌&&◌, ◌||◌, not, length, drop, ltb, eqb, Result, Ok, Err}
 use Rattle.base.specs.Choice.{pick}
 use Rattle.codec.specs.Table.{fields, last_kind, last_row, length_of}
 use Rattle.codec.specs.Codec.{record_bytes}
@@ -9,14 +9,16 @@ use Rattle.account.specs.declared.Refusal.{Refusal}
 use Rattle.account.specs.Judge.{weigh}
 use Rattle.book.specs.declared.State.{State}
 use Rattle.book.specs.State.{InRange, holding, in_range}
-use Rattle.make_record.specs.declared.Answer.{Answer}
-use Rattle.make_record.specs.declared.Answer.TheVariants.{Wrote, Refused}
 use Rattle.make_record.specs.declared.Written.{Written}
+
+-- the writer's answer: the record is written, or refused
+abbrev pub Answer : Type 0
+Answer = Result (Unit {0}) Refusal
 
 -- this paper's number and values for each answer: none where the record is written; for a refusal its number, records accepted and field
 abbrev pub numbers : Answer → List ℕ
-numbers Wrote = []
-numbers (Refused r) = r.code ∷ r.accepted ∷ r.field ∷ []
+numbers (Ok u) = []
+numbers (Err r) = r.code ∷ r.accepted ∷ r.field ∷ []
 
 -- what the writer gives: the state handed back, the bytes written, and the answer
 pub record Write : Type 0 where
@@ -57,20 +59,20 @@ refusals s kind row v room =
 
 -- by the first test that holds; where none does, the record is written
 unfoldable pub answer_of : List (Bool × Refusal) → Answer
-answer_of [] = Wrote
-answer_of (t ∷ ts) = pick t.0 (Refused t.1) (answer_of ts)
+answer_of [] = Ok tt
+answer_of (t ∷ ts) = pick t.0 (Err t.1) (answer_of ts)
 
 -- a refusal writes nothing and keeps the state
 abbrev pub refusing : State → Refusal → Write
-refusing s r = record { state = s; bytes = []; answer = Refused r }
+refusing s r = record { state = s; bytes = []; answer = Err r }
 
 -- the record, and the reader's next state, which holds no bytes
 abbrev pub writing : State → ℕ → List ℕ → Write
-writing s row v = record { state = holding (next s row v) []; bytes = record_bytes row v; answer = Wrote }
+writing s row v = record { state = holding (next s row v) []; bytes = record_bytes row v; answer = Ok tt }
 
 abbrev pub by_answer : Answer → State → ℕ → List ℕ → Write
-by_answer Wrote s row v = writing s row v
-by_answer (Refused r) s row v = refusing s r
+by_answer (Ok u) s row v = writing s row v
+by_answer (Err r) s row v = refusing s r
 
 -- what writing values v of a kind and of this row after the state s gives, for a buffer of room bytes
 unfoldable pub write_row : State → ℕ → ℕ → List ℕ → ℕ → Write
@@ -104,4 +106,4 @@ pub record OfKind (kind row : ℕ) (v : List ℕ) : Type 0 where
 
 -- what the reader says by the account that it reaches
 abbrev pub saying : Account → Answer
-saying a = pick (eqb a.stage 3) (Refused a.refusal) Wrote
+saying a = pick (eqb a.stage 3) (Err a.refusal) (Ok tt)

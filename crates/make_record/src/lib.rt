@@ -13,19 +13,13 @@ use by_row::table::values_of;
 use codec::LAST_KIND;
 use codec::kinds::{FARM, FARM_FACTORS, bytes_of};
 
-// The writer's answer. A refusal goes with its number, the records accepted before it, and the field.
-#[derive(Clone, Copy)]
-pub enum Answer {
-    Wrote,
-    Refused(Refusal),
-}
-
-// What the writer hands back: the state, the count of bytes written, and the answer.
+// What the writer hands back: the state, the count of bytes written, and the answer. A refusal goes with its number, the records accepted before it,
+// and the field.
 #[derive(Clone, Copy)]
 pub struct Written {
     pub state: State,
     pub written: usize,
-    pub answer: Answer,
+    pub answer: Result<(), Refusal>,
 }
 
 // Nothing is written, and the state is kept.
@@ -35,7 +29,7 @@ fn refused(state: State, refusal: Refusal) -> Written
     Written {
         state: state,
         written: 0,
-        answer: Answer::Refused(refusal),
+        answer: Err(refusal),
     }
 }
 
@@ -113,7 +107,7 @@ fn answered(state: State, kind: u64, values: &[u64], room: usize) -> Written
             count: 0,
         },
         written: bytes,
-        answer: Answer::Wrote,
+        answer: Ok(()),
     }
 }
 

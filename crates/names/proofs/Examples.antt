@@ -1,6 +1,7 @@
 -- Texts as they are told: the lines of the tables stand where their kinds and numbers say.
 use mathlib.Core.Path.{◌≡◌, refl}
 use mathlib.Core.List.{[], ◌∷◌}
+use Rattle.std.specs.Prelude.{None, Some}
 use Rattle.base.specs.Bytes.{index_of, index_after}
 use Rattle.typed_words.specs.Words.{leading_of, nth_part, nth_word, same_text_lem, lowered}
 use Rattle.printing.specs.Ascii.{ascii}
@@ -41,8 +42,9 @@ unfolding choice_table nth_part nth_word leading_of index_of index_after
 classes-named = (refl, refl, refl)
 
 -- choices by their words, in capitals or not
-words-chosen : (chosen 10 0 (ascii "Ontario") ≡ 3) × (chosen 9 2 (ascii "no-to-intensive") ≡ 6) × (chosen 10 0 (ascii "Bavaria") ≡ 0)
-    × (chosen 3 0 (ascii "milking") ≡ 0)
+words-chosen : (chosen 10 0 (ascii "Ontario") ≡ Some 3) × (chosen 9 2 (ascii "no-to-intensive") ≡ Some 6)
+    × (chosen 10 0 (ascii "Bavaria") ≡ None)
+    × (chosen 3 0 (ascii "milking") ≡ None)
 unfolding chosen_from lowered same_text_lem choice_table nth_part nth_word leading_of index_of index_after
 words-chosen = (refl, refl, refl, refl)
 

@@ -1,14 +1,16 @@
 -- Laws of how an input begins.
 -- Assumes nothing.
-use Prim.Native.Nat.{ℕ, ◌≤◌, ◌<◌, min}
-use mathlib.Core.Path.{◌≡◌, refl}
+use Prim.Native.Nat.{ℕ, ◌≤◌, ◌<◌}
+use mathlib.Core.Path.{◌≡◌, refl, sym, ◌∙◌}
 use mathlib.Core.List.{List, [], ◌∷◌}
 use mathlib.Core.Bool.{false}
-use mathlib.Core.Logic.{⊎_elim}
 use native.Mathlib.Omega.{arith}
-use lib.ListN.{length, get_or, take}
-use lib.Seq.{take_all, take-length}
-use Rattle.base.proofs.Tests.{lt-or-ge}
+use borrow.Author.Tests.{eqb-true, eqb-false, ne_eqb}
+use lib.Dec.{eqb}
+use lib.ListN.{length, get_or}
+use lib.Pointwise.{pointwise}
+use Rattle.base.proofs.Tests.{by-test}
+use Rattle.typed_words.specs.Words.{same_text_lem}
 use Rattle.names.specs.Hints.{is_typed, begins_typed}
 
 pub begins-none : (xs : List ℕ) → length xs < 2 → false ≡ begins_typed xs
@@ -21,10 +23,15 @@ begins-some [] h = absurd (omega arith)
 begins-some (x ∷ []) h = absurd (omega arith)
 begins-some (x ∷ y ∷ xs) h = refl
 
--- no more bytes can be taken than there are
-pub take-least : (n : ℕ) (xs : List ℕ) → take (min n (length xs)) xs ≡ take n xs
-take-least n xs =
-    ⊎_elim
-    (λ (h : n < length xs). let e : min n (length xs) ≡ n = omega arith in rw e)
-    (λ (h : length xs ≤ n). let e : min n (length xs) ≡ length xs = omega arith in rw (e, take-length xs, take_all n xs h))
-    (lt-or-ge n (length xs))
+eqb_sym : (b x : ℕ) → eqb b x ≡ eqb x b
+eqb_sym b x =
+    by-test (eqb x b) (λ t. let e : x ≡ b = eqb-true x b t in rw e refl)
+    (λ f. ne_eqb b x (λ e. eqb-false x b f (sym e)) ∙ sym f)
+
+-- two texts are the same byte by byte
+pub same-start : (start xs : List ℕ) → pointwise eqb start xs ≡ same_text_lem xs start
+unfolding same_text_lem
+same-start [] [] = refl
+same-start [] (x ∷ xs) = refl
+same-start (b ∷ start) [] = refl
+same-start (b ∷ start) (x ∷ xs) = rw (same-start start xs, eqb_sym b x) refl

@@ -1,4 +1,4 @@
--- Laws of the table's lines: the lines past the last, the digits of the decimals, and the kinds that the book has not.
+-- Laws of the table's lines: the names of the kinds one after the other, and the digits of the decimals.
 use Prim.Native.Nat.{ℕ, zero, suc, ◌+◌, ◌-◌, ◌<◌, ◌≤◌, min}
 use native.Mathlib.Omega.{arith}
 use native.Mathlib.Numerals.{add-one}
@@ -14,13 +14,7 @@ use Rattle.base.specs.Bytes.{index_of, index_after}
 use Rattle.typed_words.specs.Words.{nth_part}
 use Rattle.codec.specs.Table.{last_kind}
 use Rattle.printing.specs.Ascii.{ascii}
-use Rattle.names.specs.Names.{table_line, no_row, kind_name, names_from, decimals_table, decimals_of, decimals_at}
-
-pub line-past : (last k : ℕ) (text : List ℕ) → last < k → nth_part 10 last text ≡ table_line last k text
-line-past last k text h = let e : min k last ≡ last = omega arith in rw e
-
-pub line-within : (last k : ℕ) (text : List ℕ) → k ≤ last → nth_part 10 k text ≡ table_line last k text
-line-within last k text h = let e : min k last ≡ k = omega arith in rw e
+use Rattle.names.specs.Names.{no_row, kind_name, names_from, decimals_table, decimals_of, decimals_at}
 
 -- ---- the names of all kinds, one after the other
 

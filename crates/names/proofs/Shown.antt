@@ -6,21 +6,12 @@ use mathlib.Core.List.{List, [], ◌∷◌}
 use lib.ListN.{length, get_or, set, take, length-take}
 use lib.Seq.{take_all, get_or-take}
 use lib.Dec.{leb}
-use borrow.Author.Tests.{le-leb, lt-leb, leb-true, leb-false}
+use borrow.Author.Tests.{leb-true, leb-false}
 use Rattle.base.proofs.Tests.{by-test}
 use Rattle.printing.specs.Decimal.{Put}
 use Rattle.printing.specs.Said.{Said}
 use Rattle.printing.proofs.Puts.{put-more}
 use Rattle.names.specs.Names.{printed_byte, all_printed, shown}
-
-pub below-printed : (b : ℕ) → b < 33 → 63 ≡ printed_byte b
-below-printed b h = rw (lt-leb 33 b h)
-
-pub above-printed : (b : ℕ) → 126 < b → 63 ≡ printed_byte b
-above-printed b h = rw (le-leb 33 b (omega arith), lt-leb b 126 h)
-
-pub is-printed : (b : ℕ) → 33 ≤ b → b ≤ 126 → b ≡ printed_byte b
-is-printed b l h = rw (le-leb 33 b l, le-leb b 126 h)
 
 length-printed : (s : List ℕ) → length (all_printed s) ≡ length s
 unfolding all_printed

@@ -1,7 +1,8 @@
 -- Theorems: the words of a choice are as many as its numbers, each is read as its number, and what is usual lies within the field's range.
 -- Assumes nothing.
 use Prim.Native.Nat.{ℕ, suc}
-use mathlib.Core.Bool.{Bool, ◌&&◌, ◌||◌, not}
+use mathlib.Core.Bool.{Bool, true, false, ◌&&◌, ◌||◌, not}
+use Rattle.std.specs.Prelude.{Option, Some, None}
 use lib.ListN.{length}
 use lib.Dec.{T, leb, eqb}
 use Rattle.base.specs.Bytes.{index_of, index_after}
@@ -9,12 +10,18 @@ use Rattle.typed_words.specs.Words.{leading_of, nth_part, nth_word, same_text_le
 use Rattle.typed_words.specs.Amounts.{number_from, amount_of}
 use Rattle.codec.specs.Table.{table, fields, field_at}
 use Rattle.names.specs.Names.{no_row, choice_table, is_choice, choice_word, chosen_from, chosen, decimals_table}
+use Rattle.names.specs.declared.usual.Usual.{Usual}
 use Rattle.names.specs.Usual.{usual_table, usual_in, usual_of}
 use Rattle.names.proofs.Lines.{all_below}
 
+-- it is n
+abbrev pub is_number : Option ℕ → ℕ → Bool
+is_number None n = false
+is_number (Some m) n = eqb m n
+
 -- the word for v is one, and is read as v
 abbrev word_back : ℕ → ℕ → ℕ → Bool
-word_back row i v = leb 1 (length (choice_word row i (suc v))) && eqb (chosen row i (choice_word row i (suc v))) (suc v)
+word_back row i v = leb 1 (length (choice_word row i (suc v))) && is_number (chosen row i (choice_word row i (suc v))) (suc v)
 
 -- each number of a choice has its word, the next number has none
 abbrev choice_back : ℕ → ℕ → Bool
@@ -30,8 +37,12 @@ unfolding all_below table choice_table chosen_from nth_part nth_word leading_of 
 all-chosen = tt
 
 -- from is at most to, and to at most the field's highest; three classes, and three columns
+abbrev range_fits : ℕ → Option Usual → Bool
+range_fits most None = true
+range_fits most (Some u) = leb u.low u.high && leb u.high most
+
 abbrev usual_fits : ℕ → ℕ → ℕ → Bool
-usual_fits row i who = leb (usual_of row i (suc who)).low (usual_of row i (suc who)).high && leb (usual_of row i (suc who)).high (field_at row i).2
+usual_fits row i who = range_fits (field_at row i).2 (usual_of row i (suc who))
 
 abbrev row_fits : ℕ → Bool
 row_fits row = all_below (length (fields row)) (λ (i : ℕ). all_below 3 (usual_fits row i))

@@ -11,7 +11,7 @@ use lib.Dec.{T, leb, ltb, eqb, eqb→eq}
 use lib.Ieee.Fits.{and_l, and_r}
 use borrow.Author.Tests.{le-leb, ltb-true, ltb-false}
 use Rattle.base.proofs.Tests.{by-test}
-use Rattle.std.specs.Prelude.{Some}
+use Rattle.std.specs.Prelude.{Some, Option, None}
 use Rattle.typed_words.specs.Amounts.{is_digit, amount_of, all_digits, value_after_lem, Writes}
 use Rattle.typed_words.proofs.TypedExact.{all_more, exact_read}
 use Rattle.printing.specs.Decimal.{digit, decimal, last_digits, without_last, pointed}
@@ -22,7 +22,7 @@ use Rattle.codec.specs.Table.{fields, field_at}
 use Rattle.codec.proofs.EachKind.{no_fields}
 use Rattle.names.specs.Names.{no_row, is_choice, choice_word, chosen, decimals_at}
 use Rattle.names.proofs.Lines.{all_below, at-below, few-decimals}
-use Rattle.names.proofs.Tables.{all-chosen}
+use Rattle.names.proofs.Tables.{is_number, all-chosen}
 
 -- ---- a number
 
@@ -121,6 +121,10 @@ number-length row i n h =
 
 -- ---- the word of a choice
 
+number_is : (o : Option ℕ) (n : ℕ) → T (is_number o n) → o ≡ Some n
+number_is None n t = absurd t
+number_is (Some m) n t = ap (λ (k : ℕ). Some k) (eqb→eq m n t)
+
 where-told : (a b : Bool) → a ≡ true → T (not a || b) → T b
 where-told true b e t = t
 where-told false b e t = absurd (true≢false (sym e))
@@ -131,7 +135,7 @@ module _ (row i v : ℕ) (h : i < length (fields row)) (c : is_choice row i ≡ 
 
   -- the word for n + 1 is one, and is read as n + 1
   abbrev back : ℕ → Bool
-  back n = leb 1 (length (choice_word row i (suc n))) && eqb (chosen row i (choice_word row i (suc n))) (suc n)
+  back n = leb 1 (length (choice_word row i (suc n))) && is_number (chosen row i (choice_word row i (suc n))) (suc n)
 
   abbrev first : Bool
   first = eqb (field_at row i).1 1
@@ -149,9 +153,9 @@ module _ (row i v : ℕ) (h : i < length (fields row)) (c : is_choice row i ≡ 
   pub choice-least : 1 ≤ v
   choice-least = omega (arith, eqb→eq (field_at row i).1 1 (and_l first (all_below (field_at row i).2 back) numbers))
 
-  pub choice-back : chosen row i (choice_word row i v) ≡ v
+  pub choice-back : chosen row i (choice_word row i v) ≡ Some v
   choice-back =
       let e : suc (v - 1) ≡ v = omega (arith, choice-least) in
       let t = at-below (field_at row i).2 back (and_r first (all_below (field_at row i).2 back) numbers) (v - 1) (omega (arith, choice-least)) in
       let w = choice_word row i (suc (v - 1)) in
-      rw e at (eqb→eq (chosen row i w) (suc (v - 1)) (and_r (leb 1 (length w)) (eqb (chosen row i w) (suc (v - 1))) t))
+      rw e at (number_is (chosen row i w) (suc (v - 1)) (and_r (leb 1 (length w)) (is_number (chosen row i w) (suc (v - 1))) t))

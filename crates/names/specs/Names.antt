@@ -1,5 +1,5 @@
 -- Document 01's kinds, fields, classes and numbers in the words that people are told (document 02, W1: a book that is typed), in one table.
-use Rattle.std.specs.Prelude.{ℕ, zero, suc, ◌-◌, min, Bool, ◌&&◌, List, [], ◌∷◌, ◌++◌, length, get_or, take, drop, leb, ltb, eqb}
+use Rattle.std.specs.Prelude.{ℕ, zero, suc, ◌-◌, min, Bool, ◌&&◌, List, [], ◌∷◌, ◌++◌, length, get_or, take, drop, leb, ltb, eqb, Option, None, Some}
 use Rattle.base.specs.Choice.{pick}
 use Rattle.codec.specs.Table.{last_kind, last_row}
 use Rattle.typed_words.specs.Words.{nth_part, nth_word, same_text_lem, lowered}
@@ -87,17 +87,17 @@ word_for words v = nth_word 0 (nth_part 44 (v - 1) words)
 abbrev pub choice_word : ℕ → ℕ → ℕ → List ℕ
 choice_word row i v = word_for (choices_of row i) v
 
--- the number of the word w among the n words after the first k; 0 where it is none of them
-unfoldable pub chosen_from : ℕ → ℕ → List ℕ → List ℕ → ℕ
-chosen_from zero k words w = 0
-chosen_from (suc n) k words w = pick (same_text_lem w (word_for words (suc k))) (suc k) (chosen_from n (suc k) words w)
+-- the number of the word w among the n words after the first k; none where it is none of them
+unfoldable pub chosen_from : ℕ → ℕ → List ℕ → List ℕ → Option ℕ
+chosen_from zero k words w = None
+chosen_from (suc n) k words w = pick (same_text_lem w (word_for words (suc k))) (Some (suc k)) (chosen_from n (suc k) words w)
 
 -- no field has more words
 abbrev pub choices_most : ℕ
 choices_most = 9
 
 -- the number of a word, capitals or not
-abbrev pub chosen : ℕ → ℕ → List ℕ → ℕ
+abbrev pub chosen : ℕ → ℕ → List ℕ → Option ℕ
 chosen row i w = chosen_from choices_most 0 (choices_of row i) (lowered w)
 
 -- ---- what is expected

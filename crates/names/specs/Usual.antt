@@ -1,6 +1,6 @@
 -- Which values are usual: what people are asked to look at again, and no rule of the book's. The sources are document 000 (18.45 MJ a kg of dry
 -- matter, Ym 6.5 per cent) and document 002 (tables A4-12, A4-14 and A4-19 to A4-24), taken wide.
-use Rattle.std.specs.Prelude.{ℕ, ◌-◌, Bool, List, [], ◌++◌, length, ltb, eqb, unwrap_or}
+use Rattle.std.specs.Prelude.{ℕ, ◌-◌, Bool, List, [], ◌++◌, length, ltb, eqb, Option, Some, None, unwrap_or}
 use Rattle.base.specs.Choice.{pick}
 use Rattle.base.specs.Bytes.{index_of}
 use Rattle.typed_words.specs.Words.{nth_part, nth_word}
@@ -33,16 +33,17 @@ goes_by ranges = ltb (index_of 124 ranges) (length ranges)
 abbrev pub range_for : List ℕ → ℕ → List ℕ
 range_for ranges who = pick (goes_by ranges) (nth_part 124 (who - 1) ranges) ranges
 
--- what the ranges of a field with d decimals say, in the book's unit; 0 to 0 where there are none
-unfoldable pub usual_in : List ℕ → ℕ → ℕ → Usual
+-- what the ranges of a field with d decimals say, in the book's unit
+unfoldable pub usual_in : List ℕ → ℕ → ℕ → Option Usual
 usual_in ranges d who =
-    record {
-      some = ltb 0 (length (range_for ranges who));
+    pick (eqb (length (range_for ranges who)) 0) None
+    (Some
+    (record {
       low = unwrap_or (amount_of d (nth_word (pick (goes_by ranges) 1 0) (range_for ranges who))) 0;
       high = unwrap_or (amount_of d (nth_word (pick (goes_by ranges) 2 1) (range_for ranges who))) 0;
-    }
+    }))
 
-abbrev pub usual_of : ℕ → ℕ → ℕ → Usual
+abbrev pub usual_of : ℕ → ℕ → ℕ → Option Usual
 usual_of row i who = usual_in (usual_ranges row i) (decimals_at row i) who
 
 -- for whom it is usual, where it goes by that
@@ -52,8 +53,12 @@ for_text ranges who = pick (goes_by ranges) (ascii " for " ++ nth_word 0 (range_
 abbrev pub to_text : ℕ → ℕ → Usual → List ℕ
 to_text row i u = pick (eqb u.low u.high) [] (ascii " to " ++ value_text row i u.high)
 
+-- where nothing is usual the words say 0
+abbrev pub none_usual : Usual
+none_usual = record { low = 0; high = 0 }
+
 -- what is usual, in words
 unfoldable pub usual_text : ℕ → ℕ → ℕ → List ℕ
 usual_text row i who =
-    let u = usual_of row i who in
+    let u = unwrap_or (usual_of row i who) none_usual in
     ascii "usual" ++ (for_text (usual_ranges row i) who ++ (ascii " is " ++ (value_text row i u.low ++ to_text row i u)))

@@ -3,9 +3,7 @@ ghost use Rattle.std.specs.Prelude.{◌≡◌, ◌≤◌, length};
 ghost use Rattle.printing.specs.Said.{Said};
 ghost use Rattle.names.specs.Hints.{is_typed, begins_typed, begins_with, begins_sheet, looks_like, hint_text};
 
-use base::{first_of, least};
 use printing::say;
-use typed_words::is_word;
 
 // What an input looks like: a book, nothing, a typed text, or a sheet.
 #[derive(Clone, Copy)]
@@ -36,8 +34,7 @@ fn begins_typed(input: &[u8]) -> bool
 fn begins_with(input: &[u8], start: &[u8]) -> bool
     ensures { result ≡ begins_with start.now input.now }
 {
-    let n = least(start.len(), input.len());
-    is_word(first_of(input, n), start)
+    input.starts_with(start)
 }
 
 fn begins_sheet(input: &[u8]) -> bool

@@ -4,7 +4,7 @@
 pub mod hints; // hints.rt: what was given in place of a book
 pub mod usual; // usual.rt: which values are usual
 
-ghost use Rattle.std.specs.Prelude.{◌≡◌, ◌++◌, ◌-◌, ◌≤◌, min, length, get_or, drop};
+ghost use Rattle.std.specs.Prelude.{◌≡◌, ◌++◌, ◌-◌, ◌≤◌, length, get_or, drop};
 ghost use Rattle.codec.specs.Table.{fields};
 ghost use Rattle.printing.specs.Ascii.{ascii};
 ghost use Rattle.printing.specs.Said.{Said};
@@ -88,10 +88,7 @@ const UNITS: [u8; 157] = *b"
 fn line_of(text: &[u8], last: u64, k: u64) -> &[u8]
     ensures { result.now ≡ table_line last k text.now }
 {
-    if last < k {
-        return part(text, b'\n', last as usize);
-    }
-    part(text, b'\n', k as usize)
+    part(text, b'\n', k.min(last) as usize)
 }
 
 // The name of the row's kind; what is no row of the book's is a record.
@@ -123,10 +120,8 @@ pub fn say_kinds(out: &mut [u8], at: usize) -> usize
     ensures { Said out.old out.new at kind_names result }
 {
     let mut end = say_kind(out, at, 1);
-    let mut kind = 2;
-    while kind <= codec::LAST_KIND {
+    for kind in 2..codec::LAST_KIND + 1 {
         end = say_next(out, end, kind);
-        kind += 1;
     }
     end
 }
@@ -192,17 +187,11 @@ pub fn say_choices(out: &mut [u8], at: usize, row: u64, i: usize) -> usize
     say(out, at, cell(&CHOICES, row, i))
 }
 
-fn less_one(n: usize) -> usize
-    ensures { result ≡ n - 1 }
-{
-    if n == 0 { 0 } else { n - 1 }
-}
-
 // The word for the number v in a list of words.
 fn nth_choice(words: &[u8], v: usize) -> &[u8]
     ensures { result.now ≡ word_for words.now v }
 {
-    word(part(words, b',', less_one(v)), 0)
+    word(part(words, b',', v.saturating_sub(1)), 0)
 }
 
 // The word of field i for the number v.
@@ -213,22 +202,20 @@ pub fn say_choice(out: &mut [u8], at: usize, row: u64, i: usize, v: u64) -> usiz
     say(out, at, nth_choice(cell(&CHOICES, row, i), v as usize))
 }
 
-// The number of the word in a list of words, capitals or not; 0 where it is none of them.
-fn choice_in(words: &[u8], typed: &[u8]) -> u64
+// The number of the word in a list of words, capitals or not, where it is one of them.
+fn choice_in(words: &[u8], typed: &[u8]) -> Option<u64>
     ensures { result ≡ chosen_from choices_most 0 words.now (lowered typed.now) }
 {
-    let mut k: usize = 0;
-    while k < CHOICES_MOST {
+    for k in 0..CHOICES_MOST {
         if is_name(typed, nth_choice(words, k + 1)) {
-            return (k + 1) as u64;
+            return Some((k + 1) as u64);
         }
-        k += 1;
     }
-    0
+    None
 }
 
-// The number of the word among those of field i; 0 where it is none of them.
-pub fn choice(typed: &[u8], row: u64, i: usize) -> u64
+// The number of the word among those of field i, where it is one of them.
+pub fn choice(typed: &[u8], row: u64, i: usize) -> Option<u64>
     ensures { result ≡ chosen row i typed.now }
 {
     choice_in(cell(&CHOICES, row, i), typed)
@@ -343,11 +330,7 @@ fn digit_at(digits: &[u8], i: usize) -> usize
     if digits.len() <= i {
         return 0;
     }
-    let b = digits[i];
-    if b < 48 {
-        return 0;
-    }
-    (b - 48) as usize
+    digits[i].saturating_sub(b'0') as usize
 }
 
 // How many decimals field i has; 0 where there is no such field.
@@ -433,25 +416,10 @@ pub fn say_sentence(out: &mut [u8], at: usize, code: u64) -> usize
     line
 }
 
-fn shorter(a: usize, b: usize) -> usize
-    ensures { result ≡ min a b }
-{
-    if a < b {
-        return a;
-    }
-    b
-}
-
 fn printed(b: u8) -> u8
     ensures { result ≡ printed_byte b }
 {
-    if b < 33 {
-        return b'?';
-    }
-    if 126 < b {
-        return b'?';
-    }
-    b
+    if b.is_ascii_graphic() { b } else { b'?' }
 }
 
 // A word told back: its first 24 bytes, with a ? for each that does not print.
@@ -459,11 +427,9 @@ pub fn say_shown(out: &mut [u8], at: usize, word: &[u8]) -> usize
     requires { at ≤ length out.old }
     ensures { Said out.old out.new at (shown word.now) result }
 {
-    let n = shorter(shorter(word.len(), 24), out.len() - at);
-    let mut i = 0;
-    while i < n {
+    let n = word.len().min(24).min(out.len() - at);
+    for i in 0..n {
         out[at + i] = printed(word[i]);
-        i += 1;
     }
-    at + i
+    at + n
 }

@@ -11,10 +11,9 @@ use base::find;
 use printing::say;
 use typed_words::{part, read_amount, word};
 
-// Which values of a field are usual, from low to high, in the book's unit; none are asked for where `some` is false.
+// Which values of a field are usual, from low to high, in the book's unit.
 #[derive(Clone, Copy)]
 pub struct Usual {
-    pub some: bool,
     pub low: u64,
     pub high: u64,
 }
@@ -45,7 +44,7 @@ fn range_for(ranges: &[u8], who: usize) -> &[u8]
     ensures { result.now ≡ range_for ranges.now who }
 {
     if goes_by(ranges) {
-        return part(ranges, b'|', crate::less_one(who));
+        return part(ranges, b'|', who.saturating_sub(1));
     }
     ranges
 }
@@ -57,24 +56,25 @@ fn limit(range: &[u8], n: usize, row: u64, i: usize) -> u64
     read_amount(word(range, n), decimals(row, i)).unwrap_or(0)
 }
 
-// What is usual of field i for the class or column `who`.
-pub fn usual_range(row: u64, i: usize, who: usize) -> Usual
+// What is usual of field i for the class or column `who`; of a field without ranges nothing is.
+pub fn usual_range(row: u64, i: usize, who: usize) -> Option<Usual>
     ensures { result ≡ usual_of row i who }
 {
     let ranges = cell(&USUAL, row, i);
     let range = range_for(ranges, who);
+    if range.len() == 0 {
+        return None;
+    }
     if goes_by(ranges) {
-        return Usual {
-            some: 0 < range.len(),
+        return Some(Usual {
             low: limit(range, 1, row, i),
             high: limit(range, 2, row, i),
-        };
+        });
     }
-    Usual {
-        some: 0 < range.len(),
+    Some(Usual {
         low: limit(range, 0, row, i),
         high: limit(range, 1, row, i),
-    }
+    })
 }
 
 // The ranges of field i as they are typed, with a bar between where they go by class or column.
@@ -108,12 +108,12 @@ fn say_to(out: &mut [u8], at: usize, row: u64, i: usize, u: Usual) -> usize
     say_value(out, to, row, i, u.high)
 }
 
-// What is usual, in words.
+// What is usual, in words; 0 where nothing is.
 pub fn say_usual(out: &mut [u8], at: usize, row: u64, i: usize, who: usize) -> usize
     requires { at ≤ length out.old }
     ensures { Said out.old out.new at (usual_text row i who) result }
 {
-    let u = usual_range(row, i, who);
+    let u = usual_range(row, i, who).unwrap_or(Usual { low: 0, high: 0 });
     let word = say(out, at, b"usual");
     let whom = say_for(out, word, row, i, who);
     let is = say(out, whom, b" is ");

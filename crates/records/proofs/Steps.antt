@@ -237,7 +237,7 @@ pub record Going (n : ℕ) (a₀ : Account) (at₀ : ℕ) (book out₀ out : Lis
   pub is : rows_by n a₀ at₀ book ≡ and_then (record { account = a; taken = taken; text = so_far; more = true }) (rows_by left a (at₀ + taken) book)
 
 pub going-none : (n : ℕ) (a : Account) (at : ℕ) (book out : List ℕ) → AccountInRange a → at ≤ length book → rows_most * n ≤ length out
-    → Going n a at book out out a 0 0 n
+    → Going n a at book out out a 0 0 (n - 0)
 going-none n a at book out v i h =
     record {
       so_far = [];
@@ -246,7 +246,7 @@ going-none n a at book out v i h =
       range = v;
       room = omega arith;
       same = refl;
-      is = rw (add-zero at) (typing.as-it-is a (rows_by n a at book));
+      is = let all : n - 0 ≡ n = omega arith in rw (all, add-zero at) (typing.as-it-is a (rows_by n a at book));
     }
 
 module _ {n : ℕ} {a₀ : Account} {at₀ : ℕ} {book out₀ out : List ℕ} {a : Account} {taken last left : ℕ}
@@ -275,17 +275,17 @@ module _ {n : ℕ} {a₀ : Account} {at₀ : ℕ} {book out₀ out : List ℕ} {
         rw (g.is ∙ ap (and_then before) i)
         (record { account = t.account; taken = ap (λ (m : ℕ). taken + m) t.taken; more = sym q; put = and-then g.put t.put })
 
-    pub going_on : r.more ≡ true → r.written ≤ last + rows_most → at₀ + taken + r.taken ≤ length book → AccountInRange r.account
-        → Going n a₀ at₀ book out₀ out' r.account (taken + r.taken) r.written (left - 1)
+    pub going_on : {next : ℕ} → next ≡ left - 1 → r.more ≡ true → r.written ≤ last + rows_most → at₀ + taken + r.taken ≤ length book
+        → AccountInRange r.account → Going n a₀ at₀ book out₀ out' r.account (taken + r.taken) r.written next
     unfolding before
-    going_on f w k v =
+    going_on e f w k v =
         let q : (rows_by 1 a (at₀ + taken) book).more ≡ true = sym t.more ∙ f in
         let first = rows_by 1 a (at₀ + taken) book in
         let others = rows_by (left - 1) first.account (at₀ + taken + first.taken) book in
         let i : rows_by left a (at₀ + taken) book ≡ and_then first others =
         ap (λ (m : ℕ). rows_by m a (at₀ + taken) book) less ∙ one_more (left - 1) a (at₀ + taken) book q in
         let d : at₀ + taken + first.taken ≡ at₀ + (taken + first.taken) = omega arith in
-        record {
+        rw e (record {
           so_far = g.so_far ++ first.text;
           put = and-then g.put t.put;
           inside = omega (arith, k);
@@ -293,4 +293,4 @@ module _ {n : ℕ} {a₀ : Account} {at₀ : ℕ} {book out₀ out : List ℕ} {
           room = omega (arith, g.room, put-length t.put);
           same = put-length t.put ∙ g.same;
           is = g.is ∙ ap (and_then before) i ∙ typing.grouped before first others ∙ rw (d, t.account, t.taken);
-        }
+        })

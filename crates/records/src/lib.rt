@@ -73,10 +73,8 @@ fn put_columns(out: &mut [u8], at: usize, values: &[u64]) -> usize
     ensures result_bound { result + 42 ≤ at + number_most * length values.now }
 {
     let mut end = at;
-    let mut k = 2;
-    while k < values.len() {
+    for k in 2..values.len() {
         end = put_column(out, end, k, values[k]);
-        k += 1;
     }
     end
 }
@@ -309,8 +307,8 @@ fn put_rows(from: Account, at: usize, book: &[u8], out: &mut [u8]) -> Retyped
     let mut a = from;
     let mut taken = 0;
     let mut end = 0;
-    let mut left = out.len() / ROWS_MOST;
-    while left > 0 {
+    let most = out.len() / ROWS_MOST;
+    for _ in 0..most {
         let t = put_next(a, at + taken, book, out, end);
         a = t.account;
         taken += t.taken;
@@ -323,7 +321,6 @@ fn put_rows(from: Account, at: usize, book: &[u8], out: &mut [u8]) -> Retyped
                 more: false,
             };
         }
-        left -= 1;
     }
     Retyped {
         account: a,

@@ -67,15 +67,15 @@ pub running_none : (book : List ℕ) (w : Work) → Begins book w → Running bo
 running_none book w b = record { going = goes_none book w b; many = λ e. omega arith }
 
 module _ {book : List ℕ} {w₀ w : Work} {turns : ℕ} (g : Running book w₀ w turns) where
-  pub running-on : (room : ℕ) {r : Work} → 0 < turns → rows_most ≤ room → w.more ≡ true
-      → Turned (rows_after (room / rows_most) w.account w.at book) w r → r.at ≤ length book → Running book w₀ r (turns - 1)
-  running-on room {r} some long m t inside =
+  pub running-on : (room : ℕ) {r : Work} {next : ℕ} → 0 < turns → next ≡ turns - 1 → rows_most ≤ room → w.more ≡ true
+      → Turned (rows_after (room / rows_most) w.account w.at book) w r → r.at ≤ length book → Running book w₀ r next
+  running-on room {r} some less long m t inside =
       record {
         going = goes_on g.going room m t inside;
         many = λ e.
             let sent : r.written ≡ true = not-not r.written (λ f. no_bool (sym (t.failed f) ∙ e)) in
             let taken = rows_taken (room / rows_most) w.account w.at book (sym (t.more sent) ∙ e) in
-            omega (arith, taken, t.at, g.many m, long, some);
+            omega (arith, taken, t.at, g.many m, long, some, less);
       }
     where
       not-not : (b : Bool) → (b ≡ false → b ≡ true) → b ≡ true

@@ -21,8 +21,8 @@ use Rattle.account.specs.Sorts.{is_of_group}
 use Rattle.account.specs.Judge.{WholeRecord, version_of, kind_byte, record_row, values_of, judge}
 use Rattle.book.specs.declared.State.{State}
 use Rattle.book.specs.State.{holding}
+use Rattle.std.specs.Prelude.{Option, None, is_some, Ok, Err}
 use Rattle.make_record.specs.Write.{Write, write, Ready}
-use Rattle.make_record.specs.declared.Answer.TheVariants as answers
 use Rattle.make_record.proofs.Rows.{kind-again}
 use Rattle.account.proofs.Refusals.{judged-passes}
 use Rattle.make_record.proofs.RoundTrip.{written-again}
@@ -194,36 +194,36 @@ module _ (k : ℕ) (v : List ℕ) (least : 1 ≤ k) (most : k ≤ last_row) (cou
 
 -- no line failed, no heading is lost, no close waits, no run is open, and nothing was told
 pub record Clean (t : Typist) : Type 0 where
-  pub lost : t.lost.line ≡ 0
-  pub failed : t.failed ≡ 0
-  pub close : t.waiting.close ≡ 0
-  pub run : t.waiting.first ≡ 0
+  pub lost : t.lost ≡ None
+  pub failed : t.failed ≡ None
+  pub close : t.waiting.close ≡ None
+  pub run : t.waiting.run ≡ None
   pub told : t.counts.told ≡ 0
 
 pub clean-on : (t : Typist) → Clean t → (k : ℕ) (e : Entry) (s : State) → Clean (written_as (hears t k) e s)
 clean-on t c k e s =
     record { lost = still (eqb e.kind 2) t.lost c.lost; failed = c.failed; close = c.close; run = c.run; told = c.told }
   where
-    still : (b : Bool) (l : Lost) → l.line ≡ 0 → (pick b not_lost l).line ≡ 0
+    still : (b : Bool) (l : Option Lost) → l ≡ None → pick b not_lost l ≡ None
     still true l z = refl
     still false l z = z
 
 -- no close is too early, and no run has to end
-none-early : (t : Typist) → t.waiting.close ≡ 0 → early t ≡ t
+none-early : (t : Typist) → t.waiting.close ≡ None → early t ≡ t
 unfolding early
-none-early t z = rw (eq-eqb _ _ z) refl
+none-early t z = rw z refl
 
-pub no_run : (t : Typist) → t.waiting.first ≡ 0 → run_ended t ≡ t
+pub no_run : (t : Typist) → t.waiting.run ≡ None → run_ended t ≡ t
 unfolding run_ended
-no_run t z = rw (eq-eqb _ _ z) refl
+no_run t z = rw z refl
 
-nothing-failed : (a b c : Bool) → c ≡ true → (a && (b && not c)) ≡ false
-nothing-failed true true c e = rw e
+nothing-failed : (a b c : Bool) → c ≡ false → (a && (b && c)) ≡ false
+nothing-failed true true c e = e
 nothing-failed true false c e = refl
 nothing-failed false b c e = refl
 
-nothing-lost : (a c : Bool) → c ≡ true → (a && not c) ≡ false
-nothing-lost true c e = rw e
+nothing-lost : (a c : Bool) → c ≡ false → (a && c) ≡ false
+nothing-lost true c e = e
 nothing-lost false c e = refl
 
 -- an entry of a clean typist is judged
@@ -234,11 +234,11 @@ module _ (t : Typist) (c : Clean t) (n : ℕ) (e : Entry) (room : ℕ) where
   is-judging : record_turn (early hearing) n e room ≡ judged_turn hearing n e room
   is-judging =
       ap (λ (x : Typist). record_turn x n e room) (none-early hearing c.close)
-      ∙ sym (not-headless hearing n e room (nothing-lost (is_of_group e.kind) (eqb t.lost.line 0) (eq-eqb _ _ c.lost)))
+      ∙ sym (not-headless hearing n e room (nothing-lost (is_of_group e.kind) (is_some t.lost) (ap is_some c.lost)))
       ∙ ap (λ (x : Typist). judged_turn x n e room) (no_run hearing c.run)
 
   not-withheld : withheld hearing e ≡ false
-  not-withheld = nothing-failed (eqb e.kind 8) (eqb t.state.account.stage 1) (eqb t.failed 0) (eq-eqb _ _ c.failed)
+  not-withheld = nothing-failed (eqb e.kind 8) (eqb t.state.account.stage 1) (is_some t.failed) (ap is_some c.failed)
 
   -- it goes to the writer, and a close waits where the writer would write it
   pub goes_on : eqb e.kind 8 ≡ false → record_turn (early hearing) n e room ≡ by_write hearing n e (write_entry t.state e room)
@@ -259,7 +259,7 @@ module _ (s : State) (y : Ready s) (r : List ℕ) (w : WholeRecord r) (b : Bytes
   abbrev next : State
   next = holding (judge s.account r).account []
 
-  again : write s (kind_byte r) (values_of r) record_most ≡ record { state = next; bytes = r; answer = answers.Wrote }
+  again : write s (kind_byte r) (values_of r) record_most ≡ record { state = next; bytes = r; answer = Ok tt }
   again = written-again s r record_most y b w h (omega (arith, w.long, w.high))
 
   kinds : is_kind (kind_byte r) ≡ true
@@ -294,7 +294,7 @@ module _ (s : State) (y : Ready s) (r : List ℕ) (w : WholeRecord r) (b : Bytes
   line-one = no-line-feed (record_row r) (values_of r) of.least of.most of.count all
 
   module _ (t : Typist) (e : t.state ≡ s) where
-    answered : write_entry t.state said' record_most ≡ record { state = next; bytes = r; answer = answers.Wrote }
+    answered : write_entry t.state said' record_most ≡ record { state = next; bytes = r; answer = Ok tt }
     answered =
         ap (λ (x : State). write_entry x said' record_most) e
         ∙ written (record_row r) (values_of r) of.least of.most of.count all (kind_byte r) s record_most ∙ again
@@ -319,7 +319,7 @@ module _ (s : State) (y : Ready s) (r : List ℕ) (w : WholeRecord r) (b : Bytes
     pub closed-again : kind_byte r ≡ 8 → closing_turn t record_most ≡ record { typist = written_as t own_close next; fate = Wrote 8; bytes = r }
     closed-again k =
         let counts = close-counts s.account r h k in
-        let answer : write_entry t.state own_close record_most ≡ record { state = next; bytes = r; answer = answers.Wrote } =
+        let answer : write_entry t.state own_close record_most ≡ record { state = next; bytes = r; answer = Ok tt } =
         ap (λ (x : State). write_entry x own_close record_most) e ∙ own-close s record_most
         ∙ ap (λ (j : ℕ). write s j (s.account.records ∷ []) record_most) (sym k)
         ∙ ap (λ (v : List ℕ). write s (kind_byte r) v record_most) (sym counts) ∙ again in

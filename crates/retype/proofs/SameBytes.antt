@@ -28,6 +28,8 @@ use Rattle.writer.specs.declared.Fate.TheVariants.{Nothing}
 use Rattle.writer.specs.Typist.{beginning, hears, waits, written_as, Turn, turn, closing_turn, end_turn}
 use Rattle.writer.specs.Text.{line_turn}
 use Rattle.writer.specs.Parts.{Output, output, whole}
+use Rattle.std.specs.Prelude.{None, is_some}
+use Rattle.writer.proofs.Remembered.{no_some, some_of}
 use Rattle.writer.proofs.Fates.{end-closing, end-open}
 use Rattle.retype.specs.Typed.{line_typed, text_typed, Accepted, AllAccepted, account_behind, typed_whole, SameBytes}
 use Rattle.make_record.specs.Write.{Ready}
@@ -78,12 +80,12 @@ module _ (t : Typist) (n : ℕ) where
 -- no close waits, or one does
 none-waits : (t : Typist) → Clean t → end_turn true t record_most ≡ record { typist = t; fate = Nothing; bytes = [] }
 none-waits t c =
-    sym (end-open true t record_most (rw (eq-eqb _ _ c.close) refl))
+    sym (end-open true t record_most (ap is_some c.close))
     ∙ ap (λ (x : Typist). record { typist = x; fate = Nothing; bytes = [] }) (no_run t c.run)
 
-one-waits : (t : Typist) → (t.waiting.close ≡ 0 → ⊥) → t.waiting.first ≡ 0 → end_turn true t record_most ≡ closing_turn t record_most
+one-waits : (t : Typist) → (t.waiting.close ≡ None → ⊥) → t.waiting.run ≡ None → end_turn true t record_most ≡ closing_turn t record_most
 one-waits t z r =
-    sym (end-closing true t record_most (rw (ne_eqb _ _ z) refl)) ∙ ap (λ (x : Typist). closing_turn x record_most) (no_run t r)
+    sym (end-closing true t record_most (some_of _ z)) ∙ ap (λ (x : Typist). closing_turn x record_most) (no_run t r)
 
 -- ---- one record after the other
 
@@ -141,9 +143,8 @@ module _ (a : Account) (f : AccountInRange a) (r : List ℕ) (q : Accepted a r)
       let ls = lines_from (one_more_lem n) [] in
       let turn_is = line-turn (close-again (holding a []) state-ready r q.whole q.bytes q.taken t e c n k) in
       let waiting = waits (hears t (kind_byte r)) n in
-      let some : n ≡ 0 → ⊥ = λ z. omega arith in
       let closing =
-      one-waits waiting some c.run ∙ closed-again (holding a []) state-ready r q.whole q.bytes q.taken waiting e k in
+      one-waits waiting no_some c.run ∙ closed-again (holding a []) state-ready r q.whole q.bytes q.taken waiting e k in
       let typist = first-typist t line ls turn_is ∙ end-typist waiting (one_more_lem n) ∙ ap (λ (x : Turn). x.typist) closing in
       rw (lines_are []) (record {
         bytes =

@@ -172,7 +172,7 @@ pub record Going (n : ℕ) (a₀ : Account) (xs out₀ out : List ℕ) (a : Acco
 pub as-it-is : (a : Account) (x : Retyping) → x ≡ and_then (nothing_yet_lem a) x
 as-it-is a x = rw zero-add
 
-pub going-none : (n : ℕ) (a : Account) (xs out : List ℕ) → AccountInRange a → line_most * n ≤ length out → Going n a xs out out a 0 0 n
+pub going-none : (n : ℕ) (a : Account) (xs out : List ℕ) → AccountInRange a → line_most * n ≤ length out → Going n a xs out out a 0 0 (n - 0)
 going-none n a xs out v h =
     record {
       so_far = [];
@@ -181,7 +181,7 @@ going-none n a xs out v h =
       range = v;
       room = omega arith;
       same = refl;
-      is = as-it-is a (typed_by n a xs);
+      is = let all : n - 0 ≡ n = omega arith in rw all (as-it-is a (typed_by n a xs));
     }
 
 pub grouped : (x y z : Retyping) → and_then x (and_then y z) ≡ and_then (and_then x y) z
@@ -214,10 +214,10 @@ module _ {n : ℕ} {a₀ : Account} {xs out₀ out : List ℕ} {a : Account} {at
         rw (g.is ∙ ap (and_then before) i)
         (record { account = t.account; taken = ap (λ (m : ℕ). at + m) t.taken; more = sym q; put = and-then g.put t.put })
 
-    pub going_on : r.more ≡ true → r.written ≤ last + line_most → r.taken ≤ length rest → AccountInRange r.account
-        → Going n a₀ xs out₀ out' r.account (at + r.taken) r.written (left - 1)
+    pub going_on : {next : ℕ} → next ≡ left - 1 → r.more ≡ true → r.written ≤ last + line_most → r.taken ≤ length rest → AccountInRange r.account
+        → Going n a₀ xs out₀ out' r.account (at + r.taken) r.written next
     unfolding before
-    going_on f w k v =
+    going_on e f w k v =
         let q : (typed_by 1 a rest).more ≡ true = sym t.more ∙ f in
         let first = typed_by 1 a rest in
         let others = typed_by (left - 1) first.account (drop first.taken rest) in
@@ -225,7 +225,7 @@ module _ {n : ℕ} {a₀ : Account} {xs out₀ out : List ℕ} {a : Account} {at
         rw (← p) (ap (λ (m : ℕ). typed_by m a rest) less ∙ one_more (left - 1) a rest q) in
         let l = ap length p ∙ length-drop at xs in
         let d : drop first.taken rest ≡ drop (at + first.taken) xs = ap (drop first.taken) p ∙ drop-drop first.taken at xs in
-        record {
+        rw e (record {
           so_far = g.so_far ++ first.text;
           put = and-then g.put t.put;
           inside = omega (arith, l, g.inside);
@@ -233,7 +233,7 @@ module _ {n : ℕ} {a₀ : Account} {xs out₀ out : List ℕ} {a : Account} {at
           room = omega (arith, g.room, put-length t.put);
           same = put-length t.put ∙ g.same;
           is = g.is ∙ ap (and_then before) i ∙ grouped before first others ∙ rw (d, t.account, t.taken);
-        }
+        })
 
 -- ---- a record's values and its line
 

@@ -20,7 +20,7 @@ use Rattle.codec.proofs.Within.{Within, ranges}
 use Rattle.printing.specs.Decimal.{pointed}
 use Rattle.names.specs.Names.{is_choice, choice_word, decimals_at, value_text}
 use Rattle.names.proofs.TypedBack.{pointed-back, number-length, choice-least, choice-back}
-use Rattle.writer.specs.Line.{has_field, by_choice, value_at}
+use Rattle.writer.specs.Line.{has_field, value_at}
 use Rattle.writer.proofs.TypedLines.{read-value}
 use Rattle.retype.specs.Typed.{values_typed}
 use Rattle.retype.proofs.Words.{Word, first-is, past_is, first-blank, past-blank, none-in-word}
@@ -63,15 +63,13 @@ module _ (row i v : ℕ) (least : 1 ≤ row) (most : row ≤ last_row) (h : i < 
   choice-is : is_choice row i ≡ true → ReadAs row i v (choice_word row i v)
   choice-is c =
       let l = choice-least row i v h c w.above w.below in
-      let some : v ≡ 0 → ⊥ = λ e. omega arith in
-      let by : Some v ≡ by_choice v = rw (ne_eqb v 0 some) refl in
       record {
         word = choice-word row least most i h c v l w.below;
         some = choice-some row least most i h c v l w.below;
         short = choice-short row least most i h c v l w.below;
         back =
             sym (read-value row i (choice_word row i v) has-field (sym (choice-other row least most i h c v l w.below))
-            (by ∙ ap by_choice (sym (choice-back row i v h c w.above w.below))));
+            (sym (choice-back row i v h c w.above w.below)));
       }
 
   pub reads-back : ReadsBack row i v

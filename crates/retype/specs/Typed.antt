@@ -1,6 +1,6 @@
 -- The typed lines of a book, the way back from document 02's W1: "Advisers now type a book into one program". A record is typed as its kind's
 -- name and its values, with one blank between: a choice by its word, a number in the unit that people say, with all its decimals.
-use Rattle.std.specs.Prelude.{ℕ, suc, ◌<◌, ◌≡◌, List, [], ◌∷◌, ◌++◌}
+use Rattle.std.specs.Prelude.{ℕ, suc, ◌<◌, ◌≡◌, List, [], ◌∷◌, ◌++◌, None}
 use Rattle.codec.specs.Codec.{Bytes}
 use Rattle.names.specs.Names.{kind_name, value_text}
 use Rattle.account.specs.declared.Account.{Account}
@@ -51,5 +51,5 @@ typed_whole s text = whole (beginning s) (text_lines text)
 pub record SameBytes (a : Account) (rs : List (List ℕ)) (x : Output) : Type 0 where
   pub bytes : x.bytes ≡ joined rs
   pub state : x.typist.state ≡ holding (account_behind a rs) []
-  pub failed : x.typist.failed ≡ 0
+  pub failed : x.typist.failed ≡ None
   pub told : x.typist.counts.told ≡ 0

@@ -51,11 +51,9 @@ fn put_values(out: &mut [u8], at: usize, row: u64, values: &[u64]) -> usize
     ensures upper_bound { result ≤ at + value_most * length values.now }
 {
     let mut end = at;
-    let mut i = 0;
-    while i < values.len() {
+    for i in 0..values.len() {
         let blank = put_byte(out, end, b' ');
         end = say_value(out, blank, row, i, values[i]);
-        i += 1;
     }
     end
 }
@@ -110,8 +108,8 @@ fn type_records(from: Account, book: &[u8], out: &mut [u8]) -> Retyped
     let mut a = from;
     let mut at = 0;
     let mut end = 0;
-    let mut left = out.len() / LINE_MOST;
-    while left > 0 {
+    let most = out.len() / LINE_MOST;
+    for _ in 0..most {
         let t = type_next(a, rest_of(book, at), out, end);
         a = t.account;
         at += t.taken;
@@ -124,7 +122,6 @@ fn type_records(from: Account, book: &[u8], out: &mut [u8]) -> Retyped
                 more: false,
             };
         }
-        left -= 1;
     }
     Retyped {
         account: a,

@@ -50,12 +50,10 @@ fn run(rt: &impl System, from: Work, book: &[u8], text: &mut [u8]) -> Work
     ensures { Goes book.now from result × (result.more ≡ false) }
 {
     let mut w = from;
-    let mut turns: usize = 131072;
-    while turns > 0 {
+    for _ in 0..131072u32 {
         if !w.more {
             return w;
         }
-        turns -= 1;
         w = turn(rt, w, book, text);
     }
     w

@@ -2,8 +2,8 @@
 use crate::books::{fill, flushed, least, put_lines, put_refusal, put_state, read_state};
 use crate::shown::{put, put_checksum, put_word, put_words};
 use crate::words::read_numbers;
+use account::Refusal;
 use book::State;
-use make_record::Answer;
 
 // What one writing gave: the state, and the bytes of answer so far.
 #[derive(Clone, Copy)]
@@ -13,10 +13,10 @@ struct Wrote {
 }
 
 // A refusal's number, record and field; zeros where the record is written.
-fn put_answer(out: &mut [u8], at: usize, answer: Answer) -> usize {
+fn put_answer(out: &mut [u8], at: usize, answer: Result<(), Refusal>) -> usize {
     match answer {
-        Answer::Wrote => put_words(out, at, &[0, 0, 0]),
-        Answer::Refused(r) => put_refusal(out, at, r),
+        Ok(()) => put_words(out, at, &[0, 0, 0]),
+        Err(r) => put_refusal(out, at, r),
     }
 }
 

@@ -5,9 +5,9 @@ use native.Mathlib.Numerals.{add-one}
 use native.Mathlib.Omega.{arith}
 use mathlib.Core.Path.{◌≡◌, refl, sym, ap, ◌∙◌, subst}
 use mathlib.Core.List.{List, [], ◌∷◌, ◌++◌, append_assoc, append-nil}
-use mathlib.Core.Bool.{Bool, true, false, ◌&&◌, not, true≢false}
+use mathlib.Core.Bool.{Bool, true, false, ◌&&◌, true≢false}
 use mathlib.Core.Logic.{◌⊎◌, inl, inr, ⊎_elim}
-use borrow.Author.Tests.{eq-eqb, ne_eqb, eqb-true, eqb-false, not-true, not-false}
+use borrow.Author.Tests.{eq-eqb, eqb-true, eqb-false, not-true, not-false}
 use lib.ListN.{length, get_or}
 use lib.Dec.{eqb}
 use Rattle.base.specs.Choice.{pick, one_more_lem}
@@ -20,18 +20,22 @@ use Rattle.account.proofs.Sorts.{by-sort, closes-eight}
 use Rattle.account.proofs.Refusals.{passed, weighed-none, weighed-passes}
 use Rattle.book.specs.declared.State.{State}
 use Rattle.book.specs.State.{no_record_yet}
-use Rattle.make_record.specs.declared.Answer.{Answer}
-use Rattle.make_record.specs.declared.Answer.TheVariants as answers
+use Rattle.make_record.specs.Write.{Answer}
 use Rattle.make_record.specs.Write as writer
 use Rattle.make_record.proofs.Answers.{Written-so, written-so}
 use Rattle.text_lines.specs.Lines.{most, first_cut}
 use Rattle.text_lines.specs.Parts.{Numbered, numbered, together}
+use Rattle.std.specs.Prelude.{Ok, Err}
 use Rattle.writer.specs.declared.typed_line.Entry.{Entry}
 use Rattle.writer.specs.declared.typed_line.Said.{Said}
 use Rattle.writer.specs.declared.typed_line.Said.TheVariants as said
 use Rattle.writer.specs.Line.{line_said, completed_of, values_in, write_entry}
 use Rattle.writer.specs.declared.Typist.{Typist}
-use Rattle.writer.specs.Typist.{first_failed, beginning, hears, early, run_ended, withheld, headless, Turn, by_answer, by_write, close_by}
+use Rattle.std.specs.Prelude.{Option, None, Some, is_some}
+use Rattle.writer.specs.declared.Run.{Run}
+use Rattle.writer.proofs.Remembered.{no_some, none_of, some_of, some_not}
+use Rattle.writer.specs.Typist.{first_failed, beginning, hears, early_by, early, ended_by, run_ended, withheld, headless, Turn, by_answer, by_write}
+use Rattle.writer.specs.Typist.{close_by}
 use Rattle.writer.specs.Typist.{judged_turn, record_turn, by_said, turn, own_close, end_by, end_turn}
 use Rattle.writer.specs.Text.{text_lines, line_turn, typed_by, bytes_typed}
 use Rattle.writer.specs.Parts.{Output, output, whole, calls_over, with_end}
@@ -93,57 +97,54 @@ close-said d r k v = rw (k, v) refl
 pub record Went (t : Typist) (e : Entry) (x : Turn) : Type 0 where
   pub bytes : x.bytes ≡ record_said t.state.account.records e
   pub records : x.typist.state.account.records ≡ suc t.state.account.records
-  pub close : x.typist.waiting.close ≡ 0
+  pub close : x.typist.waiting.close ≡ None
 
 -- or it is a close, and waits
 pub record Waited (t : Typist) (e : Entry) (x : Turn) : Type 0 where
   pub bytes : x.bytes ≡ []
   pub state : x.typist.state ≡ t.state
-  pub close : x.typist.waiting.close ≡ 0 → ⊥
+  pub close : x.typist.waiting.close ≡ None → ⊥
   pub own : record_said t.state.account.records e ≡ record_said t.state.account.records own_close
 
 pub record After (t : Typist) (e : Entry) (x : Turn) : Type 0 where
   pub stage : x.typist.state.account.stage < 2
-  pub calm : (x.typist.waiting.close ≡ 0 → ⊥) → x.typist.failed ≡ 0
-  pub good : x.typist.failed ≡ 0 → ((t.failed ≡ 0) × (t.waiting.close ≡ 0)) × (Went t e x ⊎ Waited t e x)
+  pub calm : (x.typist.waiting.close ≡ None → ⊥) → x.typist.failed ≡ None
+  pub good : x.typist.failed ≡ None → ((t.failed ≡ None) × (t.waiting.close ≡ None)) × (Went t e x ⊎ Waited t e x)
 
 -- the typist v by which a line is judged, t being the one before it
 pub record Settled (t v : Typist) : Type 0 where
   pub state : v.state ≡ t.state
-  pub close : v.waiting.close ≡ 0
-  pub failed : v.failed ≡ 0 → (t.failed ≡ 0) × (t.waiting.close ≡ 0)
+  pub close : v.waiting.close ≡ None
+  pub failed : v.failed ≡ None → (t.failed ≡ None) × (t.waiting.close ≡ None)
 
-first-not : (f n : ℕ) → 1 ≤ n → first_failed f n ≡ 0 → ⊥
-first-not f n l = of-choice (λ (x : ℕ). x ≡ 0 → ⊥) (eqb f 0) (λ _ e. omega arith) (λ g e. eqb-false f 0 g e)
-
-positive : (n : ℕ) → (n ≡ 0 → ⊥) → 1 ≤ n
-positive n h = omega arith
+first-not : (f : Option ℕ) (n : ℕ) → first_failed f n ≡ None → ⊥
+first-not f n = no_some
 
 settled-early : (t : Typist) (k : ℕ) → Settled t (early (hears t k))
 unfolding early
-settled-early t k =
-    of-choice (Settled t) (eqb t.waiting.close 0)
-    (λ z. let c = eqb-true _ _ z in record { state = refl; close = c; failed = λ f. (f, c) })
-    (λ f. record {
-      state = refl;
-      close = refl;
-      failed = λ e. absurd (first-not t.failed t.waiting.close (positive t.waiting.close (eqb-false _ _ f)) e);
-    })
+settled-early t k = go t.waiting.close refl
+  where
+    go : (o : Option ℕ) → t.waiting.close ≡ o → Settled t (early_by o (hears t k))
+    go None z = record { state = refl; close = z; failed = λ f. (f, z) }
+    go (Some close) z = record { state = refl; close = refl; failed = λ e. absurd (first-not t.failed close e) }
 
 settled-ended : (t u : Typist) → Settled t u → Settled t (run_ended u)
 unfolding run_ended
-settled-ended t u s =
-    of-choice (Settled t) (eqb u.waiting.first 0) (λ _. s) (λ _. record { state = s.state; close = s.close; failed = s.failed })
+settled-ended t u s = go u.waiting.run
+  where
+    go : (o : Option Run) → Settled t (ended_by o u)
+    go None = s
+    go (Some run) = record { state = s.state; close = s.close; failed = s.failed }
 
-all_three : (a b c : Bool) → a ≡ true → b ≡ true → a && (b && not c) ≡ false → c ≡ true
-all_three true true c p q r = not-false c r
+all_three : (a b c : Bool) → a ≡ true → b ≡ true → a && (b && c) ≡ false → c ≡ false
+all_three true true c p q r = r
 all_three true false c p q r = absurd (true≢false (sym q))
 all_three false b c p q r = absurd (true≢false (sym p))
 
 module _ (m : Mark) (h : List ℕ) (t v : Typist) (kept : Kept m h t) (open-yet : t.state.account.stage < 2) (set : Settled t v) (e : Entry)
     (n : ℕ) (l : 1 ≤ n) where
   -- a line that fails
-  fails : (x : Turn) → x.typist.state ≡ v.state → x.typist.waiting.close ≡ 0 → (x.typist.failed ≡ 0 → ⊥) → After t e x
+  fails : (x : Turn) → x.typist.state ≡ v.state → x.typist.waiting.close ≡ None → (x.typist.failed ≡ None → ⊥) → After t e x
   fails x a b f =
       record {
         stage = rw (a ∙ set.state) open-yet;
@@ -151,7 +152,7 @@ module _ (m : Mark) (h : List ℕ) (t v : Typist) (kept : Kept m h t) (open-yet 
         good = λ g. absurd (f g);
       }
 
-  not-withheld : withheld v e ≡ true → v.failed ≡ 0 → ⊥
+  not-withheld : withheld v e ≡ true → v.failed ≡ None → ⊥
   not-withheld g z = true≢false (sym g ∙ rw z (and_none (eqb e.kind 8) (eqb v.state.account.stage 1)))
     where
       and_none : (a b : Bool) → a && (b && false) ≡ false
@@ -168,23 +169,23 @@ module _ (m : Mark) (h : List ℕ) (t v : Typist) (kept : Kept m h t) (open-yet 
   close-after eight g = go (write_entry v.state e 28).answer refl
     where
       go : (a : Answer) → (write_entry v.state e 28).answer ≡ a → After t e (close_by a v n e)
-      go (answers.Refused r) q = fails _ refl set.close (first-not v.failed n l)
-      go answers.Wrote q =
+      go (Err r) q = fails _ refl set.close (first-not v.failed n)
+      go (Ok u) q =
           let d = completed_of e v.state.account.records in
           let kind : d.kind ≡ 8 = completed-kind e v.state.account.records ∙ eight in
           let so = subst (λ (k : ℕ). Written-so v.state k (writer.row_for k (length (values_in d))) (values_in d) 28) kind
           (written-so v.state d.kind (writer.row_for d.kind (length (values_in d))) (values_in d) 28 q) in
-          let calm = all_three (eqb e.kind 8) (eqb v.state.account.stage 1) (eqb v.failed 0) (eq-eqb _ _ eight)
+          let calm = all_three (eqb e.kind 8) (eqb v.state.account.stage 1) (is_some v.failed) (eq-eqb _ _ eight)
           (eq-eqb _ _ (is_open v.state (values_in d) 28 so)) g in
           record {
             stage = rw set.state open-yet;
-            calm = λ _. eqb-true _ _ calm;
+            calm = λ _. none_of v.failed calm;
             good = λ f. (
               set.failed f,
               inr (record {
                 bytes = refl;
                 state = set.state;
-                close = λ z. omega arith;
+                close = no_some;
                 own =
                     ap (λ (x : State). record_said x.account.records e) (sym set.state)
                     ∙ close-said d v.state.account.records kind (right-count v.state (values_in d) 28 so)
@@ -193,8 +194,8 @@ module _ (m : Mark) (h : List ℕ) (t v : Typist) (kept : Kept m h t) (open-yet 
             );
           }
 
-  wrote_after : (e.kind ≡ 8 → ⊥) → (write_entry v.state e 28).answer ≡ answers.Wrote
-      → After t e (by_answer answers.Wrote v n e (write_entry v.state e 28).state (write_entry v.state e 28).bytes)
+  wrote_after : (e.kind ≡ 8 → ⊥) → (write_entry v.state e 28).answer ≡ Ok tt
+      → After t e (by_answer (Ok tt) v n e (write_entry v.state e 28).state (write_entry v.state e 28).bytes)
   wrote_after k q =
       let d = completed_of e v.state.account.records in
       let row = writer.row_for d.kind (length (values_in d)) in
@@ -226,8 +227,8 @@ module _ (m : Mark) (h : List ℕ) (t v : Typist) (kept : Kept m h t) (open-yet 
     where
       go : (a : Answer) → (write_entry v.state e 28).answer ≡ a
           → After t e (by_answer a v n e (write_entry v.state e 28).state (write_entry v.state e 28).bytes)
-      go answers.Wrote q = wrote_after k q
-      go (answers.Refused r) q = fails _ refl set.close (first-not v.failed n l)
+      go (Ok u) q = wrote_after k q
+      go (Err r) q = fails _ refl set.close (first-not v.failed n)
 
   turn-after : After t e (judged_turn v n e 28)
   unfolding judged_turn
@@ -239,7 +240,7 @@ record-after : (m : Mark) (h : List ℕ) (t u : Typist) → Kept m h t → t.sta
     → After t e (record_turn u n e 28)
 unfolding record_turn
 record-after m h t u k o s e n l =
-    of-choice (After t e) (headless u e) (λ _. fails m h t u k o s e n l _ refl s.close (first-not u.failed n l))
+    of-choice (After t e) (headless u e) (λ _. fails m h t u k o s e n l _ refl s.close (first-not u.failed n))
     (λ _. turn-after m h t (run_ended u) k o (settled-ended t u s) e n l)
 
 -- ---- a line
@@ -248,7 +249,7 @@ record-after m h t u k o s e n l =
 abbrev Did : Said → Typist → Entry → Turn → Type 0
 Did said.Nothing t e x = (x.typist ≡ t) × (x.bytes ≡ [])
 Did said.Record t e x = After t e x
-Did (said.Wrong k place) t e x = (x.typist.state.account.stage < 2) × ((x.typist.waiting.close ≡ 0) × (x.typist.failed ≡ 0 → ⊥))
+Did (said.Wrong k place) t e x = (x.typist.state.account.stage < 2) × ((x.typist.waiting.close ≡ None) × (x.typist.failed ≡ None → ⊥))
 
 said-did : (m : Mark) (h : List ℕ) (t : Typist) → Kept m h t → t.state.account.stage < 2 → (s : Said) (e : Entry) (n : ℕ) → 1 ≤ n
     → Did s t e (by_said s t n e 28)
@@ -256,24 +257,24 @@ said-did m h t k o said.Nothing e n l = (refl, refl)
 said-did m h t k o said.Record e n l = record-after m h t (early (hears t e.kind)) k o (settled-early t e.kind) e n l
 said-did m h t k o (said.Wrong kind place) e n l =
     let s = settled-ended t (early (hears t kind)) (settled-early t kind) in
-    (rw s.state o, (s.close, first-not (run_ended (early (hears t kind))).failed n l))
+    (rw s.state o, (s.close, first-not (run_ended (early (hears t kind))).failed n))
 
 -- ---- all lines
 
 -- the close that is written at the end, where one waits
 abbrev close_of : Typist → List ℕ
-close_of r = pick (eqb r.waiting.close 0) [] (record_said r.state.account.records own_close)
+close_of r = pick (is_some r.waiting.close) (record_said r.state.account.records own_close) []
 
 -- r and bs are what the lines ls make of the typist t
 record Lines (t : Typist) (ls : List Numbered) (r : Typist) (bs : List ℕ) : Type 0 where
   stage : r.state.account.stage < 2
-  calm : (r.waiting.close ≡ 0 → ⊥) → r.failed ≡ 0
-  ok : r.failed ≡ 0 → t.failed ≡ 0
-  read : r.failed ≡ 0 → EachRead ls
-  open-on : r.failed ≡ 0 → t.waiting.close ≡ 0 → bs ++ close_of r ≡ records_said t.state.account.records ls
-  waits-on : r.failed ≡ 0 → (t.waiting.close ≡ 0 → ⊥) → (bs ≡ []) × (((n : ℕ) → records_said n ls ≡ []) × (r ≡ t))
+  calm : (r.waiting.close ≡ None → ⊥) → r.failed ≡ None
+  ok : r.failed ≡ None → t.failed ≡ None
+  read : r.failed ≡ None → EachRead ls
+  open-on : r.failed ≡ None → t.waiting.close ≡ None → bs ++ close_of r ≡ records_said t.state.account.records ls
+  waits-on : r.failed ≡ None → (t.waiting.close ≡ None → ⊥) → (bs ≡ []) × (((n : ℕ) → records_said n ls ≡ []) × (r ≡ t))
 
-none_more : (t : Typist) → t.state.account.stage < 2 → ((t.waiting.close ≡ 0 → ⊥) → t.failed ≡ 0) → Lines t [] t []
+none_more : (t : Typist) → t.state.account.stage < 2 → ((t.waiting.close ≡ None → ⊥) → t.failed ≡ None) → Lines t [] t []
 unfolding EachRead records_said
 none_more t o c =
     record {
@@ -281,7 +282,7 @@ none_more t o c =
       calm = c;
       ok = λ f. f;
       read = λ _. tt;
-      open-on = λ _ z. rw (eq-eqb _ _ z) refl;
+      open-on = λ _ z. rw z refl;
       waits-on = λ _ _. (refl, (λ n. refl, refl));
     }
 
@@ -289,11 +290,11 @@ none_more t o c =
 module _ (t : Typist) (l : Numbered) (ls : List Numbered) (x : Turn) (r : Typist) (bs : List ℕ) (y : Lines x.typist ls r bs) where
   abbrev Both : Said → Entry → Type 0
   Both s e =
-      ((r.failed ≡ 0 → t.failed ≡ 0) × (r.failed ≡ 0 → IsRead s))
-      × ((r.failed ≡ 0 → t.waiting.close ≡ 0 → (x.bytes ++ bs) ++ close_of r
+      ((r.failed ≡ None → t.failed ≡ None) × (r.failed ≡ None → IsRead s))
+      × ((r.failed ≡ None → t.waiting.close ≡ None → (x.bytes ++ bs) ++ close_of r
       ≡ says_then s (record_said t.state.account.records e) (records_said t.state.account.records ls) (records_said (suc
       t.state.account.records) ls))
-      × (r.failed ≡ 0 → (t.waiting.close ≡ 0 → ⊥)
+      × (r.failed ≡ None → (t.waiting.close ≡ None → ⊥)
       → (x.bytes ++ bs ≡ []) × (((n : ℕ) → says_then s (record_said n e) (records_said n ls) (records_said (suc n) ls) ≡ []) × (r ≡ t))))
 
   nothing-both : (e : Entry) → x.typist ≡ t → x.bytes ≡ [] → Both said.Nothing e
@@ -312,7 +313,7 @@ module _ (t : Typist) (l : Numbered) (ls : List Numbered) (x : Turn) (r : Typist
     (λ f z. ⊎_elim (λ w. went f w) (λ w. waited f w) (a.good (y.ok f)).1, λ f z. absurd (z (a.good (y.ok f)).0.1)),
   )
     where
-      went : r.failed ≡ 0 → Went t e x → (x.bytes ++ bs) ++ close_of r
+      went : r.failed ≡ None → Went t e x → (x.bytes ++ bs) ++ close_of r
           ≡ record_said t.state.account.records e ++ records_said (suc t.state.account.records) ls
       went f w =
           append_assoc x.bytes bs (close_of r)
@@ -320,16 +321,16 @@ module _ (t : Typist) (l : Numbered) (ls : List Numbered) (x : Turn) (r : Typist
           ∙ ap (λ (b : List ℕ). record_said t.state.account.records e ++ b) (y.open-on f w.close
           ∙ ap (λ (n : ℕ). records_said n ls) w.records)
 
-      waited : r.failed ≡ 0 → Waited t e x → (x.bytes ++ bs) ++ close_of r
+      waited : r.failed ≡ None → Waited t e x → (x.bytes ++ bs) ++ close_of r
           ≡ record_said t.state.account.records e ++ records_said (suc t.state.account.records) ls
       waited f w =
           let q = y.waits-on f w.close in
           let own : close_of x.typist ≡ record_said t.state.account.records own_close =
-          rw (ne_eqb _ _ w.close) (ap (λ (s : State). record_said s.account.records own_close) w.state) in
+          rw (some_of _ w.close) (ap (λ (s : State). record_said s.account.records own_close) w.state) in
           rw (w.bytes, q.0, q.1.0 (suc t.state.account.records), append-nil (record_said t.state.account.records e))
           (ap close_of q.1.1 ∙ own ∙ sym w.own)
 
-  wrong-both : (k place : ℕ) (e : Entry) → (x.typist.failed ≡ 0 → ⊥) → Both (said.Wrong k place) e
+  wrong-both : (k place : ℕ) (e : Entry) → (x.typist.failed ≡ None → ⊥) → Both (said.Wrong k place) e
   wrong-both k place e n =
       ((λ f. absurd (n (y.ok f)), λ f. absurd (n (y.ok f))), (λ f z. absurd (n (y.ok f)), λ f z. absurd (n (y.ok f))))
 
@@ -343,8 +344,8 @@ did-open said.Nothing t e x o d = rw d.0 o
 did-open said.Record t e x o d = d.stage
 did-open (said.Wrong k place) t e x o d = d.0
 
-did-calm : (s : Said) (t : Typist) (e : Entry) (x : Turn) → ((t.waiting.close ≡ 0 → ⊥) → t.failed ≡ 0) → Did s t e x
-    → (x.typist.waiting.close ≡ 0 → ⊥) → x.typist.failed ≡ 0
+did-calm : (s : Said) (t : Typist) (e : Entry) (x : Turn) → ((t.waiting.close ≡ None → ⊥) → t.failed ≡ None) → Did s t e x
+    → (x.typist.waiting.close ≡ None → ⊥) → x.typist.failed ≡ None
 did-calm said.Nothing t e x c d = rw d.0 c
 did-calm said.Record t e x c d = d.calm
 did-calm (said.Wrong k place) t e x c d = λ z. absurd (z d.1.0)
@@ -355,7 +356,7 @@ unfolding turn
 line-did m h t k o l p = said-did m h t k o (line_said (text_of l)).said (line_said (text_of l)).entry l.number p
 
 all_lines : (lines : List (List ℕ)) (n : ℕ) → 1 ≤ n → (m : Mark) (h : List ℕ) (t : Typist) → Kept m h t → t.state.account.stage < 2
-    → ((t.waiting.close ≡ 0 → ⊥) → t.failed ≡ 0)
+    → ((t.waiting.close ≡ None → ⊥) → t.failed ≡ None)
     → Lines t (numbered n lines) (typed_by t (numbered n lines)).typist (bytes_typed (typed_by t (numbered n lines)).turns)
 unfolding numbered typed_by bytes_typed EachRead records_said
 all_lines [] n p m h t k o c = none_more t o c
@@ -381,31 +382,31 @@ all_lines (b ∷ lines) n p m h t k o c =
 
 -- only a close that waits closes the book, and is written
 end-closes : (r : Typist) → r.state.account.stage < 2 → (end_turn true r record_most).typist.state.account.stage ≡ 2
-    → (r.waiting.close ≡ 0 → ⊥) × ((end_turn true r record_most).bytes ≡ close_of r)
+    → (r.waiting.close ≡ None → ⊥) × ((end_turn true r record_most).bytes ≡ close_of r)
 unfolding end_turn
 end-closes r o =
-    of-choice (λ (x : Turn). x.typist.state.account.stage ≡ 2 → (r.waiting.close ≡ 0 → ⊥) × (x.bytes ≡ close_of r))
-    (not (eqb r.waiting.close 0)) (λ g. closing (eqb-false _ _ (not-true _ g)) (write_entry (run_ended r).state own_close record_most).answer refl)
+    of-choice (λ (x : Turn). x.typist.state.account.stage ≡ 2 → (r.waiting.close ≡ None → ⊥) × (x.bytes ≡ close_of r))
+    (is_some r.waiting.close) (λ g. closing (some_not _ g) (write_entry (run_ended r).state own_close record_most).answer refl)
     (λ _ z. absurd (still_open z))
   where
     still_open : (run_ended r).state.account.stage ≡ 2 → ⊥
     still_open z = let e = ap (λ (s : State). s.account.stage) (sym (ended-state r)) ∙ z in omega arith
 
-    closing : (r.waiting.close ≡ 0 → ⊥) → (a : Answer) → (write_entry (run_ended r).state own_close record_most).answer ≡ a
+    closing : (r.waiting.close ≡ None → ⊥) → (a : Answer) → (write_entry (run_ended r).state own_close record_most).answer ≡ a
         → (end_by a (run_ended r) (write_entry (run_ended r).state own_close record_most).state
         (write_entry (run_ended r).state own_close record_most).bytes
         ).typist.state.account.stage ≡ 2
-        → (r.waiting.close ≡ 0 → ⊥)
+        → (r.waiting.close ≡ None → ⊥)
         × ((end_by a (run_ended r) (write_entry (run_ended r).state own_close record_most).state (write_entry
         (run_ended r).state own_close record_most).bytes).bytes
         ≡ close_of r)
-    closing n (answers.Refused f) q z = absurd (still_open z)
-    closing n answers.Wrote q z =
+    closing n (Err f) q z = absurd (still_open z)
+    closing n (Ok u) q z =
         let d = completed_of own_close (run_ended r).state.account.records in
         let so = written-so (run_ended r).state d.kind (writer.row_for d.kind (length (values_in d))) (values_in d) record_most q in (
           n,
           ap (λ (w : writer.Write). w.bytes) so.is ∙ ap (λ (s : State). record_said s.account.records own_close) (ended-state r)
-              ∙ rw (ne_eqb _ _ n) refl,
+              ∙ rw (some_of _ n) refl,
         )
 
 -- the text of some lines, typed after no record, with its end

@@ -3,7 +3,8 @@
 use Prim.Native.Nat.{ℕ}
 use mathlib.Core.Path.{◌≡◌, refl, sym, ap, ◌∙◌}
 use mathlib.Core.List.{List, []}
-use mathlib.Core.Bool.{Bool, true, false, ◌&&◌, not}
+use mathlib.Core.Bool.{Bool, true, false, ◌&&◌}
+use Rattle.std.specs.Prelude.{is_some}
 use lib.ListN.{length}
 use lib.Dec.{eqb}
 use Rattle.codec.specs.Table.{record_most}
@@ -11,10 +12,10 @@ use borrow.Author.Tests.{ne_eqb}
 use Rattle.account.specs.Sorts.{is_of_group}
 use Rattle.account.specs.declared.Refusal.{Refusal}
 use Rattle.book.specs.declared.State.{State}
-use Rattle.make_record.specs.declared.Answer.{Answer}
-use Rattle.make_record.specs.declared.Answer.TheVariants as answers
+use Rattle.make_record.specs.Write.{Answer}
 use Rattle.make_record.specs.declared.Written.{Written}
 use Rattle.make_record.specs.Write as writer
+use Rattle.std.specs.Prelude.{Ok, Err}
 use Rattle.writer.specs.declared.typed_line.Entry.{Entry}
 use Rattle.writer.specs.declared.typed_line.Line.{Line}
 use Rattle.writer.specs.Line.{line_said, write_entry}
@@ -58,13 +59,13 @@ module _ (t : Typist) (n : ℕ) (e : Entry) (room : ℕ) where
 
 -- a close writes nothing yet
 pub close-waits : (a : Answer) (t : Typist) (n : ℕ) (e : Entry) (out : List ℕ) → out ≡ turn_laid (close_by a t n e) out
-close-waits answers.Wrote t n e out = refl
-close-waits (answers.Refused r) t n e out = refl
+close-waits (Ok u) t n e out = refl
+close-waits (Err r) t n e out = refl
 
 by_count : (a : Answer) (t : Typist) (n : ℕ) (e : Entry) (s : State) (bytes : List ℕ)
     → entered_by a t n e s (length bytes) ≡ entered_of (by_answer a t n e s bytes)
-by_count answers.Wrote t n e s bytes = refl
-by_count (answers.Refused r) t n e s bytes = refl
+by_count (Ok u) t n e s bytes = refl
+by_count (Err r) t n e s bytes = refl
 
 -- a refusal writes nothing
 same_bytes : (s : State) (k row : ℕ) (v : List ℕ) (room : ℕ) (t : Typist) (n : ℕ) (e : Entry)
@@ -73,8 +74,8 @@ unfolding writer.write_row
 same_bytes s k row v room t n e = go (writer.answer_of (writer.refusals s k row v room))
   where
     go : (a : Answer) → (by_write t n e (writer.by_answer a s row v)).bytes ≡ (writer.by_answer a s row v).bytes
-    go answers.Wrote = refl
-    go (answers.Refused r) = refl
+    go (Ok u) = refl
+    go (Err r) = refl
 
 -- w is what the writer hands back for the entry, and out' its buffer
 pub judged : (t : Typist) (n : ℕ) (e : Entry) (out : List ℕ) {out' : List ℕ} {w : Written} {r : Entered}
@@ -97,8 +98,8 @@ end-bytes s k row v room t = go (writer.answer_of (writer.refusals s k row v roo
   where
     go : (a : Answer) → (end_by (writer.by_answer a s row v).answer t (writer.by_answer a s row v).state (writer.by_answer a s row v).bytes).bytes
         ≡ (writer.by_answer a s row v).bytes
-    go answers.Wrote = refl
-    go (answers.Refused r) = refl
+    go (Ok u) = refl
+    go (Err r) = refl
 
 -- w is what the writer hands back for the close at the end, and out' its buffer
 module _ (t : Typist) (out : List ℕ) {out' : List ℕ} {w : Written} (p : w ≡ writer.written_of (write_entry t.state own_close (length out)))
@@ -106,14 +107,14 @@ module _ (t : Typist) (out : List ℕ) {out' : List ℕ} {w : Written} (p : w �
   buffer-closed : out' ≡ turn_laid (closing_turn t (length out)) out
   buffer-closed = q ∙ rw (end-bytes _ _ _ _ _ t) refl
 
-  pub closes : w.answer ≡ answers.Wrote → {u : Typist} → u ≡ written_as t own_close w.state
+  pub closes : w.answer ≡ Ok tt → {u : Typist} → u ≡ written_as t own_close w.state
       → Gives (closing_turn t (length out)) out (record { typist = u; fate = Wrote 8; written = w.written }) out'
   closes a g =
       let x = write_entry t.state own_close (length out) in
-      let answer : x.answer ≡ answers.Wrote = ap (λ (y : Written). y.answer) (sym p) ∙ a in
+      let answer : x.answer ≡ Ok tt = ap (λ (y : Written). y.answer) (sym p) ∙ a in
       (rw (g, p, answer) refl, buffer-closed)
 
-  pub stays_open : {f : Refusal} → w.answer ≡ answers.Refused f
+  pub stays_open : {f : Refusal} → w.answer ≡ Err f
       → Gives (closing_turn t (length out)) out (record { typist = t; fate = Nothing; written = 0 }) out'
   stays_open a =
       let x = write_entry t.state own_close (length out) in
@@ -121,11 +122,11 @@ module _ (t : Typist) (out : List ℕ) {out' : List ℕ} {w : Written} (p : w �
       (rw answer refl, buffer-closed)
 
 module _ (good : Bool) (t : Typist) (room : ℕ) where
-  pub end-closing : good && not (eqb t.waiting.close 0) ≡ true → closing_turn (run_ended t) room ≡ end_turn good t room
+  pub end-closing : good && is_some t.waiting.close ≡ true → closing_turn (run_ended t) room ≡ end_turn good t room
   unfolding end_turn
   end-closing h = rw h refl
 
-  pub end-open : good && not (eqb t.waiting.close 0) ≡ false → record { typist = run_ended t; fate = Nothing; bytes = [] } ≡ end_turn good t room
+  pub end-open : good && is_some t.waiting.close ≡ false → record { typist = run_ended t; fate = Nothing; bytes = [] } ≡ end_turn good t room
   unfolding end_turn
   end-open h = rw h refl
 
@@ -141,11 +142,11 @@ module _ (t : Typist) (n : ℕ) (e : Entry) (room : ℕ) where
   gives-close h k g out =
       gives_same _ _ out (is-close t n e room h k) (g, close-waits (write_entry t.state e record_most).answer t n e out)
 
-  pub gives-headless : {b : Bool} → b ≡ is_of_group e.kind → b && not (eqb t.lost.line 0) ≡ true → {x : Typist} → x ≡ unheaded t n → (out : List ℕ)
+  pub gives-headless : {b : Bool} → b ≡ is_of_group e.kind → b && is_some t.lost ≡ true → {x : Typist} → x ≡ unheaded t n → (out : List ℕ)
       → Gives (record_turn t n e room) out (record { typist = x; fate = Without; written = 0 }) out
   gives-headless i f g out = gives_same _ _ out (is-headless t n e room (rw i at f)) (rw g refl, refl)
 
-  pub gives-on : {b : Bool} → b ≡ is_of_group e.kind → b && not (eqb t.lost.line 0) ≡ false → {u : Typist} → u ≡ run_ended t → (out : List ℕ)
+  pub gives-on : {b : Bool} → b ≡ is_of_group e.kind → b && is_some t.lost ≡ false → {u : Typist} → u ≡ run_ended t → (out : List ℕ)
       {r : Entered} {out' : List ℕ} → Gives (judged_turn u n e room) out r out' → Gives (record_turn t n e room) out r out'
   gives-on i f g out p = gives_same _ _ out (not-headless t n e room (rw i at f)) (rw g at p)
 
@@ -157,11 +158,11 @@ gives-judged t n e out h k p q f = gives_same _ _ out (is-judged t n e (length o
 
 -- w is what the writer hands back for a close that is judged
 module _ (t : Typist) (n : ℕ) (e : Entry) {w : Written} (p : w ≡ writer.written_of (write_entry t.state e record_most)) where
-  pub close-right : w.answer ≡ answers.Wrote → {x : Typist} → x ≡ waits t n
+  pub close-right : w.answer ≡ Ok tt → {x : Typist} → x ≡ waits t n
       → record { typist = x; fate = Waits; written = 0 } ≡ entered_of (close_by (write_entry t.state e record_most).answer t n e)
   close-right a g = let answer = ap (λ (y : Written). y.answer) (sym p) ∙ a in rw (g, answer) refl
 
-  pub close-refused : {f : Refusal} → w.answer ≡ answers.Refused f → {x : Typist} → x ≡ refused_at t n e.kind f.code
+  pub close-refused : {f : Refusal} → w.answer ≡ Err f → {x : Typist} → x ≡ refused_at t n e.kind f.code
       → record { typist = x; fate = Refused e.kind f; written = 0 } ≡ entered_of (close_by (write_entry t.state e record_most).answer t n e)
   close-refused a g = let answer = ap (λ (y : Written). y.answer) (sym p) ∙ a in rw (g, answer) refl
 

@@ -4,9 +4,9 @@ use Prim.Native.Nat.{ℕ, ◌≤◌, ◌<◌}
 use native.Mathlib.Omega.{arith}
 use mathlib.Core.Path.{◌≡◌, refl, sym, ap, ◌∙◌}
 use mathlib.Core.List.{List, [], ◌∷◌}
-use mathlib.Core.Bool.{Bool, true, false, ◌&&◌, ◌||◌, not, true≢false}
+use mathlib.Core.Bool.{Bool, true, false, ◌&&◌, ◌||◌, true≢false}
 use mathlib.Core.Logic.{◌⊎◌, inl, inr, ⊎_elim}
-use borrow.Author.Tests.{eq-eqb, ne_eqb, eqb-true, eqb-false, not-false, le-ltb}
+use borrow.Author.Tests.{eq-eqb, ne_eqb, eqb-true, eqb-false, le-ltb}
 use lib.ListN.{length}
 use lib.Dec.{eqb, leb, ltb}
 use Rattle.base.specs.Choice.{pick, one_more_lem}
@@ -23,11 +23,11 @@ use Rattle.account.proofs.Refusals.{passed, weighed-none, weighed-passes}
 use Rattle.book.proofs.Ranges.{range-test, range-idle}
 use Rattle.book.specs.declared.State.{State}
 use Rattle.book.specs.State.{InRange, in_range, no_record_yet}
-use Rattle.make_record.specs.declared.Answer.{Answer}
-use Rattle.make_record.specs.declared.Answer.TheVariants as answers
+use Rattle.make_record.specs.Write.{Answer}
 use Rattle.make_record.specs.Write as writer
 use Rattle.make_record.proofs.Answers.{Written-so, written-so}
 use Rattle.make_record.proofs.AsReader.{stays-in-range}
+use Rattle.std.specs.Prelude.{Ok, Err}
 use Rattle.writer.specs.declared.typed_line.Entry.{Entry}
 use Rattle.writer.specs.declared.typed_line.Said.{Said}
 use Rattle.writer.specs.declared.typed_line.Said.TheVariants as said
@@ -36,11 +36,17 @@ use Rattle.text_lines.specs.Parts.{Numbered, numbered}
 use Rattle.writer.specs.declared.Typist.{Typist}
 use Rattle.writer.specs.declared.Fate.{Fate}
 use Rattle.writer.specs.declared.Fate.TheVariants.{Wrote}
+use Rattle.writer.specs.declared.Cause.{Cause}
+use Rattle.writer.specs.declared.Cause.TheVariants as causes
 use Rattle.writer.specs.declared.Lost.{Lost}
-use Rattle.writer.specs.Typist.{may_head, not_lost, lost_by, beginning, hears, early, run_ended, refused_at, written_as, withheld, headless}
+use Rattle.writer.specs.declared.Run.{Run}
+use Rattle.std.specs.Prelude.{Option, None, Some, is_some}
+use Rattle.writer.specs.Typist.{may_head, not_lost, lost_by, beginning, hears, early_by, early, ended_by, run_ended, refused_at, written_as, withheld}
+use Rattle.writer.specs.Typist.{headless}
 use Rattle.writer.specs.Typist.{Turn, by_answer, by_write, close_by, judged_turn, record_turn, by_said, turn}
 use Rattle.writer.specs.Remarks.{kind_written}
 use Rattle.writer.specs.Text.{line_turn, typed_by}
+use Rattle.writer.proofs.Remembered.{no_some, none_of}
 use Rattle.writer.specs.Headings.{Mark, none, unknown, heading, mark_said, mark_line, text_of, last_mark, last_heading, Under}
 
 -- ---- kinds
@@ -93,13 +99,13 @@ own_row k count low = rw (ne_eqb k 1 (λ (e : k ≡ 1). omega arith)) refl
 pub record Kept (m : Mark) (h : List ℕ) (t : Typist) : Type 0 where
   pub range : InRange t.state
   pub empty : t.state.count ≡ 0
-  pub under : t.lost.line ≡ 0 → t.state.account.stage < 2 → (t.state.account.heading.class ≡ 0) ⊎ Under m h
+  pub under : t.lost ≡ None → t.state.account.stage < 2 → (t.state.account.heading.class ≡ 0) ⊎ Under m h
 
 -- a line that may have been a heading loses it
-still-lost : (b : Bool) (n cause : ℕ) (lost : Lost) (m : Mark) (h : List ℕ) (A : Type 0) → 1 ≤ n → (pick b (lost_by n cause) lost).line ≡ 0
-    → (lost.line ≡ 0 → A ⊎ Under m h) → A ⊎ Under (pick b unknown m) h
-still-lost true n cause lost m h A l z f = absurd (omega arith)
-still-lost false n cause lost m h A l z f = f z
+still-lost : (b : Bool) (n : ℕ) (cause : Cause) (lost : Option Lost) (m : Mark) (h : List ℕ) (A : Type 0)
+    → pick b (Some (lost_by n cause)) lost ≡ None → (lost ≡ None → A ⊎ Under m h) → A ⊎ Under (pick b unknown m) h
+still-lost true n cause lost m h A z f = absurd (no_some z)
+still-lost false n cause lost m h A z f = f z
 
 -- what is kept goes by the state and the lost heading alone
 kept_same : (m : Mark) (h : List ℕ) (t x : Typist) → Kept m h t → x.state ≡ t.state → x.lost ≡ t.lost → Kept m h x
@@ -107,28 +113,44 @@ kept_same m h t x k a b =
     record {
       range = rw a k.range;
       empty = rw a k.empty;
-      under = λ z early. rw a (k.under (ap (λ (l : Lost). l.line) (sym b) ∙ z) (rw a at early));
+      under = λ z early. rw a (k.under (sym b ∙ z) (rw a at early));
     }
 
 pub early-state : (t : Typist) → (early t).state ≡ t.state
 unfolding early
-early-state t = of-choice (λ (x : Typist). x.state ≡ t.state) (eqb t.waiting.close 0) (λ _. refl) (λ _. refl)
+early-state t = go t.waiting.close
+  where
+    go : (o : Option ℕ) → (early_by o t).state ≡ t.state
+    go None = refl
+    go (Some close) = refl
 
 pub early-lost : (t : Typist) → (early t).lost ≡ t.lost
 unfolding early
-early-lost t = of-choice (λ (x : Typist). x.lost ≡ t.lost) (eqb t.waiting.close 0) (λ _. refl) (λ _. refl)
+early-lost t = go t.waiting.close
+  where
+    go : (o : Option ℕ) → (early_by o t).lost ≡ t.lost
+    go None = refl
+    go (Some close) = refl
 
 pub ended-state : (t : Typist) → (run_ended t).state ≡ t.state
 unfolding run_ended
-ended-state t = of-choice (λ (x : Typist). x.state ≡ t.state) (eqb t.waiting.first 0) (λ _. refl) (λ _. refl)
+ended-state t = go t.waiting.run
+  where
+    go : (o : Option Run) → (ended_by o t).state ≡ t.state
+    go None = refl
+    go (Some run) = refl
 
 pub ended-lost : (t : Typist) → (run_ended t).lost ≡ t.lost
 unfolding run_ended
-ended-lost t = of-choice (λ (x : Typist). x.lost ≡ t.lost) (eqb t.waiting.first 0) (λ _. refl) (λ _. refl)
+ended-lost t = go t.waiting.run
+  where
+    go : (o : Option Run) → (ended_by o t).lost ≡ t.lost
+    go None = refl
+    go (Some run) = refl
 
 -- a kind that the book has not is refused by 3
 three : (s : State) (k : ℕ) (v : List ℕ) (room : ℕ) → in_range s ≡ true → s.account.stage < 2 → s.count ≡ 0 → ltb k 1 || ltb last_kind k ≡ true
-    → (writer.write s k v room).answer ≡ answers.Refused (writer.refusal_by 3 s.account.records)
+    → (writer.write s k v room).answer ≡ Err (writer.refusal_by 3 s.account.records)
 unfolding writer.write_row writer.refusals writer.answer_of
 three s k v room r early c g =
     rw (
@@ -162,39 +184,39 @@ module _ (m : Mark) (h : List ℕ) (t : Typist) (k : Kept m h t) (e : Entry) whe
 
   withheld-keeps : withheld t e ≡ true → (x : Typist) → x.state ≡ t.state → x.lost ≡ t.lost → Kept (mark_said said.Record e m) h x
   withheld-keeps g x a b =
-      let eight = eqb-true e.kind 8 (and_l (eqb e.kind 8) (eqb t.state.account.stage 1 && not (eqb t.failed 0)) g) in
+      let eight = eqb-true e.kind 8 (and_l (eqb e.kind 8) (eqb t.state.account.stage 1 && is_some t.failed) g) in
       stays (rw eight refl) (rw eight refl) x a b
 
   headless-keeps : headless t e ≡ true → (x : Typist) → x.state ≡ t.state → x.lost ≡ t.lost → Kept (mark_said said.Record e m) h x
   headless-keeps g x a b =
-      let p = group-no-head e.kind (and_l (is_of_group e.kind) (not (eqb t.lost.line 0)) g) in
+      let p = group-no-head e.kind (and_l (is_of_group e.kind) (is_some t.lost) g) in
       stays p.0 p.1 x a b
 
   -- refused by the number code, which is 3 for a kind that the book has not
   refused-keeps : (n : ℕ) → 1 ≤ n → (code : ℕ) → (t.state.account.stage < 2 → ltb e.kind 1 || ltb last_kind e.kind ≡ true → code ≡ 3)
       → (x : Typist)
-      → x.state ≡ t.state → x.lost ≡ pick (eqb e.kind 2 || eqb code 3) (lost_by n (pick (eqb e.kind 2) 0 2)) t.lost
+      → x.state ≡ t.state → x.lost ≡ pick (eqb e.kind 2 || eqb code 3) (Some (lost_by n (pick (eqb e.kind 2) causes.Heading causes.Refused))) t.lost
       → Kept (mark_said said.Record e m) h x
   refused-keeps n l code g x a b =
       record {
         range = rw a k.range;
         empty = rw a k.empty;
         under =
-            λ z early. rw a (marks (eqb e.kind 2) (ltb e.kind 1 || ltb last_kind e.kind) (eqb code 3) (pick (eqb e.kind 2) 0 2) (ap (λ
-            (y : Lost). y.line) (sym b) ∙ z)
+            λ z early. rw a (marks (eqb e.kind 2) (ltb e.kind 1 || ltb last_kind e.kind) (eqb code 3)
+            (pick (eqb e.kind 2) causes.Heading causes.Refused) (sym b ∙ z)
             (λ o. eq-eqb code 3 (g (rw a at early) o)) (λ y. k.under y (rw a at early)));
       }
     where
-      marks : {A : Type 0} (two out three' : Bool) (cause : ℕ) → (pick (two || three') (lost_by n cause) t.lost).line ≡ 0
-          → (out ≡ true → three' ≡ true) → (t.lost.line ≡ 0 → A ⊎ Under m h)
+      marks : {A : Type 0} (two out three' : Bool) (cause : Cause) → pick (two || three') (Some (lost_by n cause)) t.lost ≡ None
+          → (out ≡ true → three' ≡ true) → (t.lost ≡ None → A ⊎ Under m h)
           → A ⊎ Under (pick two (heading e) (pick (two || out) unknown m)) h
-      marks true out c cause z g f = absurd (omega arith)
-      marks false true c cause z g f = absurd (let y = rw (g refl) at z in omega arith)
-      marks false false true cause z g f = absurd (omega arith)
+      marks true out c cause z g f = absurd (no_some z)
+      marks false true c cause z g f = absurd (no_some (rw (g refl) at z))
+      marks false false true cause z g f = absurd (no_some z)
       marks false false false cause z g f = f z
 
   -- written: a heading is the one marked, and any other record keeps what was
-  wrote-keeps : (n : ℕ) → (write_entry t.state e 28).answer ≡ answers.Wrote
+  wrote-keeps : (n : ℕ) → (write_entry t.state e 28).answer ≡ Ok tt
       → Kept (mark_said said.Record e m) (pick (eqb e.kind 2) (write_entry t.state e 28).bytes h)
       (written_as t e (write_entry t.state e 28).state)
   wrote-keeps n q =
@@ -216,7 +238,7 @@ module _ (m : Mark) (h : List ℕ) (t : Typist) (k : Kept m h t) (e : Entry) whe
       by-kind : Written-so t.state (completed_of e t.state.account.records).kind
           (writer.row_for (completed_of e t.state.account.records).kind (length (values_in (completed_of e t.state.account.records))))
           (values_in (completed_of e t.state.account.records)) 28
-          → (eqb e.kind 2 ≡ true) ⊎ (eqb e.kind 2 ≡ false) → (pick (eqb e.kind 2) not_lost t.lost).line ≡ 0
+          → (eqb e.kind 2 ≡ true) ⊎ (eqb e.kind 2 ≡ false) → pick (eqb e.kind 2) not_lost t.lost ≡ None
           → ((write_entry t.state e 28).state.account.heading.class ≡ 0)
           ⊎ Under (mark_said said.Record e m) (pick (eqb e.kind 2) (write_entry t.state e 28).bytes h)
       by-kind so (inl y) z =
@@ -242,15 +264,15 @@ module _ (m : Mark) (h : List ℕ) (t : Typist) (k : Kept m h t) (e : Entry) whe
     where
       go : (a : Answer) → (write_entry t.state e 28).answer ≡ a
           → Keeps m h e (by_answer a t n e (write_entry t.state e 28).state (write_entry t.state e 28).bytes)
-      go answers.Wrote q = wrote-keeps n q
-      go (answers.Refused r) q =
+      go (Ok u) q = wrote-keeps n q
+      go (Err r) q =
           refused-keeps n l r.code
           (λ early out. same_code (sym q ∙ three t.state (completed_of e t.state.account.records).kind
           (values_in (completed_of e t.state.account.records)) 28 (range-test t.state k.range) early k.empty
           (rw (completed-kind e t.state.account.records) out)))
           (refused_at t n e.kind r.code) refl refl
         where
-          same_code : answers.Refused r ≡ answers.Refused (writer.refusal_by 3 t.state.account.records) → r.code ≡ 3
+          same_code : ◌≡◌ {A = Answer} (Err r) (Err (writer.refusal_by 3 t.state.account.records)) → r.code ≡ 3
           same_code f = let g : r ≡ writer.refusal_by 3 t.state.account.records = cc in ap (λ (x : Refusal). x.code) g
 
   -- a close is judged, and is not written here
@@ -261,8 +283,8 @@ module _ (m : Mark) (h : List ℕ) (t : Typist) (k : Kept m h t) (e : Entry) whe
       go eight ours (write_entry t.state e 28).answer
     where
       go : e.kind ≡ 8 → ltb e.kind 1 || ltb last_kind e.kind ≡ false → (a : Answer) → Keeps m h e (close_by a t n e)
-      go eight ours answers.Wrote = stays (rw eight refl) (rw eight refl) _ refl refl
-      go eight ours (answers.Refused r) =
+      go eight ours (Ok u) = stays (rw eight refl) (rw eight refl) _ refl refl
+      go eight ours (Err r) =
           refused-keeps n l r.code (λ _ out. absurd (true≢false (sym out ∙ ours))) (refused_at t n e.kind r.code) refl refl
 
   turn-keeps : (n : ℕ) → 1 ≤ n → Keeps m h e (judged_turn t n e 28)
@@ -293,7 +315,7 @@ said-keeps m h t k n l (said.Wrong kind place) e =
     record {
       range = y.range;
       empty = y.empty;
-      under = λ z early'. still-lost (may_head kind) n (pick (eqb kind 2) 0 1) x.lost m h _ l z (λ w. y.under w early');
+      under = λ z early'. still-lost (may_head kind) n (pick (eqb kind 2) causes.Heading causes.Unread) x.lost m h _ z (λ w. y.under w early');
     }
 
 pub line-keeps : (m : Mark) (h : List ℕ) (t : Typist) → Kept m h t → (l : Numbered) → 1 ≤ l.number
@@ -323,29 +345,29 @@ pub record Judged (t : Typist) (k : ℕ) : Type 0 where
   pub entry : Entry
   pub kind : entry.kind ≡ k
   pub kept : headless t entry ≡ false
-  pub wrote : (write_entry t.state entry 28).answer ≡ answers.Wrote
+  pub wrote : (write_entry t.state entry 28).answer ≡ Ok tt
 
 written-kind : (f : Fate) (k : ℕ) → f ≡ Wrote k → (j : ℕ) → f ≡ Wrote j → j ≡ k
 written-kind f k p j q = cc
 
 turn-judged : (t : Typist) (n : ℕ) (e : Entry) (k : ℕ) → (judged_turn t n e 28).fate ≡ Wrote k
-    → (e.kind ≡ k) × ((write_entry t.state e 28).answer ≡ answers.Wrote)
+    → (e.kind ≡ k) × ((write_entry t.state e 28).answer ≡ Ok tt)
 unfolding judged_turn
 turn-judged t n e k =
     of-choice P (withheld t e) (λ _ q. absurd (let z : ◌≡◌ {A = ℕ} 0 1 = cc in omega arith))
     (λ _. of-choice P (eqb e.kind 8) (λ _. no-close (write_entry t.state e 28).answer) (λ _. go (write_entry t.state e 28).answer refl))
   where
     P : Turn → Type 0
-    P x = x.fate ≡ Wrote k → (e.kind ≡ k) × ((write_entry t.state e 28).answer ≡ answers.Wrote)
+    P x = x.fate ≡ Wrote k → (e.kind ≡ k) × ((write_entry t.state e 28).answer ≡ Ok tt)
 
     no-close : (a : Answer) → P (close_by a t n e)
-    no-close answers.Wrote q = absurd (let z : ◌≡◌ {A = ℕ} 0 1 = cc in omega arith)
-    no-close (answers.Refused r) q = absurd (let z : ◌≡◌ {A = ℕ} 0 1 = cc in omega arith)
+    no-close (Ok u) q = absurd (let z : ◌≡◌ {A = ℕ} 0 1 = cc in omega arith)
+    no-close (Err r) q = absurd (let z : ◌≡◌ {A = ℕ} 0 1 = cc in omega arith)
 
     go : (a : Answer) → (write_entry t.state e 28).answer ≡ a
         → P (by_answer a t n e (write_entry t.state e 28).state (write_entry t.state e 28).bytes)
-    go answers.Wrote q f = (written-kind (Wrote e.kind) k f e.kind refl, q)
-    go (answers.Refused r) q f = absurd (let z : ◌≡◌ {A = ℕ} 0 1 = cc in omega arith)
+    go (Ok u) q f = (written-kind (Wrote e.kind) k f e.kind refl, q)
+    go (Err r) q f = absurd (let z : ◌≡◌ {A = ℕ} 0 1 = cc in omega arith)
 
 record-judged : (t : Typist) (n : ℕ) (e : Entry) (k : ℕ) → (record_turn t n e 28).fate ≡ Wrote k → Judged t k
 unfolding record_turn
@@ -361,7 +383,7 @@ as_before t kind k j =
     record {
       entry = j.entry;
       kind = j.kind;
-      kept = ap (λ (l : Lost). is_of_group j.entry.kind && not (eqb l.line 0)) (sym (early-lost u)) ∙ j.kept;
+      kept = ap (λ (l : Option Lost). is_of_group j.entry.kind && is_some l) (sym (early-lost u)) ∙ j.kept;
       wrote = ap (λ (s : State). (write_entry s j.entry 28).answer) (sym (early-state u)) ∙ j.wrote;
     }
 
@@ -383,11 +405,11 @@ under-it m h t kept k g j =
     let count = length (values_in (completed_of j.entry t.state.account.records)) in
     let grouped : is_of_group kind ≡ true = rw same g in
     let row : is_of_group (writer.row_for kind count) ≡ true = rw (own_row kind count (group-kinds kind grouped).0) grouped in
-    let found : t.lost.line ≡ 0 = not-lost (is_of_group j.entry.kind) (rw j.kind g) j.kept in
+    let found : t.lost ≡ None = not-lost (is_of_group j.entry.kind) (rw j.kind g) j.kept in
     ⊎_elim (λ z. absurd (needs-class t.state.account _ _ so.still row z)) (λ u. u) (kept.under found so.ready.early)
   where
-    not-lost : (b : Bool) → b ≡ true → b && not (eqb t.lost.line 0) ≡ false → t.lost.line ≡ 0
-    not-lost true p q = eqb-true t.lost.line 0 (not-false _ q)
+    not-lost : (b : Bool) → b ≡ true → b && is_some t.lost ≡ false → t.lost ≡ None
+    not-lost true p q = none_of t.lost q
     not-lost false p q = absurd (let z : ◌≡◌ {A = ℕ} 0 1 = cc in omega arith)
 
 -- Every written detail of a typed book stands under the heading of the last line before it whose kind is a heading or none of the book's: that line

@@ -9,3 +9,4 @@ pub mod HeadingTyped
 pub mod InParts
 pub mod OneAnswer
 mod Unusuals
+pub mod Remembered

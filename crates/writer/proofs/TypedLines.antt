@@ -16,7 +16,7 @@ use Rattle.base.proofs.Tests.{lt-or-ge}
 use Rattle.codec.specs.Table.{last_kind, last_row}
 use Rattle.std.specs.Prelude.{Option, Some, None}
 use Rattle.std.specs.Option.{option_or}
-use Rattle.typed_words.specs.Words.{nth_word, same_text_lem, lowered}
+use Rattle.typed_words.specs.Words.{nth_word, same_text_lem}
 use Rattle.typed_words.specs.Amounts.{amount_of}
 use Rattle.names.specs.Names.{kind_name, chosen, decimals_at}
 use Rattle.book.specs.declared.State.{State}
@@ -26,7 +26,7 @@ use Rattle.writer.specs.declared.typed_line.Values.{Values}
 use Rattle.writer.specs.declared.typed_line.Entry.{Entry}
 use Rattle.writer.specs.declared.typed_line.Said.TheVariants.{Nothing, Record, Wrong}
 use Rattle.writer.specs.Line.{named_from, kind_of, row_of_line, Read, nothing_more, wrong_at, with, value_at, values_from, padded, listed, entry}
-use Rattle.writer.specs.Line.{has_field, by_choice, no_record, by_kind, line_said, completed_of, values_in, write_entry}
+use Rattle.writer.specs.Line.{has_field, no_record, by_kind, line_said, completed_of, values_in, write_entry}
 
 -- ---- a word among the names of the kinds
 
@@ -37,7 +37,7 @@ module _ (w : List ℕ) (k : ℕ) (h : k < last_kind) {b : Bool} (f : b ≡ same
   test : b ≡ same_text_lem w (kind_name (suc k))
   test = rw add-one at f
 
-  pub named_here : b ≡ true → named_from (last_kind - k) k w ≡ k + 1
+  pub named_here : b ≡ true → named_from (last_kind - k) k w ≡ Some (k + 1)
   unfolding named_from
   named_here t = rw (more, ← test, t, add-one)
 
@@ -45,20 +45,9 @@ module _ (w : List ℕ) (k : ℕ) (h : k < last_kind) {b : Bool} (f : b ≡ same
   unfolding named_from
   named-on t = rw (more, ← test, t, add-one)
 
-pub named_none : (w : List ℕ) (k : ℕ) → last_kind ≤ k → named_from (last_kind - k) k w ≡ 0
+pub named_none : (w : List ℕ) (k : ℕ) → last_kind ≤ k → named_from (last_kind - k) k w ≡ None
 unfolding named_from
 named_none w k h = let z : last_kind - k ≡ 0 = omega arith in rw z
-
--- ---- a kind by its name, or by its number
-
-module _ (w : List ℕ) {n : ℕ} (e : n ≡ named_from last_kind 0 (lowered w)) where
-  pub by_number : {x : Option ℕ} → n ≡ 0 → x ≡ amount_of 0 w → x ≡ kind_of w
-  unfolding kind_of
-  by_number z f = rw (← e, eq-eqb _ _ z) f
-
-  pub by_name : (n ≡ 0 → ⊥) → Some n ≡ kind_of w
-  unfolding kind_of
-  by_name h = rw (← e, ne_eqb _ _ h)
 
 -- ---- the row of a line
 
@@ -79,19 +68,13 @@ module _ (kind : ℕ) (line : List ℕ) where
 
 -- ---- a value
 
-pub choice-none : (k : ℕ) → k ≡ 0 → None ≡ by_choice k
-choice-none k e = rw (eq-eqb k 0 e)
-
-pub choice-some : (k : ℕ) → (k ≡ 0 → ⊥) → Some k ≡ by_choice k
-choice-some k h = rw (ne_eqb k 0 h)
-
 module _ (row i : ℕ) (w : List ℕ) where
   pub not-read : has_field row i ≡ false → Some 0 ≡ value_at row i w
   unfolding value_at
   not-read f = rw f refl
 
   module _ (has : has_field row i ≡ true) {x : Option ℕ} (n : x ≡ amount_of (decimals_at row i) w) where
-    pub read-value : {y : Option ℕ} → y ≡ option_or x (by_choice (chosen row i w)) → y ≡ value_at row i w
+    pub read-value : {y : Option ℕ} → y ≡ option_or x (chosen row i w) → y ≡ value_at row i w
     unfolding value_at
     read-value f = rw (f, has, ← n)
 

@@ -18,14 +18,14 @@ use Rattle.writer.specs.declared.typed_line.Said.TheVariants.{Nothing, Record, W
 
 -- ---- the kind
 
--- the kind whose name the word w is, of the n kinds above k; 0 where it is none of them
-unfoldable pub named_from : ℕ → ℕ → List ℕ → ℕ
-named_from zero k w = 0
-named_from (suc n) k w = pick (same_text_lem w (kind_name (suc k))) (suc k) (named_from n (suc k) w)
+-- the kind whose name the word w is, of the n kinds above k; none where it is none of them
+unfoldable pub named_from : ℕ → ℕ → List ℕ → Option ℕ
+named_from zero k w = None
+named_from (suc n) k w = pick (same_text_lem w (kind_name (suc k))) (Some (suc k)) (named_from n (suc k) w)
 
 -- a kind by its name, in capitals or not, or else by a whole number
 unfoldable pub kind_of : List ℕ → Option ℕ
-kind_of w = pick (eqb (named_from last_kind 0 (lowered w)) 0) (amount_of 0 w) (Some (named_from last_kind 0 (lowered w)))
+kind_of w = option_or (named_from last_kind 0 (lowered w)) (amount_of 0 w)
 
 -- ---- the row of the table
 
@@ -58,14 +58,10 @@ with v r = record { values = v ∷ r.values; wrong = r.wrong }
 abbrev pub has_field : ℕ → ℕ → Bool
 has_field row i = ltb i (length (fields row))
 
--- the number k of a choice; 0 is none
-abbrev pub by_choice : ℕ → Option ℕ
-by_choice k = pick (eqb k 0) None (Some k)
-
 -- a word as the value of a row's field i: a number in the unit that people say, or the word of a choice. A word after the last field is counted
 -- and not read
 unfoldable pub value_at : ℕ → ℕ → List ℕ → Option ℕ
-value_at row i word = pick (has_field row i) (option_or (amount_of (decimals_at row i) word) (by_choice (chosen row i word))) (Some 0)
+value_at row i word = pick (has_field row i) (option_or (amount_of (decimals_at row i) word) (chosen row i word)) (Some 0)
 
 -- the value before those that r reads, or the place where there is none
 abbrev pub with_value : Option ℕ → ℕ → Read → Read

@@ -1,6 +1,7 @@
 -- What the person who types is told: a remark on each line that failed or was withheld, values that are unusual, a group where it ends, and the
 -- verdict.
-use Rattle.std.specs.Prelude.{ℕ, ◌+◌, ◌-◌, ◌*◌, min, Bool, true, false, ◌&&◌, ◌||◌, not, List, [], ◌++◌, length, get_or, drop, eqb, leb, is_some}
+use Rattle.std.specs.Prelude.{ℕ, ◌+◌, ◌-◌, ◌*◌, min, Bool, true, false, ◌&&◌, ◌||◌, not, List, [], ◌++◌, length, get_or, drop, eqb, leb}
+use Rattle.std.specs.Prelude.{Option, None, Some, is_some, unwrap_or}
 use Rattle.base.specs.Choice.{pick}
 use Rattle.base.specs.Bytes.{index_of}
 use Rattle.printing.specs.Ascii.{ascii}
@@ -18,10 +19,13 @@ use Rattle.account.specs.declared.Used.{Used}
 use Rattle.account.specs.declared.Refusal.{Refusal}
 use Rattle.writer.specs.declared.Typist.{Typist}
 use Rattle.writer.specs.declared.Counts.{Counts}
+use Rattle.writer.specs.declared.Cause.{Cause}
+use Rattle.writer.specs.declared.Cause.TheVariants as causes
 use Rattle.writer.specs.declared.Lost.{Lost}
+use Rattle.writer.specs.declared.Run.{Run}
 use Rattle.writer.specs.declared.Fate.{Fate}
 use Rattle.writer.specs.declared.Fate.TheVariants.{Nothing, Unread, Withheld, Waits, Without, Refused, Wrote}
-use Rattle.writer.specs.Typist.{early, run_ended}
+use Rattle.writer.specs.Typist.{lost_by, early, run_ended}
 use Rattle.writer.specs.Unusual.{unusual_remarks}
 
 -- ---- a line that is not read; xs is its text
@@ -167,11 +171,12 @@ refused_text r a e xs = ascii "refused " ++ (decimal r.code ++ ground_text r a e
 -- ---- a group: its days and its gases
 
 -- nothing where the days are those of the year, or where the year is not known
-abbrev pub of_year : ℕ → ℕ → List ℕ
-of_year days year = pick (eqb year 0 || eqb days year) [] (ascii " of " ++ decimal year)
+abbrev pub of_year : ℕ → Option ℕ → List ℕ
+of_year days None = []
+of_year days (Some year) = pick (eqb days year) [] (ascii " of " ++ decimal year)
 
 -- the days of kind k, where there are some; the Bool says that it is the first kind told
-unfoldable pub days_text : Bool → ℕ → ℕ → ℕ → List ℕ
+unfoldable pub days_text : Bool → ℕ → ℕ → Option ℕ → List ℕ
 days_text is_first k days year =
     pick (eqb days 0) []
     (pick is_first (ascii " ") (ascii ", ") ++ (kind_name k ++ (ascii " " ++ (decimal days ++ (ascii " days" ++ of_year days year)))))
@@ -179,7 +184,7 @@ days_text is_first k days year =
 abbrev pub no_days : Used → Bool
 no_days d = eqb d.enteric 0 && (eqb d.nitrogen 0 && eqb d.pig 0)
 
-unfoldable pub all_days : Used → ℕ → List ℕ
+unfoldable pub all_days : Used → Option ℕ → List ℕ
 all_days d year =
     pick (no_days d) (ascii " no days")
     (days_text true 3 d.enteric year
@@ -204,7 +209,7 @@ abbrev pub group_name : ℕ → List ℕ
 group_name group = ascii "group " ++ (decimal group ++ ascii " ")
 
 -- the group of the account, with class, head, days and gases; nothing before the first heading
-unfoldable pub group_text : Account → ℕ → List ℕ
+unfoldable pub group_text : Account → Option ℕ → List ℕ
 group_text a year =
     pick (eqb a.heading.group 0) []
     (group_name a.heading.group
@@ -220,27 +225,39 @@ abbrev pub message : ℕ → List ℕ → List ℕ
 message told text = pick (leb 20 told) [] text
 
 -- the close that waits is too early, since line n has a word
+abbrev pub early_words : Option ℕ → ℕ → ℕ → List ℕ
+early_words None told n = []
+early_words (Some close) told n = message told (line_head close ++ (ascii "close too early: line " ++ (decimal n ++ ascii " comes after it\n")))
+
 unfoldable pub early_text : Typist → ℕ → List ℕ
-early_text t n =
-    pick (eqb t.waiting.close 0) []
-    (message t.counts.told (line_head t.waiting.close ++ (ascii "close too early: line " ++ (decimal n ++ ascii " comes after it\n"))))
+early_text t n = early_words t.waiting.close t.counts.told n
+
+-- a line that may have been a heading, and what became of it
+abbrev pub may_text : ℕ → List ℕ → List ℕ
+may_text n became = ascii "line " ++ (decimal n ++ (ascii ", which may have been a heading, was " ++ became))
 
 -- by which line the heading was lost
+abbrev pub lost_words : Cause → ℕ → List ℕ
+lost_words causes.Heading n = ascii "the heading in line " ++ (decimal n ++ ascii " was not written")
+lost_words causes.Unread n = may_text n (ascii "not read")
+lost_words causes.Refused n = may_text n (ascii "refused")
+
 unfoldable pub lost_text : Lost → List ℕ
-lost_text l =
-    pick (eqb l.cause 0) (ascii "the heading in line " ++ (decimal l.line ++ ascii " was not written"))
-    (ascii "line "
-    ++ (decimal l.line ++ (ascii ", which may have been a heading, was " ++ pick (eqb l.cause 1) (ascii "not read") (ascii "refused"))))
+lost_text l = lost_words l.cause l.line
 
 -- the lines of a run
 abbrev pub run_head : ℕ → ℕ → List ℕ
 run_head first last = pick (eqb first last) (line_head first) (ascii "lines " ++ (decimal first ++ (ascii " to " ++ (decimal last ++ ascii ": "))))
 
--- the run without heading that is open
+-- the run without heading that is open; none is where no line lost the heading, and the words would then say line 0
+abbrev pub run_words : Option Run → Option Lost → ℕ → List ℕ
+run_words None lost told = []
+run_words (Some r) lost told =
+    message told
+    (run_head r.first r.last ++ (ascii "without heading: " ++ (lost_text (unwrap_or lost (lost_by 0 causes.Heading)) ++ ascii "\n")))
+
 unfoldable pub run_text : Typist → List ℕ
-run_text t =
-    pick (eqb t.waiting.first 0) []
-    (message t.counts.told (run_head t.waiting.first t.waiting.last ++ (ascii "without heading: " ++ (lost_text t.lost ++ ascii "\n"))))
+run_text t = run_words t.waiting.run t.lost t.counts.told
 
 -- a line that is told by itself
 abbrev pub is_told : Fate → Bool
@@ -256,7 +273,7 @@ is_told (Wrote k) = false
 unfoldable pub words_of : Fate → Typist → Entry → List ℕ → List ℕ
 words_of Nothing t e xs = []
 words_of (Unread k place) t e xs = unread_text k place xs
-words_of Withheld t e xs = withheld_text t.failed
+words_of Withheld t e xs = withheld_text (unwrap_or t.failed 0)
 words_of Waits t e xs = []
 words_of Without t e xs = []
 words_of (Refused k r) t e xs = refused_text r t.state.account e xs

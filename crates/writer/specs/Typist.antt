@@ -4,12 +4,12 @@
 -- book's, by a heading that is refused and by a line refused by 3, and found again by a heading that is written. A close that waits is written at the
 -- end of the text; a line with a word that comes after it makes it too early: it is not written, and counts as a line that failed.
 use Rattle.std.specs.Prelude.{ℕ, ◌%◌, Bool, true, false, ◌&&◌, ◌||◌, not, List, [], ◌++◌, length, get_or, drop, eqb, ltb}
+use Rattle.std.specs.Prelude.{Option, None, Some, Ok, Err, is_some, unwrap_or}
 use Rattle.base.specs.Choice.{pick, one_more_lem}
 use Rattle.codec.specs.Table.{last_kind, record_most}
 use Rattle.account.specs.Sorts.{is_of_group}
 use Rattle.book.specs.declared.State.{State}
-use Rattle.make_record.specs.declared.Answer.{Answer}
-use Rattle.make_record.specs.declared.Answer.TheVariants as answers
+use Rattle.make_record.specs.Write.{Answer}
 use Rattle.make_record.specs.Write.{Write}
 use Rattle.writer.specs.declared.typed_line.Entry.{Entry}
 use Rattle.writer.specs.declared.typed_line.Said.{Said}
@@ -17,7 +17,10 @@ use Rattle.writer.specs.declared.typed_line.Said.TheVariants as said
 use Rattle.writer.specs.Line.{line_said, entry, write_entry}
 use Rattle.writer.specs.Unusual.{unusual_after}
 use Rattle.writer.specs.declared.Typist.{Typist}
+use Rattle.writer.specs.declared.Cause.{Cause}
+use Rattle.writer.specs.declared.Cause.TheVariants as causes
 use Rattle.writer.specs.declared.Lost.{Lost}
+use Rattle.writer.specs.declared.Run.{Run}
 use Rattle.writer.specs.declared.Waiting.{Waiting}
 use Rattle.writer.specs.declared.Counts.{Counts}
 use Rattle.writer.specs.declared.Fate.{Fate}
@@ -32,16 +35,21 @@ may_head k = eqb k 2 || (ltb k 1 || ltb last_kind k)
 
 -- ---- what a typist remembers, part by part
 
--- line n lost the heading: its kind is a heading (0), or it may have been one and was not read (1) or refused (2)
-abbrev pub lost_by : ℕ → ℕ → Lost
+-- line n lost the heading: its kind is a heading, or it may have been one and was not read or refused
+abbrev pub lost_by : ℕ → Cause → Lost
 lost_by n cause = record { line = n; cause = cause }
 
-abbrev pub not_lost : Lost
-not_lost = lost_by 0 0
+abbrev pub not_lost : Option Lost
+not_lost = None
 
--- the line of a close that waits, and the first and the last line of a run without heading; 0 where there is none
-abbrev pub waiting_for : ℕ → ℕ → ℕ → Waiting
-waiting_for close first last = record { close = close; first = first; last = last }
+-- the line of a close that waits, and the first and the last line of a run without heading
+abbrev pub waiting_for : Option ℕ → Option Run → Waiting
+waiting_for close run = record { close = close; run = run }
+
+-- a run goes on with line n, or begins with it
+abbrev pub run_with : Option Run → ℕ → Run
+run_with None n = record { first = n; last = n }
+run_with (Some r) n = record { first = r.first; last = n }
 
 -- one message more
 abbrev pub one_told : Counts → Counts
@@ -81,8 +89,8 @@ one_written c unusual =
     record { written = one_more_lem c.written; refused = c.refused; unread = c.unread; without = c.without; unusual = unusual; told = c.told }
 
 -- the first line that failed
-abbrev pub first_failed : ℕ → ℕ → ℕ
-first_failed failed n = pick (eqb failed 0) n failed
+abbrev pub first_failed : Option ℕ → ℕ → Option ℕ
+first_failed failed n = Some (unwrap_or failed n)
 
 -- ---- the typist
 
@@ -91,10 +99,10 @@ abbrev pub beginning : State → Typist
 beginning s =
     record {
       state = s;
-      year = 0;
+      year = None;
       lost = not_lost;
-      failed = 0;
-      waiting = waiting_for 0 0 0;
+      failed = None;
+      waiting = waiting_for None None;
       counts = record { written = 0; refused = 0; unread = 0; without = 0; unusual = 0; told = 0 };
       heard = record { words = false; close = false };
     }
@@ -113,32 +121,38 @@ hears t k =
     }
 
 -- the close that waits is too early
-unfoldable pub early : Typist → Typist
-early t =
-    pick (eqb t.waiting.close 0) t
-    (record {
+abbrev pub early_by : Option ℕ → Typist → Typist
+early_by None t = t
+early_by (Some close) t =
+    record {
       state = t.state;
       year = t.year;
       lost = t.lost;
-      failed = first_failed t.failed t.waiting.close;
-      waiting = waiting_for 0 t.waiting.first t.waiting.last;
+      failed = first_failed t.failed close;
+      waiting = waiting_for None t.waiting.run;
       counts = one_told t.counts;
       heard = t.heard;
-    })
+    }
+
+unfoldable pub early : Typist → Typist
+early t = early_by t.waiting.close t
 
 -- the run without heading has ended
-unfoldable pub run_ended : Typist → Typist
-run_ended t =
-    pick (eqb t.waiting.first 0) t
-    (record {
+abbrev pub ended_by : Option Run → Typist → Typist
+ended_by None t = t
+ended_by (Some run) t =
+    record {
       state = t.state;
       year = t.year;
       lost = t.lost;
       failed = t.failed;
-      waiting = waiting_for t.waiting.close 0 0;
+      waiting = waiting_for t.waiting.close None;
       counts = one_told t.counts;
       heard = t.heard;
-    })
+    }
+
+unfoldable pub run_ended : Typist → Typist
+run_ended t = ended_by t.waiting.run t
 
 -- line n, of kind k or 0, is not read
 abbrev pub not_read : Typist → ℕ → ℕ → Typist
@@ -146,7 +160,7 @@ not_read t n k =
     record {
       state = t.state;
       year = t.year;
-      lost = pick (may_head k) (lost_by n (pick (eqb k 2) 0 1)) t.lost;
+      lost = pick (may_head k) (Some (lost_by n (pick (eqb k 2) causes.Heading causes.Unread))) t.lost;
       failed = first_failed t.failed n;
       waiting = t.waiting;
       counts = one_unread t.counts;
@@ -174,7 +188,7 @@ waits t n =
       year = t.year;
       lost = t.lost;
       failed = t.failed;
-      waiting = waiting_for n t.waiting.first t.waiting.last;
+      waiting = waiting_for (Some n) t.waiting.run;
       counts = t.counts;
       heard = t.heard;
     }
@@ -187,7 +201,7 @@ unheaded t n =
       year = t.year;
       lost = t.lost;
       failed = first_failed t.failed n;
-      waiting = waiting_for t.waiting.close (first_failed t.waiting.first n) n;
+      waiting = waiting_for t.waiting.close (Some (run_with t.waiting.run n));
       counts = one_without t.counts;
       heard = t.heard;
     }
@@ -198,7 +212,7 @@ refused_at t n k code =
     record {
       state = t.state;
       year = t.year;
-      lost = pick (eqb k 2 || eqb code 3) (lost_by n (pick (eqb k 2) 0 2)) t.lost;
+      lost = pick (eqb k 2 || eqb code 3) (Some (lost_by n (pick (eqb k 2) causes.Heading causes.Refused))) t.lost;
       failed = first_failed t.failed n;
       waiting = t.waiting;
       counts = one_refused t.counts;
@@ -214,7 +228,7 @@ abbrev pub written_as : Typist → Entry → State → Typist
 written_as t e s =
     record {
       state = s;
-      year = pick (eqb e.kind 1) (days_of_year (get_or e.values 1 0)) t.year;
+      year = pick (eqb e.kind 1) (Some (days_of_year (get_or e.values 1 0))) t.year;
       lost = pick (eqb e.kind 2) not_lost t.lost;
       failed = t.failed;
       waiting = t.waiting;
@@ -232,24 +246,24 @@ pub record Turn : Type 0 where
 
 -- by the writer's answer, with its state and its bytes
 abbrev pub by_answer : Answer → Typist → ℕ → Entry → State → List ℕ → Turn
-by_answer answers.Wrote t n e s bytes = record { typist = written_as t e s; fate = Wrote e.kind; bytes = bytes }
-by_answer (answers.Refused r) t n e s bytes = record { typist = refused_at t n e.kind r.code; fate = Refused e.kind r; bytes = [] }
+by_answer (Ok u) t n e s bytes = record { typist = written_as t e s; fate = Wrote e.kind; bytes = bytes }
+by_answer (Err r) t n e s bytes = record { typist = refused_at t n e.kind r.code; fate = Refused e.kind r; bytes = [] }
 
 abbrev pub by_write : Typist → ℕ → Entry → Write → Turn
 by_write t n e w = by_answer w.answer t n e w.state w.bytes
 
 -- a close is judged where it stands: one that is right waits
 abbrev pub close_by : Answer → Typist → ℕ → Entry → Turn
-close_by answers.Wrote t n e = record { typist = waits t n; fate = Waits; bytes = [] }
-close_by (answers.Refused r) t n e = record { typist = refused_at t n e.kind r.code; fate = Refused e.kind r; bytes = [] }
+close_by (Ok u) t n e = record { typist = waits t n; fate = Waits; bytes = [] }
+close_by (Err r) t n e = record { typist = refused_at t n e.kind r.code; fate = Refused e.kind r; bytes = [] }
 
 -- a close is withheld while the book is open and a line before it failed
 abbrev pub withheld : Typist → Entry → Bool
-withheld t e = eqb e.kind 8 && (eqb t.state.account.stage 1 && not (eqb t.failed 0))
+withheld t e = eqb e.kind 8 && (eqb t.state.account.stage 1 && is_some t.failed)
 
 -- a detail of the group while the heading is lost
 abbrev pub headless : Typist → Entry → Bool
-headless t e = is_of_group e.kind && not (eqb t.lost.line 0)
+headless t e = is_of_group e.kind && is_some t.lost
 
 -- the entry e in line n, for a buffer of room bytes, when no run is open
 unfoldable pub judged_turn : Typist → ℕ → Entry → ℕ → Turn
@@ -279,8 +293,8 @@ abbrev pub own_close : Entry
 own_close = entry 8 []
 
 abbrev pub end_by : Answer → Typist → State → List ℕ → Turn
-end_by answers.Wrote t s bytes = record { typist = written_as t own_close s; fate = Wrote 8; bytes = bytes }
-end_by (answers.Refused r) t s bytes = record { typist = t; fate = Nothing; bytes = [] }
+end_by (Ok u) t s bytes = record { typist = written_as t own_close s; fate = Wrote 8; bytes = bytes }
+end_by (Err r) t s bytes = record { typist = t; fate = Nothing; bytes = [] }
 
 -- the close that waits is written
 abbrev pub closing_turn : Typist → ℕ → Turn
@@ -290,7 +304,7 @@ closing_turn t room =
 -- at the end, where all of the text was read
 unfoldable pub end_turn : Bool → Typist → ℕ → Turn
 end_turn good t room =
-    pick (good && not (eqb t.waiting.close 0)) (closing_turn (run_ended t) room) (record { typist = run_ended t; fate = Nothing; bytes = [] })
+    pick (good && is_some t.waiting.close) (closing_turn (run_ended t) room) (record { typist = run_ended t; fate = Nothing; bytes = [] })
 
 -- ---- in a buffer
 
@@ -300,8 +314,8 @@ entered_of r = record { typist = r.typist; fate = r.fate; written = length r.byt
 
 -- the same by the count of the writer's bytes
 abbrev pub entered_by : Answer → Typist → ℕ → Entry → State → ℕ → Entered
-entered_by answers.Wrote t n e s count = record { typist = written_as t e s; fate = Wrote e.kind; written = count }
-entered_by (answers.Refused r) t n e s count = record { typist = refused_at t n e.kind r.code; fate = Refused e.kind r; written = 0 }
+entered_by (Ok u) t n e s count = record { typist = written_as t e s; fate = Wrote e.kind; written = count }
+entered_by (Err r) t n e s count = record { typist = refused_at t n e.kind r.code; fate = Refused e.kind r; written = 0 }
 
 -- the buffer after it: the record goes at its start; its bytes past those written stay
 abbrev pub turn_laid : Turn → List ℕ → List ℕ

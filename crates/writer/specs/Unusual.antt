@@ -1,5 +1,5 @@
 -- Values that are unusual go in and are told. By class or column; a close, a heading and the farm's own records have none.
-use Rattle.std.specs.Prelude.{ℕ, zero, suc, Bool, ◌&&◌, not, List, [], ◌++◌, length, get_or, eqb, leb}
+use Rattle.std.specs.Prelude.{ℕ, zero, suc, Bool, false, ◌&&◌, not, List, [], ◌++◌, length, get_or, eqb, leb, Option, Some, None}
 use Rattle.base.specs.Choice.{pick, one_more_lem}
 use Rattle.codec.specs.Table.{fields}
 use Rattle.printing.specs.Ascii.{ascii}
@@ -18,8 +18,10 @@ who_for a e = pick (eqb e.kind 10) (get_or e.values 1 0) a.heading.class
 abbrev pub is_looked_at : Entry → ℕ → Bool
 is_looked_at e i = not ((eqb e.kind 4 && eqb i 4) && eqb (get_or e.values 3 0) 0)
 
-abbrev pub outside : Usual → ℕ → Bool
-outside u v = u.some && not (leb u.low v && leb v u.high)
+-- nothing is outside where no values are usual
+abbrev pub outside : Option Usual → ℕ → Bool
+outside None v = false
+outside (Some u) v = not (leb u.low v && leb v u.high)
 
 -- the value of field i, counted from 0, is unusual
 unfoldable pub is_unusual : ℕ → Entry → ℕ → Bool

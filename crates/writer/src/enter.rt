@@ -1,33 +1,44 @@
 // What becomes of one line, and of the end of the text.
-ghost use Rattle.std.specs.Prelude.{◌≡◌, ◌≤◌, length};
+ghost use Rattle.std.specs.Prelude.{◌≡◌, ◌≤◌, eqb, get_or, None, Some, length};
 ghost use Rattle.base.specs.Choice.{pick, one_more_lem};
 ghost use Rattle.codec.specs.Table.{record_most};
 ghost use Rattle.writer.specs.declared.typed_line.Line.{Line};
+ghost use Rattle.writer.specs.declared.Cause.TheVariants as causes;
 ghost use Rattle.writer.specs.Line.{write_entry};
 ghost use Rattle.writer.specs.Typist.{one_told, one_unread, one_refused, one_without, one_written};
-ghost use Rattle.writer.specs.Typist.{may_head, first_failed, lost_by, hears, early, run_ended, not_read, withholding, waits, unheaded};
+ghost use Rattle.writer.specs.Typist.{may_head, first_failed, lost_by, run_with, hears, early, run_ended, not_read, withholding, waits, unheaded};
 ghost use Rattle.writer.specs.Typist.{refused_at, days_of_year, written_as, withheld, headless, close_by, judged_turn, record_turn, by_said};
 ghost use Rattle.writer.specs.Typist.{closing_turn, end_turn, entered_of, entered_by, turn_laid};
 
 use crate::typed_line::{Entry, Line, Said};
 use crate::unusual::unusual_after;
-use crate::{Counts, Entered, Fate, Heard, Lost, Typist};
+use crate::{Cause, Counts, Entered, Fate, Heard, Lost, Run, Typist, Waiting};
 use account::sort::is_of_group;
 use base::one_more;
 use book::State;
 use codec::kinds::{CLOSE, FARM, HEADING};
-use make_record::{Answer, Written};
+use make_record::Written;
 
-fn chosen(first: bool, a: u64, b: u64) -> u64
-    ensures { result ≡ pick first a b }
-{
-    if first { a } else { b }
-}
-
-fn first_failed(failed: u64, number: u64) -> u64
+fn first_failed(failed: Option<u64>, number: u64) -> Option<u64>
     ensures { result ≡ first_failed failed number }
 {
-    chosen(failed == 0, number, failed)
+    Some(failed.unwrap_or(number))
+}
+
+// A run goes on with line `number`, or begins with it.
+fn run_with(run: Option<Run>, number: u64) -> Run
+    ensures { result ≡ run_with run number }
+{
+    match run {
+        None => Run {
+            first: number,
+            last: number,
+        },
+        Some(open) => Run {
+            first: open.first,
+            last: number,
+        },
+    }
 }
 
 fn may_head(kind: u64) -> bool
@@ -39,11 +50,10 @@ fn may_head(kind: u64) -> bool
 fn days_of_year(year: u64) -> u64
     ensures { result ≡ days_of_year year }
 {
-    chosen(
-        (year % 4 == 0) & ((year % 100 != 0) | (year % 400 == 0)),
-        366,
-        365,
-    )
+    if (year % 4 == 0) & ((year % 100 != 0) | (year % 400 == 0)) {
+        return 366;
+    }
+    365
 }
 
 fn one_told(mut c: Counts) -> Counts
@@ -101,34 +111,41 @@ fn hears(mut t: Typist, kind: u64) -> Typist
 pub(crate) fn early(mut t: Typist) -> Typist
     ensures { result ≡ early t }
 {
-    let mut w = t.waiting;
-    if w.close == 0 {
-        return t;
+    let w = t.waiting;
+    match w.close {
+        None => t,
+        Some(close) => {
+            let counts = t.counts;
+            let told = one_told(counts);
+            t.failed = first_failed(t.failed, close);
+            t.waiting = Waiting {
+                close: None,
+                run: w.run,
+            };
+            t.counts = told;
+            t
+        }
     }
-    let counts = t.counts;
-    let told = one_told(counts);
-    t.failed = first_failed(t.failed, w.close);
-    w.close = 0;
-    t.waiting = w;
-    t.counts = told;
-    t
 }
 
 // The run without heading has ended.
 pub(crate) fn run_ended(mut t: Typist) -> Typist
     ensures { result ≡ run_ended t }
 {
-    let mut w = t.waiting;
-    if w.first == 0 {
-        return t;
+    let w = t.waiting;
+    match w.run {
+        None => t,
+        Some(_) => {
+            let counts = t.counts;
+            let told = one_told(counts);
+            t.waiting = Waiting {
+                close: w.close,
+                run: None,
+            };
+            t.counts = told;
+            t
+        }
     }
-    let counts = t.counts;
-    let told = one_told(counts);
-    w.first = 0;
-    w.last = 0;
-    t.waiting = w;
-    t.counts = told;
-    t
 }
 
 // A line with a word of the kind comes: what it does to a close that waits.
@@ -138,14 +155,42 @@ fn met(t: Typist, kind: u64) -> Typist
     early(hears(t, kind))
 }
 
-fn lost_by(may: bool, line: u64, cause: u64, before: Lost) -> Lost
-    ensures { result ≡ pick may (lost_by line cause) before }
+// Only a heading is known to be one.
+fn cause_of(kind: u64, other: Cause) -> Cause
+    ensures { result ≡ pick (eqb kind 2) causes.Heading other }
+{
+    if kind == HEADING {
+        return Cause::Heading;
+    }
+    other
+}
+
+fn lost_by(may: bool, line: u64, cause: Cause, before: Option<Lost>) -> Option<Lost>
+    ensures { result ≡ pick may (Some (lost_by line cause)) before }
 {
     if may {
-        return Lost {
-            line: line,
-            cause: cause,
-        };
+        return Some(Lost { line, cause });
+    }
+    before
+}
+
+// A heading that is written finds the heading again.
+fn lost_after(kind: u64, before: Option<Lost>) -> Option<Lost>
+    ensures { result ≡ pick (eqb kind 2) None before }
+{
+    if kind == HEADING {
+        return None;
+    }
+    before
+}
+
+// A farm record says the year.
+fn year_after(e: Entry, before: Option<u64>) -> Option<u64>
+    requires { length e.values ≡ 13 }
+    ensures { result ≡ pick (eqb e.kind 1) (Some (days_of_year (get_or e.values 1 0))) before }
+{
+    if e.kind == FARM {
+        return Some(days_of_year(e.values[1]));
     }
     before
 }
@@ -158,7 +203,7 @@ fn not_read(mut t: Typist, number: u64, kind: u64) -> Typist
     let lost = lost_by(
         may_head(kind),
         number,
-        chosen(kind == HEADING, 0, 1),
+        cause_of(kind, Cause::Unread),
         before,
     );
     let counted = one_unread(counts);
@@ -181,7 +226,7 @@ fn waits(mut t: Typist, number: u64) -> Typist
     ensures { result ≡ waits t number }
 {
     let mut w = t.waiting;
-    w.close = number;
+    w.close = Some(number);
     t.waiting = w;
     t
 }
@@ -192,8 +237,7 @@ fn unheaded(mut t: Typist, number: u64) -> Typist
     let mut w = t.waiting;
     let counts = t.counts;
     let counted = one_without(counts);
-    w.first = first_failed(w.first, number);
-    w.last = number;
+    w.run = Some(run_with(w.run, number));
     t.failed = first_failed(t.failed, number);
     t.waiting = w;
     t.counts = counted;
@@ -208,7 +252,7 @@ fn refused_at(mut t: Typist, number: u64, kind: u64, code: u64) -> Typist
     let lost = lost_by(
         (kind == HEADING) | (code == 3),
         number,
-        chosen(kind == HEADING, 0, 2),
+        cause_of(kind, Cause::Refused),
         before,
     );
     let counted = one_refused(counts);
@@ -222,14 +266,13 @@ fn written_as(mut t: Typist, e: Entry, state: State) -> Typist
     requires { length e.values ≡ 13 }
     ensures { result ≡ written_as t e state }
 {
-    let year = e.values[1];
     let s = t.state;
     let a = s.account;
     let before = t.lost;
     let counts = t.counts;
-    let lost = lost_by(e.kind == HEADING, 0, 0, before);
+    let lost = lost_after(e.kind, before);
     let counted = one_written(counts, unusual_after(a, e, counts.unusual));
-    t.year = chosen(e.kind == FARM, days_of_year(year), t.year);
+    t.year = year_after(e, t.year);
     t.lost = lost;
     t.counts = counted;
     t.state = state;
@@ -241,9 +284,8 @@ fn answered(t: Typist, number: u64, e: Entry, w: Written) -> Entered
     requires { length e.values ≡ 13 }
     ensures { result ≡ entered_by w.answer t number e w.state w.written }
 {
-    let answer = w.answer;
-    match answer {
-        Answer::Wrote => {
+    match w.answer {
+        Ok(()) => {
             let state = w.state;
             Entered {
                 typist: written_as(t, e, state),
@@ -251,7 +293,7 @@ fn answered(t: Typist, number: u64, e: Entry, w: Written) -> Entered
                 written: w.written,
             }
         }
-        Answer::Refused(refusal) => Entered {
+        Err(refusal) => Entered {
             typist: refused_at(t, number, e.kind, refusal.code as u64),
             fate: Fate::Refused(e.kind, refusal),
             written: 0,
@@ -266,14 +308,13 @@ fn enter_close(t: Typist, number: u64, e: Entry) -> Entered
     let mut unused = [0u8; codec::RECORD_MOST];
     let state = t.state;
     let w = crate::typed_line::write_entry(state, e, &mut unused);
-    let answer = w.answer;
-    match answer {
-        Answer::Wrote => Entered {
+    match w.answer {
+        Ok(()) => Entered {
             typist: waits(t, number),
             fate: Fate::Waits,
             written: 0,
         },
-        Answer::Refused(refusal) => Entered {
+        Err(refusal) => Entered {
             typist: refused_at(t, number, e.kind, refusal.code as u64),
             fate: Fate::Refused(e.kind, refusal),
             written: 0,
@@ -289,7 +330,7 @@ fn judge_record(t: Typist, number: u64, e: Entry, out: &mut [u8]) -> Entered
 {
     let state = t.state;
     let a = state.account;
-    if (e.kind == CLOSE) & ((a.stage == 1) & (t.failed != 0)) {
+    if (e.kind == CLOSE) & ((a.stage == 1) & t.failed.is_some()) {
         return Entered {
             typist: withholding(t),
             fate: Fate::Withheld,
@@ -308,7 +349,7 @@ fn enter_record(t: Typist, number: u64, e: Entry, out: &mut [u8]) -> Entered
     ensures result { result ≡ entered_of (record_turn t number e (length out.old)) }
     ensures buffer { out.new ≡ turn_laid (record_turn t number e (length out.old)) out.old }
 {
-    if is_of_group(e.kind) & (t.lost.line != 0) {
+    if is_of_group(e.kind) & t.lost.is_some() {
         return Entered {
             typist: unheaded(t, number),
             fate: Fate::Without,
@@ -355,9 +396,8 @@ fn close_book(t: Typist, out: &mut [u8]) -> Entered
     };
     let state = t.state;
     let w = crate::typed_line::write_entry(state, own, out);
-    let answer = w.answer;
-    match answer {
-        Answer::Wrote => {
+    match w.answer {
+        Ok(()) => {
             let closed = w.state;
             Entered {
                 typist: written_as(t, own, closed),
@@ -365,7 +405,7 @@ fn close_book(t: Typist, out: &mut [u8]) -> Entered
                 written: w.written,
             }
         }
-        Answer::Refused(_) => Entered {
+        Err(_) => Entered {
             typist: t,
             fate: Fate::Nothing,
             written: 0,
@@ -379,7 +419,7 @@ pub(crate) fn end(t: Typist, good: bool, out: &mut [u8]) -> Entered
     ensures buffer { out.new ≡ turn_laid (end_turn good t (length out.old)) out.old }
 {
     let ended = run_ended(t);
-    if good & (t.waiting.close != 0) {
+    if good & t.waiting.close.is_some() {
         return close_book(ended, out);
     }
     Entered {

@@ -9,15 +9,20 @@ use account::{Account, Used};
 use grams::rounding::round_div;
 use printing::{say, say_number, say_pointed};
 
-fn say_of_year(out: &mut [u8], at: usize, days: u64, year: u64) -> usize
+fn say_of_year(out: &mut [u8], at: usize, days: u64, year: Option<u64>) -> usize
     requires { at ≤ length out.old }
     ensures { Said out.old out.new at (of_year days year) result }
 {
-    if (year == 0) | (days == year) {
-        return at;
+    match year {
+        None => at,
+        Some(whole) => {
+            if days == whole {
+                return at;
+            }
+            let head = say(out, at, b" of ");
+            say_number(out, head, whole)
+        }
     }
-    let head = say(out, at, b" of ");
-    say_number(out, head, year)
 }
 
 fn say_between(out: &mut [u8], at: usize, first: bool) -> usize
@@ -30,7 +35,14 @@ fn say_between(out: &mut [u8], at: usize, first: bool) -> usize
     say(out, at, b", ")
 }
 
-fn say_days(out: &mut [u8], at: usize, first: bool, kind: u64, days: u64, year: u64) -> usize
+fn say_days(
+    out: &mut [u8],
+    at: usize,
+    first: bool,
+    kind: u64,
+    days: u64,
+    year: Option<u64>,
+) -> usize
     requires { at ≤ length out.old }
     ensures { Said out.old out.new at (days_text first kind days year) result }
 {
@@ -45,7 +57,7 @@ fn say_days(out: &mut [u8], at: usize, first: bool, kind: u64, days: u64, year: 
     say_of_year(out, word, days, year)
 }
 
-fn say_all_days(out: &mut [u8], at: usize, d: Used, year: u64) -> usize
+fn say_all_days(out: &mut [u8], at: usize, d: Used, year: Option<u64>) -> usize
     requires { at ≤ length out.old }
     ensures { Said out.old out.new at (all_days d year) result }
 {
@@ -122,7 +134,7 @@ fn say_group_name(out: &mut [u8], at: usize, group: u64) -> usize
     say(out, number, b" ")
 }
 
-pub(crate) fn say_group(out: &mut [u8], at: usize, a: Account, year: u64) -> usize
+pub(crate) fn say_group(out: &mut [u8], at: usize, a: Account, year: Option<u64>) -> usize
     requires { at ≤ length out.old }
     ensures { Said out.old out.new at (group_text a year) result }
 {

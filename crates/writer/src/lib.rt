@@ -19,19 +19,33 @@ use account::Refusal;
 use book::State;
 use text_lines::Cut;
 
-// The line that lost the heading, 0 where none did; its kind is a heading (0), or it may have been one and was not read (1) or refused (2).
+// How a line lost the heading: its kind is a heading, or it may have been one and was not read, or was refused.
+#[derive(Clone, Copy)]
+pub enum Cause {
+    Heading,
+    Unread,
+    Refused,
+}
+
+// The line that lost the heading, and how.
 #[derive(Clone, Copy)]
 pub struct Lost {
     pub line: u64,
-    pub cause: u64,
+    pub cause: Cause,
 }
 
-// The line of a close that waits for the end of the text, and the first and the last line of a run without heading; 0 where there is none.
+// The first and the last line of a run without heading.
 #[derive(Clone, Copy)]
-pub struct Waiting {
-    pub close: u64,
+pub struct Run {
     pub first: u64,
     pub last: u64,
+}
+
+// The line of a close that waits for the end of the text, and the run without heading that is open.
+#[derive(Clone, Copy)]
+pub struct Waiting {
+    pub close: Option<u64>,
+    pub run: Option<Run>,
 }
 
 // How many lines were written, refused, not read and without heading, how many values were unusual, and how many messages there were.
@@ -52,13 +66,14 @@ pub struct Heard {
     pub close: bool,
 }
 
-// The state after the records written; the days of the book's year, 0 before its farm record; and the first line that failed, 0 where none did.
+// The state after the records written; the days of the book's year, after its farm record; where a line lost the heading, which; and the first line
+// that failed.
 #[derive(Clone, Copy)]
 pub struct Typist {
     pub state: State,
-    pub year: u64,
-    pub lost: Lost,
-    pub failed: u64,
+    pub year: Option<u64>,
+    pub lost: Option<Lost>,
+    pub failed: Option<u64>,
     pub waiting: Waiting,
     pub counts: Counts,
     pub heard: Heard,
@@ -115,13 +130,12 @@ impl Typist {
     {
         Self {
             state: state,
-            year: 0,
-            lost: Lost { line: 0, cause: 0 },
-            failed: 0,
+            year: None,
+            lost: None,
+            failed: None,
             waiting: Waiting {
-                close: 0,
-                first: 0,
-                last: 0,
+                close: None,
+                run: None,
             },
             counts: Counts {
                 written: 0,

@@ -165,7 +165,7 @@ fn say_range(out: &mut [u8], at: usize, row: u64, field: usize, text: &[u8]) -> 
     requires { at ≤ length out.old }
     ensures { Said out.old out.new at (range_text row field text.now) result }
 {
-    let i = before_it(field);
+    let i = field.saturating_sub(1);
     let head = say(out, at, b" field ");
     let number = say_number(out, head, field as u64);
     let colon = say(out, number, b":");
@@ -173,12 +173,6 @@ fn say_range(out: &mut [u8], at: usize, row: u64, field: usize, text: &[u8]) -> 
     let behind = say(out, name, b": ");
     let word = say_word(out, behind, text, field);
     say_out_of_range(out, word, row, i)
-}
-
-fn before_it(field: usize) -> usize
-    ensures { result ≡ field - 1 }
-{
-    if field == 0 { 0 } else { field - 1 }
 }
 
 fn say_out_of_range(out: &mut [u8], at: usize, row: u64, i: usize) -> usize

@@ -4,7 +4,8 @@ ghost use Rattle.base.specs.Choice.{pick};
 ghost use Rattle.printing.specs.Ascii.{ascii};
 ghost use Rattle.printing.specs.Said.{Said};
 ghost use Rattle.writer.specs.Typist.{run_ended};
-ghost use Rattle.writer.specs.Remarks.{withheld_text, line_head, early_text, lost_text, run_head, run_text, is_told, words_of, kind_written};
+ghost use Rattle.writer.specs.Remarks.{withheld_text, line_head, early_text, may_text, lost_text, run_head, run_text};
+ghost use Rattle.writer.specs.Remarks.{is_told, words_of, kind_written};
 ghost use Rattle.writer.specs.Remarks.{ended_text};
 ghost use Rattle.writer.specs.Remarks.{written_text, own_text, goes_on_lem, has_word, remark_text, end_remark};
 ghost use Rattle.writer.specs.Remarks.{status_of, more_text, left_out_text, no_close_text, others_text, counts_text, open_text, verdict_text};
@@ -14,7 +15,7 @@ use crate::groups::say_group;
 use crate::lines::{say_refused, say_unread};
 use crate::typed_line::Entry;
 use crate::unusual::say_unusual;
-use crate::{Counts, Fate, Lost, Typist};
+use crate::{Cause, Counts, Fate, Lost, Typist};
 use codec::kinds::{CLOSE, HEADING};
 use printing::{say, say_number};
 
@@ -47,26 +48,29 @@ fn say_early(out: &mut [u8], at: usize, t: Typist, number: u64) -> usize
 {
     let c = t.counts;
     let w = t.waiting;
-    if w.close == 0 {
-        return at;
+    match w.close {
+        None => at,
+        Some(close) => {
+            if 20 <= c.told {
+                return at;
+            }
+            let head = say_line(out, at, close);
+            let words = say(out, head, b"close too early: line ");
+            let line = say_number(out, words, number);
+            say(out, line, b" comes after it\n")
+        }
     }
-    if 20 <= c.told {
-        return at;
-    }
-    let head = say_line(out, at, w.close);
-    let words = say(out, head, b"close too early: line ");
-    let line = say_number(out, words, number);
-    say(out, line, b" comes after it\n")
 }
 
-fn say_cause(out: &mut [u8], at: usize, cause: u64) -> usize
+// A line that may have been a heading, and what became of it.
+fn say_may(out: &mut [u8], at: usize, line: u64, became: &[u8]) -> usize
     requires { at ≤ length out.old }
-    ensures { Said out.old out.new at (pick (eqb cause 1) (ascii "not read") (ascii "refused")) result }
+    ensures { Said out.old out.new at (may_text line became.now) result }
 {
-    if cause == 1 {
-        return say(out, at, b"not read");
-    }
-    say(out, at, b"refused")
+    let word = say(out, at, b"line ");
+    let number = say_number(out, word, line);
+    let may = say(out, number, b", which may have been a heading, was ");
+    say(out, may, became)
 }
 
 // By which line the heading was lost.
@@ -74,15 +78,15 @@ fn say_lost(out: &mut [u8], at: usize, l: Lost) -> usize
     requires { at ≤ length out.old }
     ensures { Said out.old out.new at (lost_text l) result }
 {
-    if l.cause == 0 {
-        let head = say(out, at, b"the heading in line ");
-        let line = say_number(out, head, l.line);
-        return say(out, line, b" was not written");
+    match l.cause {
+        Cause::Heading => {
+            let head = say(out, at, b"the heading in line ");
+            let line = say_number(out, head, l.line);
+            say(out, line, b" was not written")
+        }
+        Cause::Unread => say_may(out, at, l.line, b"not read"),
+        Cause::Refused => say_may(out, at, l.line, b"refused"),
     }
-    let word = say(out, at, b"line ");
-    let line = say_number(out, word, l.line);
-    let may = say(out, line, b", which may have been a heading, was ");
-    say_cause(out, may, l.cause)
 }
 
 fn say_run_head(out: &mut [u8], at: usize, first: u64, last: u64) -> usize
@@ -99,24 +103,29 @@ fn say_run_head(out: &mut [u8], at: usize, first: u64, last: u64) -> usize
     say(out, end, b": ")
 }
 
-// The run without heading that is open.
+// The run without heading that is open: none is where no line lost the heading.
 fn say_run(out: &mut [u8], at: usize, t: Typist) -> usize
     requires { at ≤ length out.old }
     ensures { Said out.old out.new at (run_text t) result }
 {
     let c = t.counts;
     let w = t.waiting;
-    if w.first == 0 {
-        return at;
+    match w.run {
+        None => at,
+        Some(run) => {
+            if 20 <= c.told {
+                return at;
+            }
+            let lost = t.lost.unwrap_or(Lost {
+                line: 0,
+                cause: Cause::Heading,
+            });
+            let head = say_run_head(out, at, run.first, run.last);
+            let words = say(out, head, b"without heading: ");
+            let by = say_lost(out, words, lost);
+            say(out, by, b"\n")
+        }
     }
-    if 20 <= c.told {
-        return at;
-    }
-    let lost = t.lost;
-    let head = say_run_head(out, at, w.first, w.last);
-    let words = say(out, head, b"without heading: ");
-    let by = say_lost(out, words, lost);
-    say(out, by, b"\n")
 }
 
 fn say_words(out: &mut [u8], at: usize, t: Typist, fate: Fate, e: Entry, text: &[u8]) -> usize
@@ -127,7 +136,7 @@ fn say_words(out: &mut [u8], at: usize, t: Typist, fate: Fate, e: Entry, text: &
     let a = state.account;
     match fate {
         Fate::Unread(kind, place) => say_unread(out, at, kind, place, text),
-        Fate::Withheld => say_withheld(out, at, t.failed),
+        Fate::Withheld => say_withheld(out, at, t.failed.unwrap_or(0)),
         Fate::Refused(_, refusal) => say_refused(out, at, refusal, a, e, text),
         Fate::Nothing => at,
         Fate::Waits => at,

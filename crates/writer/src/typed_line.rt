@@ -3,7 +3,7 @@ ghost use Rattle.std.specs.Prelude.{◌≡◌, ◌≤◌, length};
 ghost use Rattle.codec.specs.Table.{last_kind};
 ghost use Rattle.typed_words.specs.Words.{lowered};
 ghost use Rattle.make_record.specs.Write.{written_of, record_laid};
-ghost use Rattle.writer.specs.Line.{named_from, kind_of, row_of_line, has_field, by_choice, value_at, values_from, listed, no_record, line_said};
+ghost use Rattle.writer.specs.Line.{named_from, kind_of, row_of_line, has_field, value_at, values_from, listed, no_record, line_said};
 ghost use Rattle.writer.specs.Line.{completed_of, write_entry};
 
 use book::State;
@@ -42,28 +42,22 @@ pub struct Line {
     pub entry: Entry,
 }
 
-// The kind whose name the word is; 0 where it is none.
-fn named(word: &[u8]) -> u64
+// The kind whose name the word is.
+fn named(word: &[u8]) -> Option<u64>
     ensures { result ≡ named_from last_kind 0 (lowered word.now) }
 {
-    let mut kind = 0;
-    while kind < codec::LAST_KIND {
+    for kind in 0..codec::LAST_KIND {
         if names::is_kind_name(word, kind + 1) {
-            return kind + 1;
+            return Some(kind + 1);
         }
-        kind += 1;
     }
-    0
+    None
 }
 
 fn read_kind(word: &[u8]) -> Option<u64>
     ensures { result ≡ kind_of word.now }
 {
-    let number = named(word);
-    if number == 0 {
-        return typed_words::read_amount(word, 0);
-    }
-    Some(number)
+    named(word).or_else(|| typed_words::read_amount(word, 0))
 }
 
 // The row of the table that a line of the kind is read by.
@@ -87,16 +81,6 @@ pub fn has_field(row: u64, i: usize) -> bool
     i < by_row::table::values_of(row)
 }
 
-// The number of a choice; 0 is none.
-fn by_choice(k: u64) -> Option<u64>
-    ensures { result ≡ by_choice k }
-{
-    if k == 0 {
-        return None;
-    }
-    Some(k)
-}
-
 // A word as the value of field i; one after the last field is not read.
 fn read_value(word: &[u8], row: u64, i: usize) -> Option<u64>
     ensures { result ≡ value_at row i word.now }
@@ -105,7 +89,7 @@ fn read_value(word: &[u8], row: u64, i: usize) -> Option<u64>
         return Some(0);
     }
     let number = typed_words::read_amount(word, names::decimals(row, i));
-    number.or_else(|| by_choice(names::choice(word, row, i)))
+    number.or_else(|| names::choice(word, row, i))
 }
 
 // The words behind the kind, as numbers: a line has no more than 512 words.

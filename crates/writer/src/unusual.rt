@@ -34,10 +34,14 @@ fn is_looked_at(e: Entry, i: usize) -> bool
     !(((e.kind == CATTLE) & (i == 4)) & (milk == 0))
 }
 
-fn outside(u: Usual, v: u64) -> bool
-    ensures { result ≡ outside u v }
+// Nothing is outside where no values are usual.
+fn outside(usual: Option<Usual>, v: u64) -> bool
+    ensures { result ≡ outside usual v }
 {
-    u.some & !((u.low <= v) & (v <= u.high))
+    match usual {
+        None => false,
+        Some(u) => !((u.low <= v) & (v <= u.high)),
+    }
 }
 
 fn is_unusual(who: usize, e: Entry, i: usize) -> bool
@@ -62,10 +66,8 @@ pub(crate) fn unusual_after(a: Account, e: Entry, before: u64) -> u64
     let who = who_for(a, e);
     let n = by_row::table::values_of(e.kind);
     let mut count = before;
-    let mut i = 0;
-    while i < n {
+    for i in 0..n {
         count = more_if(is_unusual(who, e, i), count);
-        i += 1;
     }
     count
 }
@@ -131,11 +133,9 @@ pub(crate) fn say_unusual(
     let n = by_row::table::values_of(e.kind);
     let mut count = before;
     let mut end = at;
-    let mut i = 0;
-    while i < n {
+    for i in 0..n {
         end = say_one(out, end, number, who, e, i, count);
         count = more_if(is_unusual(who, e, i), count);
-        i += 1;
     }
     end
 }

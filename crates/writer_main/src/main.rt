@@ -70,19 +70,14 @@ fn take_line(rt: &impl System, line: &mut [u8], rest: &[u8], from: Work) -> Work
     send(rt, up_to(&out, r.written), up_to(&remarks, r.told), w)
 }
 
-// A part, line after line. A proved loop has to end: the calls count down from a number that no part uses up, since each takes a byte.
+// A part, line after line. A proved loop has to end: there are as many calls as bytes, and each takes a byte.
 fn take_part(rt: &impl System, line: &mut [u8], part: &[u8], from: Work) -> Work {
     let mut w = from;
-    let mut i = 0;
-    let mut calls = part.len();
-    while calls > 0 {
-        calls -= 1;
-        w = take_line(rt, line, &part[i..], w);
-        i += w.taken;
-        if !w.good {
-            return w;
-        }
-        if i == part.len() {
+    let mut rest = part;
+    for _ in 0..part.len() {
+        w = take_line(rt, line, rest, w);
+        rest = &rest[w.taken..];
+        if !w.good | (rest.len() == 0) {
             return w;
         }
     }

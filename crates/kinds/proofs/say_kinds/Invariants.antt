@@ -15,6 +15,3 @@ pub record SoFar (out₀ : List ℕ) (end₀ : ℕ) (out : List ℕ) (end row : 
 
 abbrev pub invariant-loop-row : goal.invariant-loop-row
 invariant-loop-row l = SoFar l.initial.out l.initial.end l.out l.end l.row
-
-abbrev pub decreases-loop-row : goal.decreases-loop-row
-decreases-loop-row l = suc last_row - l.row

@@ -11,19 +11,17 @@ loop-v-init c = record { same = refl; inside = search rules; rest = λ zs q p. p
 
 pub loop-v-preserved : goal.loop-v-preserved
 loop-v-preserved c = let next = c.say_word-end.ensures in
-    let test = c in
-    let turn = test.loop-v in
-    let args = test.args in
+    let turn = c.loop-v in
+    let args = c.args in
     record {
       same = next.long ∙ turn.invariant.same;
       inside = omega (arith, next.put.room, next.long);
-      rest = λ zs q p. turn.invariant.rest zs q (rw (one_word args.n turn.v args.row args.i test.loop-v-test.true) (next ⟫ p));
+      rest = λ zs q p. turn.invariant.rest zs q (rw (one_word args.n turn.v args.row args.i (omega arith)) (next ⟫ p));
     }
 
 pub returns : goal.returns
 returns c = let turn = c.loop-v in
-    let one = c in
-    let args = one.args in
-    one.say_choice-end.ensures
+    let args = c.args in
+    c.say_choice-end.ensures
     ⟫ turn.invariant.rest turn.out turn.end
-    (rw (no_word args.n turn.v args.row args.i c.loop-v-test.false) (said-none turn.invariant.inside))
+    (rw (no_word args.n turn.v args.row args.i (omega arith)) (said-none turn.invariant.inside))

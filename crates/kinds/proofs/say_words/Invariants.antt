@@ -14,6 +14,3 @@ pub record SoFar (out₀ : List ℕ) (row i n end₀ : ℕ) (out : List ℕ) (en
 
 abbrev pub invariant-loop-v : goal.invariant-loop-v
 invariant-loop-v l = SoFar l.initial.out l.row l.i l.n l.initial.end l.out l.end l.v
-
-abbrev pub decreases-loop-v : goal.decreases-loop-v
-decreases-loop-v l = l.n - l.v

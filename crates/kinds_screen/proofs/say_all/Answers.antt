@@ -16,7 +16,7 @@ loop-i-preserved c = let next = c.say_next-end.ensures in
     record {
       same = next.long ∙ turn.invariant.same;
       inside = omega (arith, next.put.room, next.long);
-      rest = λ zs q p. turn.invariant.rest zs q (rw (one_field c.values_of-n.result turn.i row c.loop-i-test.true) (next ⟫ p));
+      rest = λ zs q p. turn.invariant.rest zs q (rw (one_field c.values_of-n.result turn.i row (omega arith)) (next ⟫ p));
     }
 
 pub returns : goal.returns
@@ -24,4 +24,4 @@ returns c = let turn = c.loop-i in
     rw (← c.values_of-n.ensures)
     (c.say_one-end.ensures
     ⟫ turn.invariant.rest turn.out turn.end
-    (rw (no_field c.values_of-n.result turn.i c.args.row c.loop-i-test.false) (said-none turn.invariant.inside)))
+    (rw (no_field c.values_of-n.result turn.i c.args.row (omega arith)) (said-none turn.invariant.inside)))

@@ -14,6 +14,3 @@ pub record SoFar (out₀ : List ℕ) (row n end₀ : ℕ) (out : List ℕ) (end 
 
 abbrev pub invariant-loop-i : goal.invariant-loop-i
 invariant-loop-i l = SoFar l.initial.out l.row l.n l.initial.end l.out l.end l.i
-
-abbrev pub decreases-loop-i : goal.decreases-loop-i
-decreases-loop-i l = l.n - l.i

@@ -8,21 +8,19 @@ use borrow.Author.Rules.{rules}
 use Rattle.kinds_screen.proofs.say_screen.Goals as goal
 
 pub loop-row-init : goal.loop-row-init
-unfolding screen_text
 loop-row-init c = record { same = refl; inside = search rules; rest = λ zs q p. p }
 
 pub loop-row-preserved : goal.loop-row-preserved
-unfolding screen_text
 loop-row-preserved c = let next = c.say_row-end.ensures in
     let turn = c.loop-row in
     record {
       same = next.long ∙ turn.invariant.same;
       inside = omega (arith, next.put.room, next.long);
-      rest = λ zs q p. turn.invariant.rest zs q (rw (one-row turn.row c.loop-row-test.true) (next ⟫ p));
+      rest = λ zs q p. turn.invariant.rest zs q (rw (one-row turn.row (omega arith)) (next ⟫ p));
     }
 
 pub returns : goal.returns
 unfolding screen_text
 returns c = let turn = c.loop-row in
     c.say-end.ensures
-    ⟫ turn.invariant.rest turn.out turn.end (rw (no_row turn.row c.loop-row-test.false) (said-none turn.invariant.inside))
+    ⟫ turn.invariant.rest turn.out turn.end (rw (no_row turn.row (omega arith)) (said-none turn.invariant.inside))

@@ -16,11 +16,10 @@ unfolding kind_names
 loop-kind-preserved c =
     let next = c.say_next-end.ensures in
     let turn = c.loop-kind in
-    let left = c.loop-kind-test.true in
     record {
       same = next.long ∙ turn.invariant.same;
       inside = omega (arith, next.put.room, next.long);
-      rest = λ zs q p. turn.invariant.rest zs q (rw (names-one turn.kind left) (next ⟫ p));
+      rest = λ zs q p. turn.invariant.rest zs q (rw (names-one turn.kind (omega arith)) (next ⟫ p));
     }
 
 pub returns : goal.returns
@@ -28,4 +27,4 @@ unfolding kind_names
 returns c =
     let turn = c.loop-kind in
     c.say_kind-end.ensures
-    ⟫ turn.invariant.rest turn.out turn.end (rw (names-none turn.kind c.loop-kind-test.false) (said-none turn.invariant.inside))
+    ⟫ turn.invariant.rest turn.out turn.end (rw (names-none turn.kind (omega arith)) (said-none turn.invariant.inside))

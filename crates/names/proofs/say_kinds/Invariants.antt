@@ -17,6 +17,3 @@ pub record SoFar (out₀ : List ℕ) (end₀ : ℕ) (out : List ℕ) (end kind :
 
 abbrev pub invariant-loop-kind : goal.invariant-loop-kind
 invariant-loop-kind l = SoFar l.initial.out l.initial.end l.out l.end l.kind
-
-abbrev pub decreases-loop-kind : goal.decreases-loop-kind
-decreases-loop-kind l = suc last_kind - l.kind

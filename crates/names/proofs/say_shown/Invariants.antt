@@ -1,4 +1,4 @@
-use Prim.Native.Nat.{◌+◌, ◌-◌, ◌≤◌}
+use Prim.Native.Nat.{◌+◌}
 use mathlib.Core.Path.{◌≡◌}
 use lib.ListN.{length, take}
 use Rattle.printing.specs.Decimal.{Put}
@@ -7,7 +7,4 @@ use Rattle.names.proofs.say_shown.Given as goal
 
 -- so much of the word stands in the buffer
 abbrev pub invariant-loop-i : goal.invariant-loop-i
-invariant-loop-i l = (l.i ≤ l.n) × (length l.out ≡ length l.initial.out) × Put l.initial.out l.out l.at (take l.i (shown l.word)) (l.at + l.i)
-
-abbrev pub decreases-loop-i : goal.decreases-loop-i
-decreases-loop-i l = l.n - l.i
+invariant-loop-i l = (length l.out ≡ length l.initial.out) × Put l.initial.out l.out l.at (take l.i (shown l.word)) (l.at + l.i)

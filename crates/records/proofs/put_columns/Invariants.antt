@@ -20,6 +20,3 @@ pub record SoFar (out₀ : List ℕ) (at : ℕ) (values out : List ℕ) (end k :
 
 abbrev pub invariant-loop-k : goal.invariant-loop-k
 invariant-loop-k l = SoFar l.initial.out l.at l.values l.out l.end l.k
-
-abbrev pub decreases-loop-k : goal.decreases-loop-k
-decreases-loop-k l = length l.values - l.k

@@ -1,10 +1,7 @@
--- Each turn goes on with the series, and the turns count down. Assumes nothing.
-use Rattle.std.proofs.Common.{◌≡◌, length}
+-- Each turn goes on with the series. Assumes nothing.
+use Rattle.std.proofs.Common.{◌-◌, ◌≡◌, length}
 use Rattle.records_main.proofs.Turns.{Running}
 use Rattle.records_main.proofs.run.Given as goal
 
-abbrev pub invariant-loop-turns : goal.invariant-loop-turns
-invariant-loop-turns g l = (length l.text ≡ length l.initial.text) × Running l.book l.initial.w l.w l.turns
-
-abbrev pub decreases-loop-turns : goal.decreases-loop-turns
-decreases-loop-turns g l = l.turns
+abbrev pub invariant-loop : goal.invariant-loop
+invariant-loop g l = (length l.text ≡ length l.initial.text) × Running l.book l.initial.w l.w (131072 - l.counter)

@@ -1,5 +1,5 @@
-use Rattle.names.proofs.FirstBytes.{take-least}
+use Rattle.names.proofs.FirstBytes.{same-start}
 use Rattle.names.proofs.hints.begins_with.Goals as goal
 
 pub returns : goal.returns
-returns c = rw (c.first_of.ensures, c.least-n.ensures, take-least) at c.is_word.ensures
+returns c = rw same-start at c.starts_with.ensures.value

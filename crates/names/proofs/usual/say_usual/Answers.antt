@@ -5,7 +5,7 @@ use Rattle.names.proofs.usual.say_usual.Goals as goal
 pub returns : goal.returns
 unfolding usual_text
 returns c =
-    rw c.usual_range-u.ensures at (
+    rw (c.unwrap_or-u.ensures, c.usual_range.ensures) at (
     c.say-word.ensures
     ⟫ c.say_for-whom.ensures
     ⟫ c.say-is.ensures

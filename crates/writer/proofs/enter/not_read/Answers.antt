@@ -4,9 +4,9 @@ use Rattle.writer.proofs.enter.not_read.Goals as goal
 
 pub returns : goal.returns
 returns c = rw (
-  c.first_failed.ensures,
+  c.first_failed-t.ensures,
   c.one_unread-counted.ensures,
   c.lost_by-lost.ensures,
-  c.chosen.ensures,
+  c.cause_of.ensures,
   c.may_head.ensures,
 ) refl

@@ -4,8 +4,8 @@ use Rattle.writer.proofs.enter.refused_at.Goals as goal
 
 pub returns : goal.returns
 returns c = rw (
-  c.first_failed.ensures,
+  c.first_failed-t.ensures,
   c.one_refused-counted.ensures,
   c.lost_by-lost.ensures,
-  c.chosen.ensures,
+  c.cause_of.ensures,
 ) refl

@@ -1,13 +1,12 @@
 -- Where a run is open. Assumes nothing.
 use mathlib.Core.Path.{refl}
-use borrow.Author.Tests.{eq-eqb, ne_eqb}
 use Rattle.writer.specs.Typist.{run_ended}
 use Rattle.writer.proofs.enter.run_ended.Goals as goal
 
-pub returns-then-w-eq0 : goal.returns-then-w-eq0
+pub returns-in-None : goal.returns-in-None
 unfolding run_ended
-returns-then-w-eq0 c = rw (eq-eqb _ _ c.if-w-eq0.true) refl
+returns-in-None c = rw c.in-None.is refl
 
-pub returns : goal.returns
+pub returns-in-Some : goal.returns-in-Some
 unfolding run_ended
-returns c = rw (ne_eqb _ _ c.if-w-eq0.false, c.one_told-told.ensures) refl
+returns-in-Some c = rw (c.in-Some.is, c.one_told-told.ensures) refl

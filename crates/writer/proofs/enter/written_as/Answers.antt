@@ -4,9 +4,8 @@ use Rattle.writer.proofs.enter.written_as.Goals as goal
 
 pub returns : goal.returns
 returns c = rw (
-  c.chosen.ensures,
-  c.days_of_year.ensures,
+  c.year_after-t.ensures,
   c.one_written-counted.ensures,
   c.unusual_after.ensures,
-  c.lost_by-lost.ensures,
+  c.lost_after-lost.ensures,
 ) refl

@@ -1,13 +1,16 @@
 -- By the cause. Assumes nothing.
-use borrow.Author.Tests.{eq-eqb, ne_eqb}
 use Rattle.printing.proofs.Sayings.{◌⟫◌}
 use Rattle.writer.specs.Remarks.{lost_text}
 use Rattle.writer.proofs.remarks.say_lost.Goals as goal
 
-pub returns-then-l-eq0 : goal.returns-then-l-eq0
+pub returns-in-Heading : goal.returns-in-Heading
 unfolding lost_text
-returns-then-l-eq0 c = rw (eq-eqb _ _ c.if-l-eq0.true) (c.say-head.ensures ⟫ c.say_number-line.ensures ⟫ c.say.ensures)
+returns-in-Heading c = rw c.in-Heading.is (c.say-head.ensures ⟫ c.say_number-line.ensures ⟫ c.say.ensures)
 
-pub returns : goal.returns
+pub returns-in-Unread : goal.returns-in-Unread
 unfolding lost_text
-returns c = rw (ne_eqb _ _ c.if-l-eq0.false) (c.say-word.ensures ⟫ c.say_number-line-2.ensures ⟫ c.say-may.ensures ⟫ c.say_cause.ensures)
+returns-in-Unread c = rw c.in-Unread.is c.say_may.ensures
+
+pub returns-in-Refused : goal.returns-in-Refused
+unfolding lost_text
+returns-in-Refused c = rw c.in-Refused.is c.say_may-in-Refused.ensures

@@ -1,20 +1,19 @@
 -- Twenty are told. Assumes nothing.
-use borrow.Author.Tests.{eq-eqb, ne_eqb}
 use borrow.Author.Tests.{le-leb, lt-leb}
 use Rattle.printing.proofs.Sayings.{◌⟫◌, said-none}
 use Rattle.writer.specs.Remarks.{run_text}
 use Rattle.writer.proofs.remarks.say_run.Goals as goal
 
-pub returns-then-w-eq0 : goal.returns-then-w-eq0
+pub returns-in-None : goal.returns-in-None
 unfolding run_text
-returns-then-w-eq0 c = rw (eq-eqb _ _ c.if-w-eq0.true) (said-none c.requires)
+returns-in-None c = rw c.in-None.is (said-none c.requires)
 
 pub returns-then-c-ge20 : goal.returns-then-c-ge20
 unfolding run_text
-returns-then-c-ge20 c = rw (ne_eqb _ _ c.if-w-eq0.false, le-leb _ _ c.if-c-ge20.true) (said-none
-    c.requires)
+returns-then-c-ge20 c = rw (c.in-Some.is, le-leb _ _ c.if-c-ge20.true) (said-none c.requires)
 
-pub returns : goal.returns
+pub returns-else-c-ge20 : goal.returns-else-c-ge20
 unfolding run_text
-returns c = rw (ne_eqb _ _ c.if-w-eq0.false, lt-leb _ _ c.if-c-ge20.false)
-    (c.say_run_head-head.ensures ⟫ c.say-words.ensures ⟫ c.say_lost-by.ensures ⟫ c.say.ensures)
+returns-else-c-ge20 c =
+    rw (c.in-Some.is, lt-leb _ _ c.if-c-ge20.false)
+    (c.say_run_head-head.ensures ⟫ c.say-words.ensures ⟫ rw c.unwrap_or-lost.ensures at c.say_lost-by.ensures ⟫ c.say.ensures)

@@ -9,7 +9,7 @@ returns-in-Unread c = rw c.in-Unread.is c.say_unread.ensures
 
 pub returns-in-Withheld : goal.returns-in-Withheld
 unfolding words_of
-returns-in-Withheld c = rw c.in-Withheld.is c.say_withheld.ensures
+returns-in-Withheld c = rw c.in-Withheld.is (rw c.unwrap_or.ensures at c.say_withheld.ensures)
 
 pub returns-in-Refused : goal.returns-in-Refused
 unfolding words_of

@@ -10,7 +10,6 @@ use Rattle.writer.proofs.unusual.say_unusual.Goals as goal
 
 pub loop-i-init : goal.loop-i-init
 loop-i-init c = record {
-  most = omega arith;
   same = refl;
   inside = search rules;
   rest = λ zs q p. let e : c.values_of-n.result - 0 ≡ c.values_of-n.result
@@ -32,16 +31,12 @@ say_one-end-requires c = (
 pub is_unusual-requires : goal.is_unusual-requires
 is_unusual-requires c = (search rules, omega (arith, c.values_of-n.ensures, fields-few c.args.e.kind))
 
-pub overflow_add-i : goal.overflow_add-i
-overflow_add-i c = omega (arith, c.values_of-n.ensures, fields-few c.args.e.kind)
-
 pub loop-i-preserved : goal.loop-i-preserved
 loop-i-preserved c = let l = c.loop-i in
     let said = c.say_one-end.ensures in
     let n = c.values_of-n.result in
     let who = c.who_for-who.result in
     record {
-      most = omega arith;
       same = said.long ∙ l.invariant.same;
       inside = omega (arith, said.put.room, said.long);
       rest = λ zs q p. l.invariant.rest zs q (rw (one-said n l.i who c.args.e l.count c.args.number (omega arith)) (said ⟫ rw

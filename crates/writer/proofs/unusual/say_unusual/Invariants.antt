@@ -9,7 +9,6 @@ use Rattle.writer.specs.Unusual.{remarks_from}
 use Rattle.writer.proofs.unusual.say_unusual.Given as goal
 
 pub record SoFar (out₀ : List ℕ) (at line : ℕ) (e : Entry) (before who n : ℕ) (out : List ℕ) (count end i : ℕ) : Type 0 where
-  pub most : i ≤ n
   pub same : length out ≡ length out₀
   pub inside : end ≤ length out
   pub rest : (zs : List ℕ) (q : ℕ) → Said out zs end (remarks_from (n - i) i line who e count) q
@@ -17,6 +16,3 @@ pub record SoFar (out₀ : List ℕ) (at line : ℕ) (e : Entry) (before who n :
 
 abbrev pub invariant-loop-i : goal.invariant-loop-i
 invariant-loop-i l = SoFar l.initial.out l.at l.number l.e l.before l.who l.n l.out l.count l.end l.i
-
-abbrev pub decreases-loop-i : goal.decreases-loop-i
-decreases-loop-i l = l.n - l.i
