@@ -21,8 +21,7 @@ use Rattle.grams.specs.declared.units.Co2.{Co2}
 use Rattle.grams.specs.declared.units.Grazed.{Grazed}
 use Rattle.grams.specs.declared.cattle.CattleRation.{CattleRation}
 use Rattle.grams.specs.declared.cattle.CattleManure.{CattleManure}
-use Rattle.grams.specs.declared.cattle.CattleNitrogen.{CattleNitrogen}
-use Rattle.grams.specs.declared.cattle.CattleNitrogen.TheVariants.{BelowZero, Given}
+use Rattle.std.specs.Prelude.{Option, None, Some}
 use Rattle.grams.specs.declared.pig.PigRation.{PigRation}
 use Rattle.grams.specs.declared.pig.PigManure.{PigManure}
 use Rattle.account.specs.declared.Account.{Account}
@@ -72,16 +71,16 @@ pub small-pig : (f : Figures) (p : PigRation) (head : ℕ) (m : PigManure) → f
 small-pig f p head m e s = rw e (pig-small m s.ch4-small s.n2o-small s.excreted-small s.land-small)
 
 -- what the nitrogen of a cattle ration is, by its answer
-module _ (r : CattleRation) (head : ℕ) (n : CattleNitrogen) (w : Nitrogen r head n) where
-  pub below-zero : n ≡ BelowZero → below_zero r ≡ true
+module _ (r : CattleRation) (head : ℕ) (n : Option CattleManure) (w : Nitrogen r head n) where
+  pub below-zero : n ≡ None → below_zero r ≡ true
   below-zero e = go (below_zero r) (sym w.exact ∙ e)
     where
-      go : (b : Bool) → pick b BelowZero (Given (manure_of r head)) ≡ BelowZero → b ≡ true
+      go : (b : Bool) → pick b None (Some (manure_of r head)) ≡ None → b ≡ true
       go true q = refl
       go false q = let z : ◌≡◌ {A = ℕ} 0 1 = cc in absurd (omega arith)
 
-  module _ (m : CattleManure) (e : n ≡ Given m) where
-    above_zero : (b : Bool) → pick b BelowZero (Given (manure_of r head)) ≡ Given m → (b ≡ false) × (m ≡ manure_of r head)
+  module _ (m : CattleManure) (e : n ≡ Some m) where
+    above_zero : (b : Bool) → pick b None (Some (manure_of r head)) ≡ Some m → (b ≡ false) × (m ≡ manure_of r head)
     above_zero true q = let z : ◌≡◌ {A = ℕ} 0 1 = cc in absurd (omega arith)
     above_zero false q = (refl, cc)
 
@@ -93,7 +92,7 @@ module _ (r : CattleRation) (head : ℕ) (n : CattleNitrogen) (w : Nitrogen r he
 
     pub small-cattle : (f : Figures) → f ≡ cattle_figures m → Small f
     small-cattle f q =
-        let s : CattleSmall (Given m) = rw e at w.small in
+        let s : CattleSmall (Some m) = rw e at w.small in
         rw q (cattle-small m s.1 s.0)
 
 -- ---- answers without a line, with a detail's, with the close's

@@ -175,7 +175,8 @@ impl Account {
         }
     }
 
-    // The same, each number moved by itself: of a whole copy the compiler makes wide words, and takes them apart again at each record.
+    // The same, each number moved by itself: of a whole copy the compiler makes wide words, and takes them apart again at each record. With `self`
+    // alone a whole book of kind 3 takes 230 instructions a record in place of 151.
     pub fn by_fields(self) -> Account
         ensures { result ≡ self }
     {

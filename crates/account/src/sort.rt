@@ -37,11 +37,5 @@ pub fn sort_of(row: u64) -> Sort
 pub fn is_of_group(row: u64) -> bool
     ensures { result ≡ is_of_group row }
 {
-    match sort_of(row) {
-        Sort::OfGroup => true,
-        Sort::Opens => false,
-        Sort::Heads => false,
-        Sort::OfFarm => false,
-        Sort::Closes => false,
-    }
+    matches!(sort_of(row), Sort::OfGroup)
 }

@@ -1,7 +1,7 @@
 -- Laws of the bench's calls: where they begin, how one takes them on, and where they end.
 -- Assumes nothing.
 use Prim.Native.Nat.{ℕ, zero, suc, ◌+◌, ◌-◌, ◌*◌, ◌%◌, ◌≤◌, ◌<◌, min}
-use mathlib.Core.Path.{◌≡◌, refl, ap, sym, ◌∙◌}
+use mathlib.Core.Path.{◌≡◌, refl, ap, sym, subst, ◌∙◌}
 use mathlib.Core.Bool.{Bool, true, false, ◌||◌, not}
 use mathlib.Core.List.{List, [], ◌++◌, append_assoc, append-nil}
 use mathlib.Core.Logic.{⊎_elim}
@@ -66,6 +66,11 @@ pub going-none : (book lines : List ℕ) (part : ℕ) (s : State) → s ≡ no_r
 going-none book lines part s e =
     let r : length lines - 0 ≡ length lines = omega arith in
     record { inside = omega arith; fits = omega arith; long = refl; so = []; wrote = refl; laid = refl; on = rw (r, e) refl }
+
+-- the calls that are left, in other words
+pub next_call : {book lines₀ : List ℕ} {part : ℕ} {lines : List ℕ} {s : State} {i w m n : ℕ} → Going book lines₀ part lines s i w m → m ≡ n
+    → Going book lines₀ part lines s i w n
+next_call {book} {lines₀} {part} {lines} {s} {i} {w} g e = subst (λ k. Going book lines₀ part lines s i w k) e g
 
 -- what the function gives: its number and its buffer
 abbrev pub Gives : List ℕ → List ℕ → ℕ → List ℕ → ℕ → Type 0

@@ -49,9 +49,7 @@ pub fn bench_parts(book: &[u8], lines: &mut [u8], part: usize) -> u64
     let mut count = start.count;
     let mut i = 0;
     let mut w = 0;
-    let mut calls = book.len();
-    while calls > 0 {
-        calls -= 1;
+    for call in 0..book.len() {
         let state = State {
             account: account,
             held: held,

@@ -8,14 +8,15 @@ use native.Mathlib.Omega.{arith}
 use borrow.Author.Tests.{ltb-true, ltb-false, lt-ltb, le-ltb}
 use lib.ListN.{length, get_or, take, length-append, get_or-append}
 use lib.Seq.{length-take-le, get_or-take}
-use lib.Dec.{ltb, eqb}
+use lib.Dec.{ltb}
 use Rattle.base.specs.Choice.{pick}
 use Rattle.base.proofs.Tests.{lt-or-ge, neither, no_bool, of-choice}
 use Rattle.codec.specs.Codec.{val_at}
 use Rattle.codec.proofs.BigEndian.{val_at-same}
 use Rattle.book.specs.Front.{Front, unfinished, bad_length, whole, need, bad, front}
 use Rattle.book.specs.State.{is_unfinished}
-use Rattle.book.specs.Inner.{by_length_lem, front_number}
+use Rattle.book.specs.Inner.{by_length_lem, told}
+use Rattle.book.specs.declared.front.Front.TheVariants.{Unfinished, Whole}
 
 -- ---- the length stands in the first two bytes
 
@@ -138,27 +139,19 @@ held_whole h xs b =
     (λ (k : 2 ≤ length h). let m = meaning h unfinished b k in rw (length-append-two h xs k) m.2)
     (lt-or-ge (length h) 2)
 
--- ---- the number of a front
+-- ---- a front as the code has it
 
-pub code-some : (f : Front) → (front_number f ≡ 0 → ⊥) → is_unfinished f ≡ false
-code-some unfinished h = absurd (h refl)
-code-some bad_length h = refl
-code-some whole h = refl
+pub told-more : (f : Front) → (told f ≡ Unfinished → ⊥) → is_unfinished f ≡ false
+told-more unfinished h = absurd (h refl)
+told-more bad_length h = refl
+told-more whole h = refl
 
-pub code-none : (f : Front) → eqb (front_number f) 0 ≡ is_unfinished f
-code-none unfinished = refl
-code-none bad_length = refl
-code-none whole = refl
+pub told-unfinished : (f : Front) → told f ≡ Unfinished → f ≡ unfinished
+told-unfinished unfinished e = refl
+told-unfinished bad_length e = let z : ◌≡◌ {A = ℕ} 0 1 = cc in absurd (omega arith)
+told-unfinished whole e = let z : ◌≡◌ {A = ℕ} 0 1 = cc in absurd (omega arith)
 
-pub code-unfinished : (f : Front) → front_number f ≡ 0 → f ≡ unfinished
-code-unfinished unfinished e = refl
-code-unfinished bad_length e = absurd (omega arith)
-code-unfinished whole e = absurd (omega arith)
-
-pub code-whole : (f : Front) → (front_number f ≡ 0 → ⊥) → (front_number f ≡ 1 → ⊥) → f ≡ whole
-code-whole unfinished p q = absurd (p refl)
-code-whole bad_length p q = absurd (q refl)
-code-whole whole p q = refl
-
-pub code-two : (f : Front) → front_number f ≡ 2 → f ≡ whole
-code-two f e = code-whole f (λ z. absurd (omega arith)) (λ z. absurd (omega arith))
+pub told-whole : (f : Front) → told f ≡ Whole → f ≡ whole
+told-whole unfinished e = let z : ◌≡◌ {A = ℕ} 0 1 = cc in absurd (omega arith)
+told-whole bad_length e = let z : ◌≡◌ {A = ℕ} 0 1 = cc in absurd (omega arith)
+told-whole whole e = refl

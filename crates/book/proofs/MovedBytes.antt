@@ -1,5 +1,5 @@
 -- Laws of bytes that are moved and looked at: kept behind the state, filled in, gathered, zero.
-use Prim.Native.Nat.{ℕ, suc, ◌+◌, ◌*◌, ◌-◌, ◌≤◌, ◌<◌, min}
+use Prim.Native.Nat.{ℕ, zero, suc, ◌+◌, ◌*◌, ◌-◌, ◌≤◌, ◌<◌, min}
 use mathlib.Core.Path.{◌≡◌, ap, sym, ◌∙◌}
 use mathlib.Core.List.{List, ◌++◌}
 use mathlib.Core.Bool.{Bool, true, ◌&&◌}
@@ -9,8 +9,8 @@ use native.Mathlib.Numerals.{add-one}
 use native.Mathlib.Omega.{arith}
 use borrow.Author.Tests.{eq-eqb}
 use lib.Dec.{eqb}
-use lib.ListN.{length, get_or, take, drop, set, replicate}
-use lib.Seq.{paste, paste-suc, length-paste, take-paste, take-suc, set_at, append_snoc, drop-cons}
+use lib.ListN.{length, get_or, take, drop, replicate}
+use lib.Seq.{take-paste, drop-cons}
 use lib.Seq.{length-take-le, take-length, take-take, take-append_seam, take-append-add}
 use Rattle.base.proofs.Tests.{lt-or-ge}
 use Rattle.codec.specs.Codec.{val_at}
@@ -19,36 +19,11 @@ use Rattle.book.specs.State.{zeros}
 use Rattle.book.specs.Inner.{Filled, Gathered}
 use Rattle.book.proofs.Fronts.{meaning, unfinished-short, length-take-two, held_whole}
 
--- one byte more is kept
-pub keep-on : (held s : List ℕ) (j : ℕ) → held ≡ take j s ++ replicate (27 - j) 0 → j < length s → j < 27
-    → set held j (get_or s j 0) ≡ take (j + 1) s ++ replicate (27 - (j + 1)) 0
-keep-on held s j e h k =
-    let r : 27 - j ≡ suc (27 - (j + 1)) = omega arith in
-    rw (
-      e,
-      r,
-      set_at (take j s) 0 (replicate (27 - (j + 1)) 0) (get_or s j 0) j (length-take-le j s (omega arith)),
-      add-one,
-      take-suc s j 0,
-      append_snoc,
-    )
-
--- one byte more is filled in
-pub fill_on : (rec₀ rec : List ℕ) (n : ℕ) (src : List ℕ) (k : ℕ) → rec ≡ paste rec₀ n src k → n + k < length rec₀ → k < length src
-    → set rec (n + k) (get_or src k 0) ≡ paste rec₀ n src (k + 1)
-fill_on rec₀ rec n src k e p q = rw (e, add-one) (paste-suc rec₀ n src k 0 p q)
-
-pub filled : {rec rec' : List ℕ} {n goal : ℕ} {src : List ℕ} {k : ℕ} → length rec ≡ 28 → k ≤ length src → n + k ≤ 28 → rec' ≡ paste rec n src k
-    → (n ≤ goal → n + k ≤ goal) → (n + k < goal → k ≡ length src) → Filled rec rec' n goal src k
-filled {rec} {rec'} {n} {goal} {src} {k} l inside bound bytes upto end =
-    record {
-      inside = inside;
-      bound = bound;
-      array = rw bytes (length-paste rec n src k (omega arith) inside ∙ l);
-      bytes = bytes;
-      upto = upto;
-      end = end;
-    }
+-- what is left of zeros is zeros
+pub zeros_left : (n m : ℕ) → drop {A = ℕ} n (replicate m 0) ≡ replicate (m - n) 0
+zeros_left zero m = let e : m - 0 ≡ m = omega arith in rw e
+zeros_left (suc n) zero = let e : 0 - suc n ≡ 0 = omega arith in rw e
+zeros_left (suc n) (suc m) = let e : suc m - suc n ≡ m - n = omega arith in rw e (zeros_left n m)
 
 -- what is filled in stands behind what was there
 take-filled : (rec rec' : List ℕ) (n goal : ℕ) (src : List ℕ) (k : ℕ) → length rec ≡ 28 → Filled rec rec' n goal src k

@@ -11,6 +11,8 @@ use Rattle.account.specs.Judge.{judge}
 use Rattle.account.specs.Line.{joined}
 use Rattle.book.specs.declared.State.{State}
 use Rattle.book.specs.declared.Fed.{Fed}
+use Rattle.book.specs.declared.front.Front.{Front as Code}
+use Rattle.book.specs.declared.front.Front.TheVariants.{Unfinished, BadLength, Whole}
 use Rattle.book.specs.declared.turns.Turn.{Turn}
 use Rattle.book.specs.Front.{Front, unfinished, bad_length, whole, need, front}
 use Rattle.book.specs.State.{held_of, InRange, holding}
@@ -22,6 +24,12 @@ abbrev pub front_number : Front → ℕ
 front_number unfinished = 0
 front_number bad_length = 1
 front_number whole = 2
+
+-- a front as the code has it
+abbrev pub told : Front → Code
+told unfinished = Unfinished
+told bad_length = BadLength
+told whole = Whole
 
 -- what n bytes of the length l are at their front, where there are two at least
 abbrev pub by_length_lem : ℕ → ℕ → Front

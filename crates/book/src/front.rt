@@ -5,7 +5,7 @@ ghost use Rattle.codec.specs.Codec.{val_at};
 ghost use Rattle.book.specs.Front.{front};
 ghost use Rattle.book.specs.State.{is_unfinished};
 ghost use Rattle.book.specs.WholeRecords.{Ready};
-ghost use Rattle.book.specs.Inner.{by_length_lem, front_number};
+ghost use Rattle.book.specs.Inner.{by_length_lem, told};
 
 use codec::LENGTH_MOST;
 use codec::numbers::be16;
@@ -17,23 +17,35 @@ pub fn bad_length(length: u64) -> bool
     (length < 4) | (LENGTH_MOST < length)
 }
 
-// What n bytes of this length are at their front.
-fn front_by(length: u64, n: usize) -> u8
-    ensures { result ≡ front_number (by_length_lem length n) }
-{
-    if bad_length(length) {
-        return 1;
-    }
-    if n < (length as usize) + 2 { 0 } else { 2 }
+// What some bytes are at their front: the beginning of a record, a length that no record has, or a whole record.
+#[derive(Clone, Copy)]
+pub enum Front {
+    Unfinished,
+    BadLength,
+    Whole,
 }
 
-// What the first n bytes of s are at their front: 0 an unfinished record, 1 a bad length, 2 a whole record.
-pub fn front_of(s: &[u8], n: usize) -> u8
+// What n bytes of this length are at their front.
+fn front_by(length: u64, n: usize) -> Front
+    ensures { result ≡ told (by_length_lem length n) }
+{
+    if bad_length(length) {
+        return Front::BadLength;
+    }
+    if n < (length as usize) + 2 {
+        Front::Unfinished
+    } else {
+        Front::Whole
+    }
+}
+
+// What the first n bytes of s are at their front.
+pub fn front_of(s: &[u8], n: usize) -> Front
     requires { n ≤ length s.now }
-    ensures { result ≡ front_number (front (take n s.now)) }
+    ensures { result ≡ told (front (take n s.now)) }
 {
     if n < 2 {
-        return 0;
+        return Front::Unfinished;
     }
     front_by(be16(s, 0), n)
 }
@@ -42,11 +54,10 @@ pub fn front_of(s: &[u8], n: usize) -> u8
 pub fn ready(s: &[u8]) -> usize
     ensures { Ready s.now result }
 {
-    let front = front_of(s, s.len());
-    if front == 2 {
-        return (be16(s, 0) as usize) + 2;
+    match front_of(s, s.len()) {
+        Front::Whole => (be16(s, 0) as usize) + 2,
+        _ => 0,
     }
-    0
 }
 
 fn pair(high: u8, low: u8) -> u64
@@ -81,5 +92,5 @@ pub(crate) fn unfinished(held: [u8; 27], count: usize, rest: &[u8]) -> bool
     if n < 2 {
         return true;
     }
-    front_by(length_of(held, count, rest), n) == 0
+    matches!(front_by(length_of(held, count, rest), n), Front::Unfinished)
 }

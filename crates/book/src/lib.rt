@@ -12,7 +12,7 @@ ghost use Rattle.book.specs.Call.{answer_of, call, fed_of, lines_laid, outside};
 ghost use Rattle.book.specs.Inner.{fed};
 
 use crate::bytes::{put_behind, zeroed};
-use crate::front::{front_of, unfinished};
+use crate::front::{Front, front_of, unfinished};
 use account::{Account, Refusal};
 use base::rest_of;
 
@@ -89,10 +89,10 @@ impl State {
         if !zeroed(held, n) {
             return false;
         }
-        if front_of(&held, n) != 0 {
-            return false;
+        match front_of(&held, n) {
+            Front::Unfinished => (a.stage < 2) | (n == 0),
+            _ => false,
         }
-        (a.stage < 2) | (n == 0)
     }
 
     // The same, its account moved field by field.
@@ -169,6 +169,7 @@ impl State {
         }
         let mut i = 0;
         let mut w = 0;
+        // A cursor and no count: each turn takes as many bytes as it can.
         while i < input.len() {
             let a = self.account;
             if 2 <= a.stage {

@@ -25,6 +25,7 @@ pub(crate) fn judge_all(from: Account, src: &[u8], out: &mut [u8]) -> Records
     let mut account = from;
     let mut at = 0;
     let mut w = 0;
+    // A cursor and no count: each record has a length of its own.
     while at < src.len() {
         if 2 <= account.stage {
             return Records { account, at, w };

@@ -3,26 +3,36 @@
 use mathlib.Core.Path.{◌≡◌, refl, ap, ◌∙◌}
 use mathlib.Core.Bool.{Bool, true, false}
 use mathlib.Core.List.{List, ◌++◌}
-use mathlib.Core.Logic.{◌⊎◌, inl, inr}
 use Prim.Native.Nat.{ℕ, zero, suc, ◌+◌, ◌-◌, ◌<◌, ◌≤◌}
 use native.Mathlib.Omega.{arith}
 use native.Mathlib.Nat.{zero-add}
 use native.Mathlib.Numerals.{add-one}
 use borrow.Author.Tests.{le-leb, lt-leb}
+use Rattle.std.specs.Prelude.{None, Some}
 use lib.ListN.{length, get_or, set, drop, replicate, drop_of_length-le}
 use lib.Seq.{sets, sets-eq, drop-cons}
 use Rattle.base.specs.Choice.{pick}
 use Rattle.codec.specs.declared.Field.{Field}
 use Rattle.codec.specs.Table.{size}
-use Rattle.codec.specs.Codec.{val_at, be, values_at, in_twelve, bytes_of, first_bad}
+use Rattle.codec.specs.Codec.{val_at, be, values_at, in_twelve, bytes_of, first_bad, as_position}
 use Rattle.codec.proofs.Stores.{put_then}
 use Rattle.codec.proofs.Within.{none}
 
--- a field that has neither one byte nor two has four
-pub four : {w : ℕ} → (w ≡ 1) ⊎ ((w ≡ 2) ⊎ (w ≡ 4)) → (w ≡ 1 → ⊥) → (w ≡ 2 → ⊥) → w ≡ 4
-four (inl e) p q = absurd (p e)
-four (inr (inl e)) p q = absurd (q e)
-four (inr (inr e)) p q = e
+-- the answer of a position
+pub some_at : (i : ℕ) {n : ℕ} → i + 1 ≡ n → Some (i + 1) ≡ as_position n
+some_at i e = rw (← e, add-one) refl
+
+pub none_at : {n : ℕ} → 0 ≡ n → None ≡ as_position n
+none_at e = rw (← e) refl
+
+-- and back: one that is given is the position itself, and not 0
+pub position_given : {i : ℕ} (n : ℕ) → Some i ≡ as_position n → (i ≡ n) × (i ≡ 0 → ⊥)
+position_given {i} zero e = let z : ◌≡◌ {A = ℕ} 0 1 = cc in absurd (omega arith)
+position_given {i} (suc n) e = let same : i ≡ suc n = cc in (same, λ z. absurd (omega arith))
+
+pub no_position : (n : ℕ) → None ≡ as_position n → n ≡ 0
+no_position zero e = refl
+no_position (suc n) e = let z : ◌≡◌ {A = ℕ} 0 1 = cc in absurd (omega arith)
 
 either : (b : Bool) (n : ℕ) → pick b n n ≡ n
 either true n = refl

@@ -3,27 +3,15 @@
 
 pub mod table; // table.rt: the table as the code has it
 
-ghost use Rattle.std.specs.Prelude.{◌≡◌, ◌⊎◌, ◌+◌, ◌≤◌, length};
+ghost use Rattle.std.specs.Prelude.{◌≡◌, ◌+◌, ◌≤◌, length};
 ghost use Rattle.std.proofs.lemmas.List.Edits.{sets};
 ghost use Rattle.codec.specs.Table.{fields, size, last_row, length_of, Of};
-ghost use Rattle.codec.specs.Codec.{val_at, be, values_at, in_twelve, bytes_of, first_bad, record_bytes};
+ghost use Rattle.codec.specs.Codec.{values_at, in_twelve, bytes_of, first_bad, as_position, record_bytes};
 
 use codec::kinds::bytes_of;
-use codec::numbers::{be8, be16, be32, put1, put2, put4};
+use codec::numbers::{number, put};
 use codec::start::put_versioned;
 use table::{highest, kind_of, lowest, values_of, version_of, width};
-
-// The number in w bytes.
-fn number(s: &[u8], at: usize, w: usize) -> u64
-    requires { (at + w ≤ length s.now) × ((w ≡ 1) ⊎ ((w ≡ 2) ⊎ (w ≡ 4))) }
-    ensures { result ≡ val_at s.now at w }
-{
-    match w {
-        1 => be8(s, at),
-        2 => be16(s, at),
-        _ => be32(s, at),
-    }
-}
 
 // The values of a record of the row, whose fields begin at `at`; zeros behind.
 pub fn read(row: u64, s: &[u8], at: usize) -> [u64; 12]
@@ -33,44 +21,30 @@ pub fn read(row: u64, s: &[u8], at: usize) -> [u64; 12]
     let n = values_of(row);
     let mut v = [0u64; 12];
     let mut p = at;
-    let mut i = 0;
-    while i < n {
+    // By index: the width of a value goes by its place in the row.
+    for i in 0..n {
         let w = width(row, i);
         v[i] = number(s, p, w);
         p += w;
-        i += 1;
     }
     v
 }
 
-// The position, from 1, of the first value out of its range, or 0.
-pub fn first_bad(row: u64, v: &[u64]) -> u8
+// The position, from 1, of the first value out of its range; none where each is in its own.
+pub fn first_bad(row: u64, v: &[u64]) -> Option<u8>
     requires { Of row v.now }
-    ensures { result ≡ first_bad (fields row) v.now 0 }
+    ensures { result ≡ as_position (first_bad (fields row) v.now 0) }
 {
-    let mut i = 0;
-    while i < v.len() {
+    // By index: the range of a value goes by its place in the row.
+    for i in 0..v.len() {
         if v[i] < lowest(row, i) {
-            return i as u8 + 1;
+            return Some(i as u8 + 1);
         }
         if highest(row, i) < v[i] {
-            return i as u8 + 1;
+            return Some(i as u8 + 1);
         }
-        i += 1;
     }
-    0
-}
-
-// A number as w bytes.
-fn put(out: &mut [u8], at: usize, w: usize, v: u64)
-    requires { (at + w ≤ length out.old) × ((w ≡ 1) ⊎ ((w ≡ 2) ⊎ (w ≡ 4))) }
-    ensures { out.new ≡ sets out.old at (be w v) }
-{
-    match w {
-        1 => put1(out, at, v),
-        2 => put2(out, at, v),
-        _ => put4(out, at, v),
-    }
+    None
 }
 
 // The fields of a record of the row, from `at` on.
@@ -79,12 +53,11 @@ fn put_fields(out: &mut [u8], at: usize, row: u64, v: &[u64])
     ensures { out.new ≡ sets out.old at (bytes_of (fields row) v.now 0) }
 {
     let mut p = at;
-    let mut i = 0;
-    while i < v.len() {
+    // By index: the width of a value goes by its place in the row.
+    for i in 0..v.len() {
         let w = width(row, i);
         put(out, p, w, v[i]);
         p += w;
-        i += 1;
     }
 }
 

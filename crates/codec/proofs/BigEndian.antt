@@ -7,6 +7,7 @@ use native.Mathlib.Omega.{arith}
 use native.Mathlib.Nat.{add-zero}
 use lib.ListN.{length, get_or, take, drop, length-append, length-drop}
 use lib.Seq.{take-suc, get_or-drop, get_or-append-add, get_or_at}
+use Rattle.std.specs.Int.{w32, w64, to_be_bytes}
 use Rattle.codec.specs.Codec.{Bytes, bytes_hold, val_at, be}
 
 pub val_at-lt : (s : List ℕ) → Bytes s → (at w : ℕ) → val_at s at w < bytes_hold w
@@ -90,3 +91,23 @@ eight-bytes s at h l eh el =
     let b6 = byte (at + 4 + 2) (at + 6) (omega arith) in
     let b7 = byte (at + 4 + 3) (at + 7) (omega arith) in
     omega arith
+
+-- ---- what std's conversions give are the bytes of `be`
+
+pub word_of_4 : (v : ℕ) → to_be_bytes w32 (v % 4294967296) ≡ be 4 v
+unfolding be
+word_of_4 v =
+    let a : v % 4294967296 / 16777216 % 256 ≡ v / 256 / 256 / 256 % 256 = omega arith in
+    let b : v % 4294967296 / 65536 % 256 ≡ v / 256 / 256 % 256 = omega arith in
+    let c : v % 4294967296 / 256 % 256 ≡ v / 256 % 256 = omega arith in
+    let d : v % 4294967296 % 256 ≡ v % 256 = omega arith in rw (a, b, c, d) refl
+
+pub word_of_8 : (v : ℕ) → to_be_bytes w64 v ≡ be 8 v
+unfolding be
+word_of_8 v =
+    let a : v / 72057594037927936 % 256 ≡ v / 256 / 256 / 256 / 256 / 256 / 256 / 256 % 256 = omega arith in
+    let b : v / 281474976710656 % 256 ≡ v / 256 / 256 / 256 / 256 / 256 / 256 % 256 = omega arith in
+    let c : v / 1099511627776 % 256 ≡ v / 256 / 256 / 256 / 256 / 256 % 256 = omega arith in
+    let d : v / 4294967296 % 256 ≡ v / 256 / 256 / 256 / 256 % 256 = omega arith in
+    let e : v / 16777216 % 256 ≡ v / 256 / 256 / 256 % 256 = omega arith in
+    let f : v / 65536 % 256 ≡ v / 256 / 256 % 256 = omega arith in rw (a, b, c, d, e, f) refl

@@ -21,6 +21,10 @@ use Rattle.codec.proofs.numbers.put8.Kinds as put-eight
 use Rattle.codec.proofs.numbers.put8.Reads as put-eight-contract
 use Rattle.codec.proofs.numbers.bytes8.Kinds as bytes
 use Rattle.codec.proofs.numbers.bytes8.Reads as bytes-contract
+use Rattle.codec.proofs.numbers.number.Kinds as any
+use Rattle.codec.proofs.numbers.number.Reads as any-contract
+use Rattle.codec.proofs.numbers.put.Kinds as put_any
+use Rattle.codec.proofs.numbers.put.Reads as put-any-contract
 use Rattle.codec.proofs.start.put_start.Kinds as start
 use Rattle.codec.proofs.start.put_start.Reads as start-contract
 use Rattle.codec.proofs.start.put_versioned.Kinds as versioned
@@ -39,6 +43,9 @@ one-be32 κs args f g e e' p q = p ∙ sym q
 pub one-be64 : OneAnswer eight-bytes.ps eight-bytes.r eight-bytes-contract.Learnt
 one-be64 κs args f g e e' p q = p ∙ sym q
 
+pub one-number : OneAnswer any.ps any.r any-contract.Learnt
+one-number κs args f g e e' p q = p ∙ sym q
+
 -- Numbers written: the buffer at the end (the first parameter, out).
 pub one-put1 : OneAnswerWith put_one.ps put_one.r put-one-contract.Learnt (λ κs e. e.0.now)
 one-put1 κs args f g e e' p q = (refl, p ∙ sym q)
@@ -51,6 +58,9 @@ one-put4 κs args f g e e' p q = (refl, p ∙ sym q)
 
 pub one-put8 : OneAnswerWith put-eight.ps put-eight.r put-eight-contract.Learnt (λ κs e. e.0.now)
 one-put8 κs args f g e e' p q = (refl, p ∙ sym q)
+
+pub one-put : OneAnswerWith put_any.ps put_any.r put-any-contract.Learnt (λ κs e. e.0.now)
+one-put κs args f g e e' p q = (refl, p ∙ sym q)
 
 pub bytes8-asks-nothing : AsksNothing bytes.ps bytes-contract.Asked
 bytes8-asks-nothing κs args = tt

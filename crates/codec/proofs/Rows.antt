@@ -12,7 +12,7 @@ use lib.ListN.{length, get_or}
 use Rattle.base.specs.Choice.{pick}
 use Rattle.codec.specs.declared.Field.{Field}
 use Rattle.codec.specs.Table.{table, fields, field_at, size, length_of, length_most_lem}
-use Rattle.codec.specs.Codec.{Fit, bytes_hold, first_bad}
+use Rattle.codec.specs.Codec.{Fit, bytes_hold, first_bad, IsWidth}
 use Rattle.codec.proofs.Within.{none, first-within}
 
 -- ---- the test
@@ -97,6 +97,15 @@ narrow_at (f ∷ fs) t (suc i) h = narrow_at fs (both_right (narrow-field f) (na
 pub narrow : (kind i : ℕ) → i < length (fields kind) → ((field_at kind i).0 ≡ 1) ⊎ (((field_at kind i).0 ≡ 2) ⊎ ((field_at kind i).0 ≡ 4))
 unfolding narrow-row
 narrow kind = narrow_at (fields kind) (row_at narrow-row tt table checked.3 kind)
+
+-- a width
+four-widths : {w : ℕ} → (w ≡ 1) ⊎ ((w ≡ 2) ⊎ (w ≡ 4)) → IsWidth w
+four-widths (inl e) = inl e
+four-widths (inr (inl e)) = inr (inl e)
+four-widths (inr (inr e)) = inr (inr (inl e))
+
+pub is_width : (kind i : ℕ) → i < length (fields kind) → IsWidth (field_at kind i).0
+is_width kind i h = four-widths (narrow kind i h)
 
 -- values in the ranges of a right row fit their bytes
 pub fit_row : (fs : List Field) → T (right-row fs) → (vs : List ℕ) (i : ℕ) → first_bad fs vs i ≡ 0 → Fit fs vs i

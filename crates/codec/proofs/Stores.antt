@@ -7,7 +7,8 @@ use native.Mathlib.Omega.{arith}
 use native.Mathlib.Nat.{zero-add, add-zero, add-suc, add_assoc}
 use native.Mathlib.Numerals.{add-one}
 use lib.ListN.{length, get_or, set, take, drop, replicate, drop_of_length-le}
-use lib.Seq.{sets, sets-eq, drop-cons}
+use lib.Seq.{sets, sets-eq, drop-cons, drop-drop}
+use borrow.Rule.Slice.PartMut.{put_mid}
 use Rattle.codec.specs.declared.Field.{Field}
 use Rattle.codec.specs.Table.{fields, row_version, row_kind, length_of}
 use Rattle.codec.specs.Codec.{be, bytes_of, record_bytes}
@@ -95,3 +96,8 @@ module _ (f : Field) (vs l : List ℕ) (n p i : ℕ) where
 -- a run of n stores, as the parts before and after it
 pub sets-at : (n : ℕ) (vs l : List ℕ) (i : ℕ) → length vs ≡ n → i + n ≤ length l → sets l i vs ≡ take i l ++ (vs ++ drop (i + n) l)
 sets-at n vs l i e h = sets-eq vs l i (rw e h) ∙ append_assoc (take i l) vs (drop (i + length vs) l) ∙ ap (λ k. take i l ++ (vs ++ drop (i + k) l)) e
+
+-- a number written into the part that its bytes take
+pub part_stored : (w v at k : ℕ) (l ys : List ℕ) → ys ≡ be w v → k ≡ w → at + w ≤ length l → put_mid at k l ys ≡ sets l at (be w v)
+part_stored w v at k l ys e ek h =
+    rw (e, ek) (ap (λ xs. take at l ++ (be w v ++ xs)) (drop-drop w at l) ∙ sym (sets-at w (be w v) l at (be-length w v) h))

@@ -1,7 +1,7 @@
 -- Document 01, "The book": big-endian numbers, a record's values from its bytes, its bytes from its values, the first value out of
 -- its range. All of it goes by the fields of specs/Table.antt.
 -- Assumes nothing.
-use Rattle.std.specs.Prelude.{ℕ, zero, suc, ◌+◌, ◌-◌, ◌*◌, ◌/◌, ◌%◌, ◌<◌, List, [], ◌∷◌, ◌++◌, get_or, length, replicate, leb}
+use Rattle.std.specs.Prelude.{ℕ, zero, suc, ◌+◌, ◌-◌, ◌*◌, ◌/◌, ◌%◌, ◌<◌, ◌≡◌, ◌⊎◌, List, [], ◌∷◌, ◌++◌, get_or, length, replicate, leb, Option, None, Some}
 use Rattle.base.specs.Choice.{pick}
 use Rattle.codec.specs.declared.Field.{Field}
 use Rattle.codec.specs.Table.{fields, row_version, row_kind, length_of}
@@ -15,6 +15,10 @@ bytes_hold (suc w) = bytes_hold w * 256
 unfoldable pub val_at : List ℕ → ℕ → ℕ → ℕ
 val_at s at zero = 0
 val_at s at (suc w) = val_at s at w * 256 + get_or s (at + w) 0
+
+-- a number has one byte, two, four or eight
+abbrev pub IsWidth : ℕ → Type 0
+IsWidth w = (w ≡ 1) ⊎ ((w ≡ 2) ⊎ ((w ≡ 4) ⊎ (w ≡ 8)))
 
 -- every element is a byte
 abbrev pub Bytes : List ℕ → Type 0
@@ -44,6 +48,11 @@ unfoldable pub first_bad : List Field → List ℕ → ℕ → ℕ
 first_bad [] vs i = 0
 first_bad (f ∷ fs) vs i =
     pick (leb f.1 (get_or vs i 0)) (pick (leb (get_or vs i 0) f.2) (first_bad fs vs (suc i)) (suc i)) (suc i)
+
+-- a position counted from 1 as an answer: none for 0
+abbrev pub as_position : ℕ → Option ℕ
+as_position zero = None
+as_position (suc i) = Some (suc i)
 
 -- each value from i fits the bytes of its field
 abbrev pub Fit : List Field → List ℕ → ℕ → Type 0

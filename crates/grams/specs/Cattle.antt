@@ -1,5 +1,5 @@
 -- Document 01, "The arithmetic": enteric CH4 and cattle nitrogen. Assumes nothing.
-use Rattle.std.specs.Prelude.{◌≡◌, ℕ, ◌+◌, ◌-◌, ◌*◌, ◌^◌, ◌≤◌, Bool, nat_lt}
+use Rattle.std.specs.Prelude.{◌≡◌, ℕ, ◌+◌, ◌-◌, ◌*◌, ◌^◌, ◌≤◌, Bool, nat_lt, Option, None, Some}
 use Rattle.base.specs.Choice.{pick}
 use Rattle.grams.specs.Round.{round_div}
 use Rattle.grams.specs.Units.{grams_n2o}
@@ -7,8 +7,6 @@ use Rattle.grams.specs.Figure.{Figure}
 use Rattle.grams.specs.declared.units.N2o.{N2o}
 use Rattle.grams.specs.declared.cattle.CattleRation.{CattleRation}
 use Rattle.grams.specs.declared.cattle.CattleManure.{CattleManure}
-use Rattle.grams.specs.declared.cattle.CattleNitrogen.{CattleNitrogen}
-use Rattle.grams.specs.declared.cattle.CattleNitrogen.TheVariants.{BelowZero, Given}
 
 -- the ranges of an enteric record under its heading, from above
 pub record EntericIn (ge ym head days : ℕ) : Type 0 where
@@ -74,15 +72,15 @@ unfoldable pub manure_of : CattleRation → ℕ → CattleManure
 manure_of r head = stored_of (excreted_of (fed_of r - kept_of r) head r.days) r
 
 -- no figures where X is below zero
-abbrev pub cattle_nitrogen_of : CattleRation → ℕ → CattleNitrogen
-cattle_nitrogen_of r head = pick (below_zero r) BelowZero (Given (manure_of r head))
+abbrev pub cattle_nitrogen_of : CattleRation → ℕ → Option CattleManure
+cattle_nitrogen_of r head = pick (below_zero r) None (Some (manure_of r head))
 
 -- the figures, where there are any, are within their bounds
-abbrev pub CattleSmall : CattleNitrogen → Type 0
-CattleSmall BelowZero = Unit {0}
-CattleSmall (Given m) = (m.excreted ≤ 10 ^ 11) × (m.n2o.0 ≤ 10 ^ 10)
+abbrev pub CattleSmall : Option CattleManure → Type 0
+CattleSmall None = Unit {0}
+CattleSmall (Some m) = (m.excreted ≤ 10 ^ 11) × (m.n2o.0 ≤ 10 ^ 10)
 
 -- for the contract of grams::cattle::nitrogen: its figures, and how much they can be at most
-pub record Nitrogen (r : CattleRation) (head : ℕ) (a : CattleNitrogen) : Type 0 where
+pub record Nitrogen (r : CattleRation) (head : ℕ) (a : Option CattleManure) : Type 0 where
   pub exact : a ≡ cattle_nitrogen_of r head
   pub small : CattleSmall a

@@ -20,10 +20,8 @@ fn first_steps(x: u64) -> u64
     ensures { (steps x 4 result ≡ exp_of x) × (result ≤ scale) }
 {
     let mut e = SCALE;
-    let mut i = 20;
-    while 4 < i {
+    for i in (5..21).rev() {
         e = SCALE - e * x / (10000 * i);
-        i -= 1;
     }
     e
 }
@@ -34,10 +32,8 @@ fn exp_neg(x: u64) -> u64
     ensures { Figure (exp_of x) 1000000000000 result }
 {
     let mut e = first_steps(x);
-    let mut i = 4;
-    while 0 < i {
+    for i in (1..5).rev() {
         e = less(SCALE, e * x / (10000 * i));
-        i -= 1;
     }
     e
 }

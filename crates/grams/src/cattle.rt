@@ -34,13 +34,6 @@ pub struct CattleManure {
     pub n2o: N2o,
 }
 
-// Nothing is given where X is below zero.
-#[derive(Clone, Copy)]
-pub enum CattleNitrogen {
-    BelowZero,
-    Given(CattleManure),
-}
-
 // Grams of nitrogen, from x micrograms per head and day.
 fn excreted(x: u64, head: u64, days: u64) -> u64
     requires { (x ≤ 3200000000) × (head ≤ 20000) × (days ≤ 366) }
@@ -73,19 +66,19 @@ fn storage(n: u64, solid: u64, liquid: u64) -> N2o
     direct(n, solid, liquid).plus(indirect(n, solid, liquid))
 }
 
-// X is below zero where milk and gain keep more than the feed brings: a comparison, no signed number.
-pub fn nitrogen(r: CattleRation, head: u64) -> CattleNitrogen
+// X is below zero where milk and gain keep more than the feed brings: a comparison, no signed number. None there.
+pub fn nitrogen(r: CattleRation, head: u64) -> Option<CattleManure>
     requires { CattleIn r head }
     ensures { Nitrogen r head result }
 {
     let fed = 160 * r.feed * r.protein;
     let kept = 157 * r.milk * r.milkprotein + 27000 * r.gain;
     if fed < kept {
-        return CattleNitrogen::BelowZero;
+        return None;
     }
     let n = excreted(fed - kept, head, r.days);
     let gas = storage(n, r.solid, r.liquid);
-    CattleNitrogen::Given(CattleManure {
+    Some(CattleManure {
         excreted: n,
         n2o: gas,
     })

@@ -100,7 +100,8 @@ impl N2o {
     }
 }
 
-// Grams of CO2e of grazing: CO2e from the start, and no gas.
+// Grams of CO2e of grazing: CO2e from the start, and no gas. A type of its own beside N2o, and no generic one: a trait for the three would need a
+// ghost member and two laws for bodies of one line, and specs/Units would name them all the same.
 #[derive(Clone, Copy)]
 pub struct Grazed(u64);
 

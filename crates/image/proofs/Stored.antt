@@ -11,7 +11,7 @@ use lib.ListN.{length, get_or, take, drop, length-append, length-drop, drop_of_l
 use lib.Seq.{sets, length-take-le, get_or-take, get_or-drop, take-suc, take-add, drop-drop}
 use Rattle.codec.specs.declared.Field.{Field}
 use Rattle.codec.specs.Table.{size}
-use Rattle.codec.specs.Codec.{be, bytes_of}
+use Rattle.codec.specs.Codec.{be, bytes_of, IsWidth}
 use Rattle.codec.proofs.BigEndian.{be-length}
 use Rattle.codec.proofs.Stores.{sets-append, sets-at, put_then}
 use Rattle.codec.proofs.Values.{bytes-length}
@@ -24,11 +24,11 @@ use Rattle.account.specs.Account.{account_fields, width_of, start_numbers, headi
 use Rattle.book.specs.declared.State.{State}
 use Rattle.image.specs.Image.{image_size, place_of, stored, front_numbers, image_of}
 
--- a field that has neither one byte nor two has eight
-pub eight : {w : ℕ} → (w ≡ 1) ⊎ ((w ≡ 2) ⊎ (w ≡ 8)) → (w ≡ 1 → ⊥) → (w ≡ 2 → ⊥) → w ≡ 8
-eight (inl e) p q = absurd (p e)
-eight (inr (inl e)) p q = absurd (q e)
-eight (inr (inr e)) p q = e
+-- a width
+pub eight-widths : {w : ℕ} → (w ≡ 1) ⊎ ((w ≡ 2) ⊎ (w ≡ 8)) → IsWidth w
+eight-widths (inl e) = inl e
+eight-widths (inr (inl e)) = inr (inl e)
+eight-widths (inr (inr e)) = inr (inr (inr e))
 
 -- ---- the account's numbers, one by one
 

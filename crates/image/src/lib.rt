@@ -1,7 +1,6 @@
 // A state in bytes that the caller owns, at fixed offsets, and a call that works on them.
 #![tactic(auto)]
 
-mod numbers;
 mod read;
 mod write;
 

@@ -5,20 +5,16 @@ ghost use Rattle.codec.specs.Codec.{values_at};
 ghost use Rattle.account.specs.Account.{account_fields};
 ghost use Rattle.image.specs.Image.{image_size, place_of, state_in};
 
-use crate::numbers::number;
 use account_numbers::{NUMBERS, account_of, width};
 use book::State;
+use codec::numbers::number;
 
 fn held_in(image: &[u8]) -> [u8; 27]
     requires { length image.now ≡ image_size }
     ensures { result ≡ take 27 image.now }
 {
     let mut held = [0u8; 27];
-    let mut i = 0;
-    while i < 27 {
-        held[i] = image[i];
-        i += 1;
-    }
+    held.copy_from_slice(&image[..27]);
     held
 }
 
@@ -30,12 +26,11 @@ fn read_run(image: &[u8], at: usize, v: &mut [u64], from: usize, to: usize) -> u
     ensures next { result ≡ place_of to }
 {
     let mut p = at;
-    let mut i = from;
-    while i < to {
+    // By index: the width of a number goes by its place in the account.
+    for i in from..to {
         let w = width(i);
         v[i] = number(image, p, w);
         p += w;
-        i += 1;
     }
     p
 }

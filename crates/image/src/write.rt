@@ -6,23 +6,19 @@ ghost use Rattle.account.specs.Figures.{listed};
 ghost use Rattle.account.specs.Account.{account_fields, start_numbers, heading_numbers, used_numbers, subtotal_numbers, refusal_numbers};
 ghost use Rattle.image.specs.Image.{front_numbers, image_of, image_size, place_of, stored};
 
-use crate::numbers::put;
 use account::Account;
 use account_numbers::{
     HEADING, REFUSAL, SUBTOTAL, SUMS, USED, of_heading, of_refusal, of_start, of_subtotal, of_used,
     width,
 };
 use book::State;
+use codec::numbers::put;
 
 fn put_held(image: &mut [u8], held: [u8; 27])
     requires { length image.old ≡ image_size }
     ensures { image.new ≡ sets image.old 0 held }
 {
-    let mut i = 0;
-    while i < 27 {
-        image[i] = held[i];
-        i += 1;
-    }
+    image[..27].copy_from_slice(&held);
 }
 
 // The numbers v, which are an account's from one on, at their place; the place of the next.
@@ -33,12 +29,11 @@ fn put_run(image: &mut [u8], at: usize, from: usize, v: &[u64]) -> usize
     ensures next { result ≡ place_of (from + length v.now) }
 {
     let mut p = at;
-    let mut i = 0;
-    while i < v.len() {
+    // By index: the width of a number goes by its place in the account.
+    for i in 0..v.len() {
         let w = width(from + i);
         put(image, p, w, v[i]);
         p += w;
-        i += 1;
     }
     p
 }

@@ -35,11 +35,9 @@ fn put_figures(out: &mut [u8], at: usize, f: &[u64])
     ensures { out.new ≡ sets out.old at (bytes_of (replicate (length f.now) figure) f.now 0) }
 {
     let mut p = at;
-    let mut i = 0;
-    while i < f.len() {
-        put8(out, p, f[i]);
+    for figure in f {
+        put8(out, p, *figure);
         p += 8;
-        i += 1;
     }
 }
 
@@ -73,11 +71,9 @@ fn read_numbers(line: &[u8], v: &mut [u64])
     v[0] = be8(line, 3);
     v[1] = be16(line, 4);
     let mut p = 6;
-    let mut i = 2;
-    while i < v.len() {
+    for i in 2..v.len() {
         v[i] = be64(line, p);
         p += 8;
-        i += 1;
     }
 }
 

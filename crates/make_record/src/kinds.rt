@@ -14,12 +14,13 @@ pub(crate) fn weighed(a: Account, row: u64, v: &[u64]) -> Judged
     requires { AccountInRange a × (a.stage < 2) × Of row v.now }
     ensures { Tells (weigh a row v.now) result }
 {
-    let bad = first_bad(row, v);
-    if bad != 0 {
-        return rules::outside::weigh(a, row, bad);
+    match first_bad(row, v) {
+        Some(bad) => rules::outside::weigh(a, row, bad),
+        None => {
+            let mut r = [0u8; codec::RECORD_MOST];
+            write(&mut r, 0, row, v);
+            let n = bytes_of(row);
+            rules::judge(a, &r[..n], line_bytes::LINES_MOST)
+        }
     }
-    let mut r = [0u8; codec::RECORD_MOST];
-    write(&mut r, 0, row, v);
-    let n = bytes_of(row);
-    rules::judge(a, &r[..n], line_bytes::LINES_MOST)
 }

@@ -10,7 +10,7 @@ use crate::lines::grouped_detail;
 use crate::refusals::{barred, cattle_placed, stopped, wrong};
 use account::{Account, Judged};
 use codec::kinds::CATTLE;
-use grams::cattle::{CattleNitrogen, CattleRation};
+use grams::cattle::CattleRation;
 
 fn cattle_ration(v: [u64; 9]) -> CattleRation
     ensures { result ≡ cattle_ration v }
@@ -54,8 +54,8 @@ pub fn weigh(a: Account, v: [u64; 9], room: usize) -> Judged
     used.nitrogen = sum as u32;
     let n = grams::cattle::nitrogen(cattle_ration(v), h.head as u64);
     match n {
-        CattleNitrogen::BelowZero => wrong(a, 11, 0),
-        CattleNitrogen::Given(m) => {
+        None => wrong(a, 11, 0),
+        Some(m) => {
             let f = cattle_figures(m);
             grouped_detail(a, CATTLE as u8, h.group, used, f, room)
         }

@@ -19,18 +19,19 @@ use Rattle.account.proofs.Keeps.{in-range-judge, in-range-length}
 use Rattle.walk.specs.declared.Found.TheVariants.{Record, Ended}
 use Rattle.walk.specs.declared.Next.{Next}
 use Rattle.book.specs.Front.{Front, unfinished, bad_length, whole, need, front}
-use Rattle.book.specs.Inner.{front_number}
+use Rattle.book.specs.Inner.{told}
+use Rattle.book.specs.declared.front.Front.TheVariants.{BadLength}
 use Rattle.book.proofs.RecordRuns.{record-in}
 use Rattle.walk.specs.Walk.{record_at, lines_of, none_but, at_front, next_of, lines_at, lines_next}
 
--- ---- the front by its number
+-- ---- the front as the code has it
 
-pub front-bad : (f : Front) → front_number f ≡ 1 → f ≡ bad_length
-front-bad unfinished e = absurd (omega arith)
+pub front-bad : (f : Front) → told f ≡ BadLength → f ≡ bad_length
+front-bad unfinished e = let z : ◌≡◌ {A = ℕ} 0 1 = cc in absurd (omega arith)
 front-bad bad_length e = refl
-front-bad whole e = absurd (omega arith)
+front-bad whole e = let z : ◌≡◌ {A = ℕ} 0 1 = cc in absurd (omega arith)
 
-pub front-begun : (f : Front) → (f ≡ whole → ⊥) → (front_number f ≡ 1 → ⊥) → f ≡ unfinished
+pub front-begun : (f : Front) → (f ≡ whole → ⊥) → (told f ≡ BadLength → ⊥) → f ≡ unfinished
 front-begun unfinished w b = refl
 front-begun bad_length w b = absurd (b refl)
 front-begun whole w b = absurd (w refl)

@@ -10,7 +10,7 @@ ghost use Rattle.walk.specs.Walk.{at_front, next_of, lines_next};
 use account::Account;
 use account::line::write;
 use base::first_of;
-use book::front::{front_of, ready};
+use book::front::{Front, front_of, ready};
 use line_bytes::LINES_MOST;
 use rules::judge;
 
@@ -37,20 +37,22 @@ fn unread(a: Account, xs: &[u8]) -> Next
     requires { front xs.now ≡ whole → ⊥ }
     ensures { result ≡ at_front (front xs.now) a xs.now }
 {
-    if front_of(xs, xs.len()) == 1 {
-        let refused = a.refuse(1, 0);
-        return Next {
-            found: Found::BadLength,
+    match front_of(xs, xs.len()) {
+        Front::BadLength => {
+            let refused = a.refuse(1, 0);
+            Next {
+                found: Found::BadLength,
+                size: 0,
+                account: refused,
+                written: 0,
+            }
+        }
+        _ => Next {
+            found: Found::Unfinished,
             size: 0,
-            account: refused,
+            account: a,
             written: 0,
-        };
-    }
-    Next {
-        found: Found::Unfinished,
-        size: 0,
-        account: a,
-        written: 0,
+        },
     }
 }
 

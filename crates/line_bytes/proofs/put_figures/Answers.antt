@@ -8,22 +8,21 @@ use Rattle.codec.proofs.Stores.{one-stored, all-stored}
 use Rattle.line_bytes.specs.Lines.{figure}
 use Rattle.line_bytes.proofs.put_figures.Goals as goal
 
-pub loop-i-init : goal.loop-i-init
-loop-i-init c = (omega arith, omega arith, refl, rw sub-zero)
+pub loop-figure-init : goal.loop-figure-init
+loop-figure-init c = (omega arith, refl, rw sub-zero)
 
-pub loop-i-preserved : goal.loop-i-preserved
-loop-i-preserved c = let l = c.loop-i in
+pub loop-figure-preserved : goal.loop-figure-preserved
+loop-figure-preserved c = let l = c.loop-figure in
     let f = c.args.f.now in (
       omega arith,
       omega arith,
-      omega arith,
-      rw c.put8.ensures (one-stored figure f l.out (length f) l.p l.i (omega arith) ∙ l.invariant.3),
+      rw c.put8.ensures (one-stored figure f l.out (length f) l.p l.figure-index (omega arith) ∙ l.invariant.2),
     )
 
 pub shape_of-out : goal.shape_of-out
-shape_of-out c = c.loop-i.invariant.2
+shape_of-out c = c.loop-figure.invariant.1
 
 pub returns : goal.returns
-returns c = let l = c.loop-i in
+returns c = let l = c.loop-figure in
     let f = c.args.f.now in
-    sym (all-stored figure f l.out (length f) l.p l.i (omega arith)) ∙ l.invariant.3
+    sym (all-stored figure f l.out (length f) l.p l.figure-index (omega arith)) ∙ l.invariant.2

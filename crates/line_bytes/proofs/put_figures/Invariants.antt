@@ -8,9 +8,6 @@ use Rattle.codec.specs.Codec.{bytes_of}
 use Rattle.line_bytes.specs.Lines.{figure}
 use Rattle.line_bytes.proofs.put_figures.Given as goal
 
-abbrev pub invariant-loop-i : goal.invariant-loop-i
-invariant-loop-i l = (l.i ≤ length l.f) × (l.p + (length l.f - l.i) * 8 ≤ length l.out) × (length l.out ≡ length l.initial.out)
-    × (sets l.out l.p (bytes_of (replicate (length l.f - l.i) figure) l.f l.i) ≡ sets l.initial.out l.at (bytes_of (replicate (length l.f) figure) l.f 0))
-
-abbrev pub decreases-loop-i : goal.decreases-loop-i
-decreases-loop-i l = length l.f - l.i
+abbrev pub invariant-loop-figure : goal.invariant-loop-figure
+invariant-loop-figure l = (l.p + (length l.f - l.figure-index) * 8 ≤ length l.out) × (length l.out ≡ length l.initial.out)
+    × (sets l.out l.p (bytes_of (replicate (length l.f - l.figure-index) figure) l.f l.figure-index) ≡ sets l.initial.out l.at (bytes_of (replicate (length l.f) figure) l.f 0))

@@ -9,8 +9,5 @@ use Rattle.line_bytes.specs.Lines.{figure}
 use Rattle.line_bytes.proofs.read_numbers.Given as goal
 
 abbrev pub invariant-loop-i : goal.invariant-loop-i
-invariant-loop-i l = (2 ≤ l.i) × (l.i ≤ length l.v) × (8 * length l.v ≤ length l.line + 10) × (l.p + 10 ≡ 8 * l.i) × (length l.v ≡ length l.initial.v)
+invariant-loop-i l = (8 * length l.v ≤ length l.line + 10) × (l.p + 10 ≡ 8 * l.i) × (length l.v ≡ length l.initial.v)
     × (sets l.v l.i (values_at (replicate (length l.initial.v - l.i) figure) l.line l.p) ≡ sets l.initial.v 2 (values_at (replicate (length l.initial.v - 2) figure) l.line 6))
-
-abbrev pub decreases-loop-i : goal.decreases-loop-i
-decreases-loop-i l = length l.v - l.i

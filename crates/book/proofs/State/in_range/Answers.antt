@@ -5,7 +5,7 @@ use borrow.Author.Tests.{le-leb}
 use lib.ListN.{length}
 use Rattle.book.specs.Front.{front}
 use Rattle.book.specs.State.{held_of, in_range}
-use Rattle.book.proofs.Fronts.{code-some, code-unfinished}
+use Rattle.book.proofs.Fronts.{told-more, told-unfinished}
 use Rattle.book.proofs.Ranges.{too_many}
 use Rattle.book.proofs.State.in_range.Goals as goal
 
@@ -55,9 +55,9 @@ front_of-requires c =
     let places : length c.args.self.held ≡ 27 = search rules in
     let l = places in omega arith
 
-pub returns-then-front_of-ne0 : goal.returns-then-front_of-ne0
+pub returns-in_default : goal.returns-in_default
 unfolding in_range
-returns-then-front_of-ne0 c =
+returns-in_default c =
     let places : length c.args.self.held ≡ 27 = search rules in
     rw (
       places,
@@ -66,13 +66,13 @@ returns-then-front_of-ne0 c =
       c.if-not-in_range.false,
       ← c.zeroed.ensures,
       c.if-not-zeroed.false,
-      code-some (front (held_of c.args.self))
-          (λ e. c.if-front_of-ne0.true (c.front_of.ensures ∙ e)),
+      told-more (front (held_of c.args.self))
+          (λ e. c.in_default.not-Unfinished (c.front_of.ensures ∙ e)),
     )
 
-pub returns : goal.returns
+pub returns-in-Unfinished : goal.returns-in-Unfinished
 unfolding in_range
-returns c =
+returns-in-Unfinished c =
     let places : length c.args.self.held ≡ 27 = search rules in
     rw (
       places,
@@ -81,5 +81,5 @@ returns c =
       c.if-not-in_range.false,
       ← c.zeroed.ensures,
       c.if-not-zeroed.false,
-      code-unfinished (front (held_of c.args.self)) (sym c.front_of.ensures ∙ c.if-front_of-ne0.false),
+      told-unfinished (front (held_of c.args.self)) (sym c.front_of.ensures ∙ c.in-Unfinished.is),
     )

@@ -6,6 +6,3 @@ use Rattle.book.proofs.bytes.zeroed.Given as goal
 
 abbrev pub invariant-loop-i : goal.invariant-loop-i
 invariant-loop-i l = (length l.a ≡ 27) × (zeros (drop l.n l.a) ≡ zeros (drop l.i l.a))
-
-abbrev pub decreases-loop-i : goal.decreases-loop-i
-decreases-loop-i l = 27 - l.i

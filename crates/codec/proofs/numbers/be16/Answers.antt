@@ -1,8 +1,10 @@
 -- `codec::numbers::be16` meets its contract.
 -- Assumes nothing.
-use Rattle.codec.proofs.BigEndian.{two_bytes}
-use borrow.Author.Rules.{rules}
+use native.Mathlib.Nat.{add-zero}
+use native.Mathlib.Omega.{arith}
+use Rattle.codec.specs.Codec.{val_at}
 use Rattle.codec.proofs.numbers.be16.Goals as goal
 
 pub returns : goal.returns
-returns c = search (rules, two_bytes)
+unfolding val_at
+returns c = rw (c.from_be_bytes.ensures, add-zero) (omega arith)

@@ -1,5 +1,5 @@
 -- `grams::carbon_rate::exp_neg` meets its contract. The loop's invariant: the steps that are left make the rule's value. Assumes nothing.
-use Rattle.std.proofs.Common.{◌≡◌, sym, ◌∙◌, arith}
+use Rattle.std.proofs.Common.{◌≡◌, ◌-◌, sym, ◌∙◌, arith}
 use Rattle.grams.specs.CarbonRate.{exp_of}
 use Rattle.grams.proofs.Bounds.{◌⊗◌, fits}
 use Rattle.grams.proofs.carbon_rate.Steps.{turn, ended}
@@ -7,13 +7,12 @@ use Rattle.grams.proofs.carbon_rate.exp_neg.Goals as goal
 
 pub loop-i-preserved : goal.loop-i-preserved
 loop-i-preserved c = let l = c.loop-i in
-    let x = c.args.x in
-    (omega arith, omega arith, rw c.less-e.ensures (sym (turn x l.i l.e c.loop-i-test.true) ∙ l.invariant.2))
+    (omega arith, omega arith, rw c.less-e.ensures (sym (turn c.args.x (l.i - 1) l.e (omega arith)) ∙ l.invariant.2))
 
 pub returns : goal.returns
 unfolding exp_of
 returns c = let l = c.loop-i in
-    let done : l.i ≡ 0 = omega arith in
+    let done : l.i ≡ 1 = omega arith in
     record { exact = sym (ended _ _) ∙ rw done at l.invariant.2; small = l.invariant.1 }
 
 pub first_steps-e-requires : goal.first_steps-e-requires

@@ -1,9 +1,8 @@
 -- `grams::cattle::nitrogen` meets its contract. Assumes nothing.
-use Rattle.std.proofs.Common.{◌≡◌, ℕ, ◌-◌, ◌*◌, ◌<◌, ◌≤◌, arith, rules, le-ltb, lt-ltb}
+use Rattle.std.proofs.Common.{◌≡◌, ℕ, ◌-◌, ◌*◌, ◌<◌, ◌≤◌, arith, rules, le-ltb, lt-ltb, None, Some}
 use Rattle.grams.specs.Cattle.{CattleIn, fed_of, kept_of, below_zero, excreted_of, storage_of, manure_of, cattle_nitrogen_of}
 use Rattle.grams.specs.declared.units.N2o.{N2o}
 use Rattle.grams.specs.declared.cattle.CattleRation.{CattleRation}
-use Rattle.grams.specs.declared.cattle.CattleNitrogen.TheVariants.{BelowZero, Given}
 use Rattle.grams.proofs.Bounds.{◌⊗◌, num}
 use Rattle.grams.proofs.cattle.nitrogen.Goals as goal
 
@@ -16,13 +15,13 @@ module _ {r : CattleRation} {head : ℕ} (p : CattleIn r head) where
   milk-room = num _ ⊗ p.milk-in ⊗ p.milkprotein-in
 
 -- the answer where milk and gain keep more
-below-is : (r : CattleRation) (head : ℕ) → fed_of r < kept_of r → BelowZero ≡ cattle_nitrogen_of r head
+below-is : (r : CattleRation) (head : ℕ) → fed_of r < kept_of r → None ≡ cattle_nitrogen_of r head
 unfolding below_zero
 below-is r head p = simp (lt-ltb _ _ p)
 
 -- the answer where the feed brings enough
 given_is : (r : CattleRation) (head n : ℕ) (g : N2o) → kept_of r ≤ fed_of r → n ≡ excreted_of (fed_of r - kept_of r) head r.days
-    → g ≡ storage_of n r.solid r.liquid → Given (record { excreted = n; n2o = g }) ≡ cattle_nitrogen_of r head
+    → g ≡ storage_of n r.solid r.liquid → Some (record { excreted = n; n2o = g }) ≡ cattle_nitrogen_of r head
 unfolding below_zero manure_of
 given_is r head n g p e f = simp (le-ltb _ _ p) (cc)
 

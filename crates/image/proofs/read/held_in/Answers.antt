@@ -1,16 +1,12 @@
--- `image::read::held_in` meets its contract: the first 27 bytes, one after the other.
+-- `image::read::held_in` meets its contract: the first 27 bytes.
 -- Assumes nothing.
-use mathlib.Core.Path.{◌≡◌, refl}
-use mathlib.Core.List.{append-nil}
+use mathlib.Core.Path.{sym}
 use native.Mathlib.Omega.{arith}
-use Rattle.book.proofs.MovedBytes.{keep-on}
+use lib.Seq.{length-take-le}
 use Rattle.image.proofs.read.held_in.Goals as goal
 
-pub loop-i-init : goal.loop-i-init
-loop-i-init c = (omega arith, refl)
+pub slice_bounds-copy_from_slice-end-2 : goal.slice_bounds-copy_from_slice-end-2
+slice_bounds-copy_from_slice-end-2 c = sym (length-take-le 27 c.args.image.now (omega (arith, c.requires)))
 
-pub loop-i-preserved : goal.loop-i-preserved
-loop-i-preserved c = (omega arith, keep-on _ _ _ c.loop-i.invariant.1 (omega arith) (omega arith))
-
-pub returns : goal.returns
-returns c = let l = c.loop-i in let done : l.i ≡ 27 = omega arith in rw (done, append-nil) at l.invariant.1
+pub copy_from_slice-requires : goal.copy_from_slice-requires
+copy_from_slice-requires c = sym (length-take-le 27 c.args.image.now (omega (arith, c.requires)))

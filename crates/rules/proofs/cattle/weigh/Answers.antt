@@ -99,33 +99,33 @@ grouped_detail-requires c =
       sums-most _ c.requires.0,
       subtotal-most _ c.requires.0,
       small-cattle _ _ _ c.nitrogen-n.ensures _
-          c.in-Given.is _ c.cattle_figures-f.ensures,
+          c.in-Some.is _ c.cattle_figures-f.ensures,
     )
 
-pub returns-in-BelowZero : goal.returns-in-BelowZero
+pub returns-in-None : goal.returns-in-None
 unfolding first in_place_lem sort_of
-returns-in-BelowZero c =
+returns-in-None c =
     let passed : Passes c.args.a 4
     c.args.v = passes _ 4 _ _ _ _ (cattle-place _ c.requires.0 _ c.cattle_placed-placed.ensures)
     (sym c.if-bad-ne0.false ∙ c.first_bad-bad.ensures) c.barred-code-2.ensures
     c.if-code-ne0.false in
-    let below = below-zero _ _ _ c.nitrogen-n.ensures c.in-BelowZero.is in
+    let below = below-zero _ _ _ c.nitrogen-n.ensures c.in-None.is in
     refuses _ 4 _ (passed) _ 11 _
     (rw (
       le-ltb _ _ c.if-sum-gt366.false,
       eq-eqb _ 10000 c.if-v-ne10000.false,
       rw c.cattle_ration.ensures at below,
     ))
-    refl refl c.wrong-in-BelowZero.ensures
+    refl refl c.wrong-in-None.ensures
 
-pub returns-in-Given : goal.returns-in-Given
+pub returns-in-Some : goal.returns-in-Some
 unfolding first accepted figures_of sort_of in_place_lem
-returns-in-Given c =
+returns-in-Some c =
     let passed : Passes c.args.a 4
     c.args.v = passes _ 4 _ _ _ _ (cattle-place _ c.requires.0 _ c.cattle_placed-placed.ensures)
     (sym c.if-bad-ne0.false ∙ c.first_bad-bad.ensures) c.barred-code-2.ensures
     c.if-code-ne0.false in
-    let given = c.in-Given.is in
+    let given = c.in-Some.is in
     let above = not-below _ _ _ c.nitrogen-n.ensures _ given in
     let manure = manure-is _ _ _ c.nitrogen-n.ensures _ given in
     told_in _ _ _ _ _ c.grouped_detail.ensures
