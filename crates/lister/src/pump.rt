@@ -55,14 +55,12 @@ fn go_on(mut w: Work) -> Work {
     w
 }
 
-// The rows of a part; a part of 2,048 bytes never fills the line buffer, so that one call takes it. A proved loop has to end: the calls count
-// down from a number that no part uses up, since each takes a byte.
+// The rows of a part; a part of 2,048 bytes never fills the line buffer, so that one call takes it. There are no more calls than bytes, since
+// each takes one.
 fn take_part(rt: &impl System, form: Form, from: Work, part: &[u8], text: &mut [u8]) -> Work {
     let mut w = from;
     let mut i = 0;
-    let mut calls = part.len();
-    while calls > 0 {
-        calls -= 1;
+    for call in 0..part.len() {
         let done = take_once(rt, form, w, &part[i..], text);
         w = done.work;
         i += done.taken;
@@ -79,6 +77,7 @@ fn read_on(rt: &impl System, form: Form, from: Work, text: &mut [u8]) -> Work {
     let mut part = [0u8; 2048];
     let mut stdin = rt.input();
     let mut input = Reading::new();
+    // No count by hand: a reading counts its own turns, one for each part that it reads.
     while 0 < input.turns {
         if !w.more {
             return w;

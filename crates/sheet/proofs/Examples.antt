@@ -8,6 +8,7 @@ use Rattle.sheet.specs.Numbers.{digits, positive, unsigned, unsigned_cell, signe
 use Rattle.line_bytes.specs.Lines.{line_fields, numbers_bytes, is_line}
 use Rattle.line_rows.specs.Rows.{line_numbers, columns_text, row_text, line_row}
 use Rattle.sheet.specs.Rows.{highest_of, columns, starts_with, read_cell, read_row}
+use Rattle.sheet.specs.declared.Refusal.TheVariants.{WrongForm, OutsideField}
 use Rattle.sheet.specs.Sheets.{item, wrong, line_item, row_item}
 
 -- a line of kind 3, group 7, CH4 10, CO2 -1
@@ -40,20 +41,20 @@ co2 : List ℕ → List ℕ
 co2 t = 51 ∷ 44 ∷ 55 ∷ 44 ∷ 48 ∷ 44 ∷ 48 ∷ 44 ∷ (t ++ (44 ∷ 48 ∷ 44 ∷ 48 ∷ 44 ∷ 48 ∷ 44 ∷ 13 ∷ 10 ∷ []))
 
 -- "-0", "00" and "+1" are no numbers
-minus-zero : row_item (co2 (45 ∷ 48 ∷ [])) ≡ wrong 20
+minus-zero : row_item (co2 (45 ∷ 48 ∷ [])) ≡ wrong WrongForm
 unfolding co2 row_item read_row columns line_fields highest_of bytes_hold read_cell unsigned_cell signed_cell unsigned positive digits starts_with
 minus-zero = refl
 
-two-zeros : row_item (co2 (48 ∷ 48 ∷ [])) ≡ wrong 20
+two-zeros : row_item (co2 (48 ∷ 48 ∷ [])) ≡ wrong WrongForm
 unfolding co2 row_item read_row columns line_fields highest_of bytes_hold read_cell unsigned_cell signed_cell unsigned positive digits starts_with
 two-zeros = refl
 
-plus_one : row_item (co2 (43 ∷ 49 ∷ [])) ≡ wrong 20
+plus_one : row_item (co2 (43 ∷ 49 ∷ [])) ≡ wrong WrongForm
 unfolding co2 row_item read_row columns line_fields highest_of bytes_hold read_cell unsigned_cell signed_cell unsigned positive digits starts_with
 plus_one = refl
 
 -- 9223372036854775808 is outside, and with a minus sign inside
-too-high : row_item (co2 (decimal 9223372036854775808)) ≡ wrong 21
+too-high : row_item (co2 (decimal 9223372036854775808)) ≡ wrong OutsideField
 unfolding co2 row_item read_row columns line_fields highest_of bytes_hold read_cell unsigned_cell signed_cell unsigned positive digits starts_with
     decimal digits_by
 too-high = refl

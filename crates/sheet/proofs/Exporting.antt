@@ -9,9 +9,10 @@ use lib.Seq.{drop-drop}
 use Rattle.base.proofs.Tests.{of-choice}
 use Rattle.printing.specs.Decimal.{Put}
 use Rattle.printing.proofs.Puts.{and-then}
-use Rattle.sheet.specs.declared.Answer.{Answer}
-use Rattle.sheet.specs.declared.Answer.TheVariants.{Refused}
-use Rattle.sheet.specs.declared.lines.Total.{Total}
+use native.Mathlib.Nat.{zero-add}
+use Rattle.std.specs.Prelude.{Option, Some, Result, Err}
+use Rattle.sheet.specs.declared.Refusal.TheVariants.{NoLines}
+use Rattle.sheet.specs.declared.Refused.{Refused}
 use Rattle.line_bytes.specs.Lines.{line_size, total_size, is_total, front_size, is_line}
 use Rattle.line_rows.specs.declared.Form.TheVariants.{Sheet}
 use Rattle.line_rows.specs.Rows.{line_row, header}
@@ -34,7 +35,7 @@ long-enough s e = omega (arith, front-there s e, size-least s)
 pub front-most : (s : List ℕ) → front_size s ≤ total_size
 front-most s = of-choice (λ (n : ℕ). n ≤ total_size) (is_total s) (λ e. omega arith) (λ e. omega arith)
 
-pub no_line : (s : List ℕ) → is_line s ≡ false → line_item s ≡ wrong 23
+pub no_line : (s : List ℕ) → is_line s ≡ false → line_item s ≡ wrong NoLines
 unfolding line_item
 no_line s e = rw e
 
@@ -68,7 +69,7 @@ module _ (lines : List ℕ) (i : ℕ) (s : List ℕ) (n : ℕ) (e : s ≡ drop i
 -- ---- the answer
 
 -- the answer, by the lines that are left
-pub record Going (whole : Answer) (room : ℕ) (total : Total) (left : List ℕ) : Type 0 where
+pub record Going (whole : Result ℕ Refused) (room : ℕ) (total : Option ℕ) (left : List ℕ) : Type 0 where
   pub row : ℕ
   pub plan : Planned line_item (λ n. 0) whole room total left row
 
@@ -76,7 +77,7 @@ unseen : (k room : ℕ) (m : Made) → answer_after k (no_row m) room ≡ sized 
 unseen k room (made t) = refl
 unseen k room (refused c r) = refl
 
-pub going : (lines : List ℕ) (room k : ℕ) (start : Total) → start ≡ total_of room k → Going (answer_after k (rows_of lines) room) room start lines
+pub going : (lines : List ℕ) (room k : ℕ) (start : Option ℕ) → start ≡ total_of room k → Going (answer_after k (rows_of lines) room) room start lines
 unfolding rows_of
 going lines room k start e =
     record {
@@ -91,14 +92,14 @@ going lines room k start e =
       };
     }
 
-module _ (lines : List ℕ) (i : ℕ) {whole : Answer} {room : ℕ} {total : Total} (g : Going whole room total (drop i lines)) (h : i < length lines) where
+module _ (lines : List ℕ) (i : ℕ) {whole : Result ℕ Refused} {room : ℕ} {total : Option ℕ} (g : Going whole room total (drop i lines)) (h : i < length lines) where
   some : 0 < length (drop i lines)
   some = omega (arith, length-drop i lines)
 
-  pub going-wrong : (s : List ℕ) → s ≡ drop i lines → is_line s ≡ false → whole ≡ Refused 23 0
-  going-wrong s e f = plan-wrong g.plan 23 some (rw (← e) (no_line s f))
+  pub going-wrong : (s : List ℕ) → s ≡ drop i lines → is_line s ≡ false → whole ≡ Err (record { why = NoLines; row = 0 })
+  going-wrong s e f = plan-wrong g.plan NoLines some (rw (← e) (no_line s f))
 
-  pub going_on : (s : List ℕ) (n size : ℕ) (t : Total) → s ≡ drop i lines → is_line s ≡ true → n ≡ front_size s → size ≡ length (line_row Sheet s)
+  pub going_on : (s : List ℕ) (n size : ℕ) (t : Option ℕ) → s ≡ drop i lines → is_line s ≡ true → n ≡ front_size s → size ≡ length (line_row Sheet s)
       → t ≡ more_bytes total size room → Going whole room t (drop (i + n) lines)
   going_on s n size t e l o z add =
       let p = g.plan in
@@ -122,6 +123,14 @@ header-after (refused c r) room = refl
 pub after-header : (lines : List ℕ) (room : ℕ) → answer_after (length (header Sheet)) (rows_of lines) room ≡ answer (export_of lines) room
 unfolding export_of
 after-header lines room = header-after (rows_of lines) room
+
+-- the plan, behind the header
+pub planned : (lines : List ℕ) (room size : ℕ) (start : Option ℕ) (plan : Result ℕ Refused) → size ≡ length (header Sheet)
+    → start ≡ more_bytes (Some 0) size room
+    → ((k : ℕ) → start ≡ total_of room k → plan ≡ answer_after k (rows_of lines) room)
+    → plan ≡ answer (export_of lines) room
+planned lines room size start plan e s p =
+    p size (s ∙ ap (λ (n : ℕ). total_of room n) (zero-add size)) ∙ ap (λ (n : ℕ). answer_after n (rows_of lines) room) e ∙ after-header lines room
 
 -- ---- the rows
 
@@ -154,9 +163,6 @@ module _ (lines : List ℕ) (room : ℕ) (p : Promised (export_of lines) room) w
   whole : made_of (export_of lines) ≡ header Sheet ++ made_of (rows_of lines)
   unfolding export_of
   whole = before-made (header Sheet) (rows_of lines) rows_all
-
-  pub rows_fit : length (header Sheet) + length (made_of (rows_of lines)) ≤ room
-  rows_fit = omega (arith, p.fits, ap length whole, length-append (header Sheet) (made_of (rows_of lines)))
 
   pub sheet-put : {xs ys zs : List ℕ} {q r : ℕ} → Put xs ys 0 (header Sheet) q → Put ys zs q (made_of (rows_of lines)) r
       → Put xs zs 0 (made_of (export_of lines)) r

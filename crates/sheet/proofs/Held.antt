@@ -3,45 +3,37 @@ use Prim.Native.Nat.{ℕ, ◌+◌, ◌-◌, ◌*◌, ◌<◌, ◌≤◌}
 use native.Mathlib.Omega.{arith}
 use native.Mathlib.Numerals.{add-one}
 use native.Mathlib.Nat.{add-zero}
-use mathlib.Core.Bool.{Bool, true, false, not, ◌&&◌}
+use mathlib.Core.Bool.{Bool, true, false, ◌&&◌}
 use mathlib.Core.Path.{◌≡◌, refl, sym, ap, ◌∙◌}
 use mathlib.Core.List.{List}
 use lib.ListN.{length, get_or, drop, drop_of_length-le, get_or-eq_default}
 use lib.Seq.{drop-cons, drop-drop, get_or-drop}
-use lib.Dec.{leb}
-use borrow.Author.Tests.{leb-true, leb-false, le-leb, lt-leb, eq-eqb, ne_eqb, not-true, not-false}
-use Rattle.sheet.specs.declared.numbers.Amount.{Amount}
-use Rattle.sheet.specs.declared.numbers.Run.{Run}
+use lib.Dec.{leb, ltb}
+use borrow.Author.Tests.{leb-true, leb-false, le-leb, lt-leb, lt-ltb, eq-eqb, ne_eqb}
+use Rattle.std.specs.Prelude.{Option, Some, Result, Ok, Err, ok_or, IsErrAnd}
+use Rattle.std.specs.Result.{result_unwrap_or}
+use Rattle.base.specs.Choice.{pick}
+use Rattle.sheet.specs.declared.numbers.CellFault.{CellFault}
+use Rattle.sheet.specs.declared.numbers.CellFault.TheVariants.{Outside}
 use Rattle.sheet.specs.Numbers.{full, first, Number, found, none, digits, positive, unsigned, unsigned_cell, signed_cell, in_field}
-use Rattle.sheet.specs.Code.{held, IsRun, IsRead}
-use Rattle.base.proofs.Tests.{by-test, and_l, and_r}
+use Rattle.sheet.specs.Rows.{kind_in}
+use Rattle.sheet.specs.declared.numbers.Read.{Read}
+use Rattle.sheet.specs.Code.{held, result_of, number_of, IsRun, IsRead}
+use Rattle.base.proofs.Tests.{by-test, and_r}
+
+-- what a `?` hands on
+pub err-same : {T E : Type 0} (r : Result T E) (e : E) → IsErrAnd r (λ d. d ≡ e) → r ≡ Err e
+err-same (Ok x) e h = absurd h
+err-same (Err d) e h = ap Err h
 
 -- ---- an amount
 
-pub too-big : (w : ℕ) → full ≤ w → record { big = true; value = 0 } ≡ held w
-too-big w h = rw (le-leb full w h)
+-- what is past 64 bits is outside its field
+pub held_is : (number : Option ℕ) (w : ℕ) → number ≡ held w → ok_or number Outside ≡ result_of true (ltb w full) w
+held_is number w e = by-test (ltb w full) (λ t. rw (e, t) refl) (λ f. rw (e, f) refl)
 
-pub in-bits : (w v : ℕ) → w < full → v ≡ w → record { big = false; value = v } ≡ held w
-in-bits w v h e = rw (e, lt-leb full w h)
-
-module _ (a : Amount) (w : ℕ) (e : a ≡ held w) where
-  big-is : a.big ≡ leb full w
-  big-is = ap (λ (x : Amount). x.big) e
-
-  pub held-big : a.big ≡ true → full ≤ w
-  held-big t = leb-true full w (sym big-is ∙ t)
-
-  pub held_small : a.big ≡ false → w < full
-  held_small f = leb-false full w (sym big-is ∙ f)
-
-  pub held-value : a.big ≡ false → a.value ≡ w
-  held-value f = ap (λ (x : Amount). x.value) e ∙ rw (sym big-is ∙ f)
-
-  pub held_fits : (h : ℕ) → h < full → (not a.big && leb a.value h) ≡ leb w h
-  held_fits h l =
-      by-test a.big
-      (λ t. rw (t, lt-leb w h (omega (arith, held-big t))))
-      (λ f. rw (f, held-value f))
+pub held-small : (w v : ℕ) → w < full → v ≡ w → Some v ≡ held w
+held-small w v h e = rw (e, lt-ltb w full h) refl
 
 -- ---- at an index
 
@@ -57,26 +49,18 @@ module _ (w : ℕ) (text : List ℕ) (i : ℕ) where
   at-end h = rw (drop_of_length-le text h)
 
   module _ (h : i < length text) where
-    pub at_low : get_or text i 0 < 48 → digits w (drop i text) ≡ found w (drop i text)
+    pub at-other : (leb 48 (get_or text i 0) && leb (get_or text i 0) 57) ≡ false → digits w (drop i text) ≡ found w (drop i text)
     unfolding digits
-    at_low l = rw (drop-cons text i 0 h, lt-leb 48 (get_or text i 0) l)
+    at-other f = rw (drop-cons text i 0 h, f)
 
-    pub at_high : 57 < get_or text i 0 → digits w (drop i text) ≡ found w (drop i text)
+    pub at-digit : (leb 48 (get_or text i 0) && leb (get_or text i 0) 57) ≡ true
+        → digits w (drop i text) ≡ digits (w * 10 + (get_or text i 0 - 48)) (drop (i + 1) text)
     unfolding digits
-    at_high l = rw (drop-cons text i 0 h, le-leb 48 (get_or text i 0) (omega arith), lt-leb (get_or text i 0) 57 l)
+    at-digit t = rw (add-one, drop-cons text i 0 h, t)
 
-    pub at-digit : 48 ≤ get_or text i 0 → get_or text i 0 ≤ 57 → digits w (drop i text) ≡ digits (w * 10 + (get_or text i 0 - 48)) (drop (i + 1) text)
-    unfolding digits
-    at-digit l u = rw (add-one, drop-cons text i 0 h, le-leb 48 (get_or text i 0) l, le-leb (get_or text i 0) 57 u)
-
-pub run_is : (text : List ℕ) (n : Number) (w i : ℕ) (a : Amount) → i ≤ length text → a ≡ held w → n ≡ found w (drop i text)
-    → IsRun text n (record { good = true; amount = a; end = i })
-run_is text n w i a h e f = rw f (record { good = refl; amount = e; rest = refl; inside = h })
-
-pub zero_is : (text : List ℕ) (n : Number) (good : Bool) (i : ℕ) (r : Run) → n ≡ record { good = good; value = 0; rest = drop i text }
-    → i ≤ length text
-    → (r.good ≡ good) × (r.amount ≡ held 0) × (r.end ≡ i) → IsRun text n r
-zero_is text n good i r f h e = rw f (record { good = e.0; amount = e.1; rest = rw e.2; inside = rw e.2 h })
+pub run_is : (text : List ℕ) (n : Number) (w i : ℕ) (number : Option ℕ) → i ≤ length text → number ≡ held w → n ≡ found w (drop i text)
+    → IsRun text n (record { number = ok_or number Outside; end = i })
+run_is text n w i number h e f = rw f (record { number = held_is number w e; rest = refl; inside = h })
 
 -- ---- a number that begins with the byte b
 
@@ -119,36 +103,46 @@ module _ (text : List ℕ) (at b : ℕ) (e : b ≡ get_or text at 0) where
 
 -- ---- in its field
 
-pub and_assoc : (a b c : Bool) → ((a && b) && c) ≡ (a && (b && c))
-and_assoc true b c = refl
-and_assoc false b c = refl
+ok-result : (g b : Bool) (v w : ℕ) → Ok v ≡ result_of g b w → (g ≡ true) × (b ≡ true) × (v ≡ w)
+ok-result true true v w e = (refl, refl, cc)
+ok-result true false v w e = cc
+ok-result false b v w e = cc
 
-module _ (text : List ℕ) (m : Number) (n : Run) (o : IsRun text m n) where
-  pub fits-is : (h : ℕ) → h < full → ((n.good && not n.amount.big) && leb n.amount.value h) ≡ (m.good && leb m.value h)
-  fits-is h l = and_assoc n.good (not n.amount.big) (leb n.amount.value h) ∙ rw (o.good, held_fits n.amount m.value o.amount h l)
+err-other : (g b : Bool) (v w : ℕ) (f : CellFault) → Err f ≡ result_of g (g && b) (pick (g && b) v 0) → Err f ≡ result_of g (g && b) (pick (g && b) w 0)
+err-other true true v w f e = cc
+err-other true false v w f e = e
+err-other false b v w f e = e
 
-  module _ (r : Bool) (h : ℕ) (e : r ≡ (m.good && leb m.value h)) where
-    pub outside-is : (v : ℕ) → not r ≡ true → IsRead text (in_field m h v) (record { good = n.good; fits = false; value = 0; end = n.end })
-    outside-is v f =
-        let x : (m.good && leb m.value h) ≡ false = sym e ∙ not-true r f in
-        record { good = o.good; fits = sym x; value = rw x; rest = o.rest; inside = o.inside }
+module _ (m : Number) (h : ℕ) where
+  -- a number in its field, and another value there
+  pub field-wrong : (f : CellFault) (w : ℕ) → Err f ≡ number_of (in_field m h m.value) → Err f ≡ number_of (in_field m h w)
+  field-wrong f w e = err-other m.good (leb m.value h) m.value w f e
 
-    module _ (t : not r ≡ false) where
-      passed : (m.good && leb m.value h) ≡ true
-      passed = sym e ∙ not-false r t
+  module _ (v : ℕ) (e : Ok v ≡ number_of (in_field m h m.value)) where
+    passed : (m.good ≡ true) × ((m.good && leb m.value h) ≡ true) × (v ≡ pick (m.good && leb m.value h) m.value 0)
+    passed = ok-result m.good (m.good && leb m.value h) v _ e
 
-      pub passed-good : m.good ≡ true
-      passed-good = and_l _ _ passed
+    pub field-good : m.good ≡ true
+    field-good = passed.0
 
-      pub passed-most : m.value ≤ h
-      passed-most = leb-true m.value h (and_r m.good _ passed)
+    most : leb m.value h ≡ true
+    most = and_r m.good _ passed.1
 
-      pub passed-value : h < full → n.amount.value ≡ m.value
-      passed-value l =
-          let small = passed-most in
-          by-test n.amount.big
-          (λ b. absurd (omega (arith, held-big n.amount m.value o.amount b)))
-          (λ b. held-value n.amount m.value o.amount b)
+    pub field-value : v ≡ m.value
+    field-value = rw passed.1 at passed.2
 
-      pub inside_is : (u v : ℕ) → u ≡ v → IsRead text (in_field m h v) (record { good = n.good; fits = true; value = u; end = n.end })
-      inside_is u v q = record { good = o.good; fits = sym passed; value = rw passed q; rest = o.rest; inside = o.inside }
+    pub field-right : (u w : ℕ) → u ≡ w → Ok u ≡ number_of (in_field m h w)
+    field-right u w q = rw (passed.0, most) (ap Ok q)
+
+-- the number of a cell, 0 where it is outside its field
+value-or : (g b : Bool) (v : ℕ) → result_unwrap_or (result_of g (g && b) (pick (g && b) v 0)) 0 ≡ pick (g && b) v 0
+value-or true true v = refl
+value-or true false v = refl
+value-or false b v = refl
+
+-- the kind of the row that s begins with
+pub kind-is : {text : List ℕ} (s : List ℕ) {r : Read} {kind : ℕ} → kind ≡ result_unwrap_or r.number 0 → IsRead text (unsigned_cell 255 s) r → kind ≡ kind_in s
+unfolding unsigned_cell
+kind-is {text} s {r} {kind} e o =
+    let n = unsigned s in
+    e ∙ ap (λ (x : Result ℕ CellFault). result_unwrap_or x 0) o.number ∙ value-or n.good (leb n.value 255) n.value

@@ -1,23 +1,28 @@
 -- A row as an item, by what the code read of it.
-use Prim.Native.Nat.{ℕ, ◌+◌, ◌-◌, ◌<◌, ◌≤◌}
+use Prim.Native.Nat.{ℕ, ◌+◌, ◌-◌, ◌≤◌}
 use native.Mathlib.Omega.{arith}
-use mathlib.Core.Bool.{Bool, true, false, not, ◌&&◌}
-use mathlib.Core.Path.{◌≡◌, refl, sym, ap, ◌∙◌}
+use mathlib.Core.Bool.{true, false}
+use mathlib.Core.Path.{◌≡◌, sym, ap, ◌∙◌}
 use mathlib.Core.List.{List, ◌∷◌, append_assoc}
 use lib.ListN.{length, take, drop, length-append}
 use lib.Seq.{sets, sets-eq}
 use lib.Dec.{eqb}
-use borrow.Author.Tests.{not-true, not-false}
 use Rattle.codec.specs.Table.{size}
 use Rattle.codec.proofs.Values.{bytes-length}
 use Rattle.line_bytes.specs.Lines.{size_of_kind, fields_of_kind, is_line_kind, numbers_bytes}
 use Rattle.line_bytes.proofs.Rows.{sizes}
 use Rattle.printing.specs.Decimal.{Put}
 use Rattle.sheet.specs.declared.rows.RowRead.{RowRead}
-use Rattle.sheet.specs.Rows.{columns, read_row, kind_in}
+use Rattle.sheet.specs.Rows.{columns, read_row, kind_in, row_in}
 use Rattle.sheet.specs.Sheets.{item, wrong, row_item}
-use Rattle.sheet.specs.Code.{IsRow}
-use Rattle.base.proofs.Tests.{by-test, and_l}
+use Rattle.sheet.specs.Code.{IsFault, IsWhole, IsLine, IsLineRow, refusal_of}
+use Rattle.std.specs.Prelude.{Result, Ok, Err, IsOk}
+use Rattle.sheet.specs.declared.numbers.CellFault.{CellFault}
+use Rattle.sheet.specs.declared.numbers.CellFault.TheVariants.{Malformed, Outside}
+use Rattle.sheet.specs.declared.Refusal.{Refusal}
+use Rattle.sheet.specs.declared.Refusal.TheVariants.{OutsideField}
+use borrow.Author.Rules.{rules}
+use Rattle.base.proofs.Tests.{by-test}
 use Rattle.sheet.proofs.AsColumns.{row_text}
 use Rattle.sheet.proofs.Columns.{row_reads}
 use Rattle.sheet.proofs.RoundTrip.{sounds, row-some, other}
@@ -36,52 +41,43 @@ stored-put k vs xs ys at n e h d =
     let m : at + n ≡ at + length bs = omega (arith, line-length k vs) in
     record { next = m; room = omega (arith, m); text = rw m (d ∙ sets-eq bs xs at h ∙ append_assoc (take at xs) bs (drop (at + length bs) xs)) }
 
-module _ (text : List ℕ) (i : ℕ) (r : RowRead)
-    (o : IsRow text (kind_in (drop i text)) (read_row (columns (kind_in (drop i text))) (drop i text)) r) where
-  pub row-form : not r.good ≡ true → row_item (drop i text) ≡ wrong 20
+module _ (text : List ℕ) (i : ℕ) where
+  pub row-wrong : (e : CellFault) → IsFault (row_in (drop i text)) e → row_item (drop i text) ≡ wrong (refusal_of e)
   unfolding row_item
-  row-form f = let g = sym o.good ∙ not-true r.good f in rw g
+  row-wrong Malformed o = rw o
+  row-wrong Outside o = rw (o.0, o.1)
 
-  module _ (k : Bool) (e : k ≡ is_line_kind r.kind) (g : not r.good ≡ false) where
-    good-is : (read_row (columns (kind_in (drop i text))) (drop i text)).good ≡ true
-    good-is = sym o.good ∙ not-false r.good g
-
-    both_is : (r.fits && k) ≡ ((read_row (columns (kind_in (drop i text))) (drop i text)).fits && is_line_kind (kind_in (drop i text)))
-    both_is = rw (o.fits, e, o.kinds)
-
-    pub row_field : not (r.fits && k) ≡ true → row_item (drop i text) ≡ wrong 21
+  module _ (r : RowRead) (o : IsWhole text (kind_in (drop i text)) (read_row (columns (kind_in (drop i text))) (drop i text)) r) where
+    pub row_field : is_line_kind r.kind ≡ false → row_item (drop i text) ≡ wrong OutsideField
     unfolding row_item
-    row_field f = let b = sym both_is ∙ not-true (r.fits && k) f in rw (good-is, b)
+    row_field f = let k : is_line_kind (kind_in (drop i text)) ≡ false = rw o.read.kinds at f in rw (o.good, o.fits, k)
 
-    module _ (f : not (r.fits && k) ≡ false) where
-      passed : ((read_row (columns (kind_in (drop i text))) (drop i text)).fits && is_line_kind (kind_in (drop i text))) ≡ true
-      passed = sym both_is ∙ not-false (r.fits && k) f
-
-      pub row-right : row_item (drop i text) ≡ item (numbers_bytes r.kind r.values) (drop r.end text)
-      unfolding row_item
-      row-right = rw (good-is, passed, o.kinds, o.values, o.rest)
-
-      pub row-shorter : length (drop r.end text) < length (drop i text)
-      row-shorter =
-          let kind = kind_in (drop i text) in
-          let row = read_row (columns kind) (drop i text) in
-          let w = row_reads (columns kind) (drop i text) (sounds kind) good-is (and_l _ _ passed) in
-          omega (
+    pub row-right : is_line_kind r.kind ≡ true → IsLine text (drop i text) r
+    unfolding row_item
+    row-right t =
+        let kind = kind_in (drop i text) in
+        let k : is_line_kind kind ≡ true = rw o.read.kinds at t in
+        let all = read_row (columns kind) (drop i text) in
+        let w = row_reads (columns kind) (drop i text) (sounds kind) o.good o.fits in
+        record {
+          line = rw (o.good, o.fits, k, o.read.kinds, o.read.values, o.read.rest);
+          inside = o.read.inside;
+          shorter = omega (
             arith,
             ap length w.text,
-            length-append (row_text (columns kind) row.values) row.rest,
-            row-some kind row.values,
-            ap length
-                o.rest,
-          )
+            length-append (row_text (columns kind) all.values) all.rest,
+            row-some kind all.values,
+            ap length o.read.rest,
+          );
+        }
 
-  -- what it is, where it is one
-  pub row_is : (p q : List ℕ) → row_item (drop i text) ≡ item p q
-      → (numbers_bytes r.kind r.values ≡ p) × (drop r.end text ≡ q) × (length (drop r.end text) < length (drop i text))
-  row_is p q e =
-      by-test (not r.good)
-      (λ b. other (sym (row-form b) ∙ e))
-      (λ g. by-test (not (r.fits && is_line_kind r.kind))
-      (λ b. other (sym (row_field (is_line_kind r.kind) refl g b) ∙ e))
-      (λ f. let x : item (numbers_bytes r.kind r.values) (drop r.end text) ≡ item p q = sym (row-right (is_line_kind r.kind) refl g f) ∙ e in
-      (cc, cc, row-shorter (is_line_kind r.kind) refl g f)))
+-- a row that is right is read
+pub line-ok : (text s p q : List ℕ) (x : Result RowRead Refusal) → IsLineRow text s x → row_item s ≡ item p q → IsOk x
+line-ok text s p q (Ok r) o e = search rules
+line-ok text s p q (Err why) o e = other (sym o ∙ e)
+
+-- and its line is the item
+pub line-piece : {text s p q : List ℕ} {r : RowRead} → IsLine text s r → row_item s ≡ item p q
+    → (numbers_bytes r.kind r.values ≡ p) × (drop r.end text ≡ q)
+line-piece {text} {s} {p} {q} {r} o e =
+    let x : item (numbers_bytes r.kind r.values) (drop r.end text) ≡ item p q = sym o.line ∙ e in (cc, cc)

@@ -26,11 +26,6 @@ more v b s h l u =
     let d : digit (n % 10) ≡ b = omega arith in
     rw (decimal-more n (omega arith), q, d) (sym (append_assoc (decimal v) (b ∷ []) s))
 
-digits-good : (v : ℕ) (s : List ℕ) → (digits v s).good ≡ true
-unfolding digits
-digits-good v [] = refl
-digits-good v (b ∷ s) = of-choice (λ (n : Number). n.good ≡ true) (leb 48 b && leb b 57) (λ t. digits-good (v * 10 + (b - 48)) s) (λ f. refl)
-
 pub digits_above : (v : ℕ) (s : List ℕ) → 0 < v → 0 < (digits v s).value
 unfolding digits
 digits_above v [] h = h

@@ -9,9 +9,14 @@ use Rattle.base.specs.Answers.{AsksNothing, OneAnswer, OneAnswerWith}
 use Rattle.printing.proofs.Examples.{one-put}
 use Rattle.sheet.specs.declared.numbers.Read.{Read}
 use Rattle.sheet.specs.declared.rows.RowRead.{RowRead}
+use Rattle.sheet.specs.declared.rows.BadRow.{BadRow}
 use Rattle.sheet.specs.Numbers.{Cell}
-use Rattle.sheet.specs.Rows.{Row}
-use Rattle.sheet.specs.Code.{IsRead, IsRow}
+use Rattle.sheet.specs.Rows.{Row, kind_in, row_in}
+use Rattle.sheet.specs.Code.{IsRead, IsRowRead, IsFault, IsBadRow, IsRow}
+use Rattle.std.specs.Prelude.{true, Result, Ok, Err}
+use Rattle.base.proofs.Tests.{no_bool}
+use Rattle.sheet.specs.declared.numbers.CellFault.{CellFault}
+use Rattle.sheet.specs.declared.numbers.CellFault.TheVariants.{Malformed, Outside}
 use Rattle.sheet.proofs.export.Kinds as sheet
 use Rattle.sheet.proofs.export.Reads as sheet-contract
 use Rattle.sheet.proofs.import.Kinds as lines-back
@@ -70,20 +75,40 @@ one_end text m n e h k = let l : length text - m ≡ length text - n = sym (leng
 
 one_cell : {text : List ℕ} {k : Cell} {f g : Read} → IsRead text k f → IsRead text k g → f ≡ g
 one_cell {text} {k} {f} {g} p q =
-    let good : f.good ≡ g.good = p.good ∙ sym q.good in
-    let fits : f.fits ≡ g.fits = p.fits ∙ sym q.fits in
-    let value : f.value ≡ g.value = p.value ∙ sym q.value in
+    let number : f.number ≡ g.number = p.number ∙ sym q.number in
     let end : f.end ≡ g.end = one_end text f.end g.end (p.rest ∙ sym q.rest) p.inside q.inside in
-    rw (good, fits, value, end) refl
+    rw (number, end) refl
 
-one-row : {text : List ℕ} {kind : ℕ} {k : Row} {f g : RowRead} → IsRow text kind k f → IsRow text kind k g → f ≡ g
-one-row {text} {kind} {k} {f} {g} p q =
-    let good : f.good ≡ g.good = p.good ∙ sym q.good in
-    let fits : f.fits ≡ g.fits = p.fits ∙ sym q.fits in
+one_row_read : {text : List ℕ} {kind : ℕ} {k : Row} {f g : RowRead} → IsRowRead text kind k f → IsRowRead text kind k g → f ≡ g
+one_row_read {text} {kind} {k} {f} {g} p q =
     let kinds : f.kind ≡ g.kind = p.kinds ∙ sym q.kinds in
     let values : f.values ≡ g.values = p.values ∙ sym q.values in
     let end : f.end ≡ g.end = one_end text f.end g.end (p.rest ∙ sym q.rest) p.inside q.inside in
-    rw (good, fits, kinds, values, end) refl
+    rw (kinds, values, end) refl
+
+one_fault : (k : Row) (d e : CellFault) → IsFault k d → IsFault k e → d ≡ e
+one_fault k Malformed Malformed p q = refl
+one_fault k Malformed Outside p q = no_bool (sym p ∙ q.0)
+one_fault k Outside Malformed p q = no_bool (sym q ∙ p.0)
+one_fault k Outside Outside p q = refl
+
+-- a row that is whole has nothing wrong
+no_fault : (k : Row) (e : CellFault) → k.good ≡ true → k.fits ≡ true → IsFault k e → ⊥
+no_fault k Malformed g f p = no_bool (sym p ∙ g)
+no_fault k Outside g f p = no_bool (sym p.1 ∙ f)
+
+one-bad : {text : List ℕ} {kind : ℕ} {k : Row} {f g : BadRow} → IsBadRow text kind k f → IsBadRow text kind k g → f ≡ g
+one-bad {text} {kind} {k} {f} {g} p q =
+    let fault : f.fault ≡ g.fault = one_fault k f.fault g.fault p.fault q.fault in
+    let fits : f.fits ≡ g.fits = p.fits ∙ sym q.fits in
+    let read : f.read ≡ g.read = one_row_read p.read q.read in
+    rw (fault, fits, read) refl
+
+one-row : (text : List ℕ) (kind : ℕ) (k : Row) (f g : Result RowRead BadRow) → IsRow text kind k f → IsRow text kind k g → f ≡ g
+one-row text kind k (Ok f) (Ok g) p q = ap Ok (one_row_read p.read q.read)
+one-row text kind k (Ok f) (Err b) p q = absurd (no_fault k b.fault p.good p.fits q.fault)
+one-row text kind k (Err b) (Ok g) p q = absurd (no_fault k b.fault q.good q.fits p.fault)
+one-row text kind k (Err b) (Err d) p q = ap Err (one-bad p q)
 
 -- A number in its field.
 pub one-unsigned-cell : OneAnswer unsigned.ps unsigned.r unsigned-contract.Learnt
@@ -103,7 +128,8 @@ one-starts κs args f g e e' p q = p ∙ sym q
 
 -- A row.
 pub one-read-row : OneAnswer row.ps row.r row-contract.Learnt
-one-read-row κs args f g e e' p q = one-row p q
+one-read-row κs args f g e e' p q =
+    let s = drop args.1.0 args.0.now in one-row args.0.now (kind_in s) (row_in s) f g p q
 
 pub add-asks-nothing : AsksNothing total.ps total-contract.Asked
 add-asks-nothing κs args = tt

@@ -3,12 +3,14 @@
 use Prim.Native.Nat.{ℕ, suc, ◌+◌, ◌-◌, ◌≤◌, ◌<◌}
 use mathlib.Core.Path.{◌≡◌, refl, sym, ap, ◌∙◌}
 use mathlib.Core.Bool.{Bool, true, false, ◌&&◌}
-use mathlib.Core.List.{List}
+use mathlib.Core.List.{List, [], ◌∷◌}
 use native.Mathlib.Omega.{arith}
 use native.Mathlib.Nat.{add-zero}
 use native.Mathlib.Numerals.{add-one}
 use borrow.Author.Tests.{eq-eqb, ne_eqb, eqb-true}
 use lib.Dec.{eqb}
+use Rattle.std.specs.List.{list_any, position_or_len}
+use Rattle.std.proofs.lemmas.List.Recursion.{is_position_or_len}
 use lib.ListN.{length, get_or, take, drop, drop_of_length-le, length-drop}
 use lib.Seq.{drop-cons, get_or-drop, take-take}
 use Rattle.base.specs.Choice.{pick}
@@ -22,7 +24,8 @@ use Rattle.sheet.specs.declared.faults.Spot.{Spot}
 use Rattle.sheet.specs.declared.rows.Column.{Column}
 use Rattle.sheet.specs.Numbers.{first, Cell}
 use Rattle.sheet.specs.Rows.{column_count, read_column}
-use Rattle.sheet.specs.Code.{IsRead, IsSpot}
+use Rattle.sheet.specs.Code.{is_formed, IsRead, IsSpot}
+use Rattle.sheet.proofs.Reading.{formed_is}
 use Rattle.sheet.specs.Faults.{after_marks, ends, part_length_lem, has, column_at, Place, bad_by, place_text}
 use Rattle.sheet.specs.Faults.{part_at, last_fault, cell_fault}
 use Rattle.sheet.specs.declared.faults.Fault.TheVariants.{Number}
@@ -43,31 +46,15 @@ module _ (b : ℕ) (text : List ℕ) (i n : ℕ) where
   unfolding after_marks
   marks-end h = rw (drop_of_length-le text h) refl
 
-module _ (cell : Bool) (text : List ℕ) (i : ℕ) where
-  pub part-on : i < length text → ends cell (get_or text i 0) ≡ false → part_length_lem cell (drop i text) ≡ 1 + part_length_lem cell (drop (i + 1) text)
-  unfolding part_length_lem
-  part-on h e = rw (add-one i, drop-cons text i 0 h, e) refl
+-- as std's words say it
+pub part-as : (cell : Bool) (s : List ℕ) → part_length_lem cell s ≡ position_or_len (ends cell) s
+unfolding part_length_lem
+part-as cell = is_position_or_len (part_length_lem cell) (ends cell) refl (λ x xs. refl)
 
-  pub part-stop : i < length text → ends cell (get_or text i 0) ≡ true → part_length_lem cell (drop i text) ≡ 0
-  unfolding part_length_lem
-  part-stop h e = rw (drop-cons text i 0 h, e) refl
-
-  pub part_end : length text ≤ i → part_length_lem cell (drop i text) ≡ 0
-  unfolding part_length_lem
-  part_end h = rw (drop_of_length-le text h) refl
-
-module _ (b : ℕ) (text : List ℕ) (i : ℕ) where
-  pub has_on : i < length text → (get_or text i 0 ≡ b → ⊥) → has b (drop i text) ≡ has b (drop (i + 1) text)
-  unfolding has
-  has_on h e = rw (add-one i, drop-cons text i 0 h, ne_eqb (get_or text i 0) b e) refl
-
-  pub has_there : i < length text → get_or text i 0 ≡ b → has b (drop i text) ≡ true
-  unfolding has
-  has_there h e = rw (drop-cons text i 0 h, eq-eqb (get_or text i 0) b e) refl
-
-  pub has_end : length text ≤ i → has b (drop i text) ≡ false
-  unfolding has
-  has_end h = rw (drop_of_length-le text h) refl
+pub has-as : (b : ℕ) (s : List ℕ) → has b s ≡ list_any (λ x. eqb x b) s
+unfolding has
+has-as b [] = refl
+has-as b (x ∷ s) = rw (has-as b s)
 
 -- ---- the names of the columns
 
@@ -90,24 +77,24 @@ module _ {xs zs : List ℕ} {q : ℕ} (p : Put xs zs 0 (header Sheet) q) where
 
 -- ---- a line feed after what is right
 
-pub feed-same : {text : List ℕ} {m : Cell} {k : Read} {b : ℕ} → IsRead text m k → b ≡ get_or text k.end 0
-    → (k.good && eqb b 10) ≡ (m.good && eqb (first m.rest) 10)
-feed-same {text} {m} {k} {b} o e =
+pub feed-same : {text : List ℕ} {m : Cell} {k : Read} {g : Bool} {b : ℕ} → IsRead text m k → g ≡ is_formed k.number → b ≡ get_or text k.end 0
+    → (g && eqb b 10) ≡ (m.good && eqb (first m.rest) 10)
+feed-same {text} {m} {k} {g} {b} o f e =
     let there : get_or m.rest 0 0 ≡ b =
     ap (λ (s : List ℕ). get_or s 0 0) (sym o.rest) ∙ get_or-drop k.end text 0 0 ∙ ap (λ (i : ℕ). get_or text i 0) (add-zero k.end) ∙ sym e in
-    rw (o.good, there) refl
+    rw (f ∙ formed_is o, there) refl
 
 -- ---- no line end after what is right
 
-pub end_same : {text : List ℕ} {m : Cell} {k : Read} → IsRead text m k
-    → (k.good && eqb k.end (length text)) ≡ (m.good && eqb (length m.rest) 0)
-end_same {text} {m} {k} o =
+pub end_same : {text : List ℕ} {m : Cell} {k : Read} {g : Bool} → IsRead text m k → g ≡ is_formed k.number
+    → (g && eqb k.end (length text)) ≡ (m.good && eqb (length m.rest) 0)
+end_same {text} {m} {k} {g} o f =
     let l : length m.rest ≡ length text - k.end = ap length (sym o.rest) ∙ length-drop k.end text in
     let e : eqb k.end (length text) ≡ eqb (length m.rest) 0 =
     same_test (eqb k.end (length text)) (eqb (length m.rest) 0)
     (λ t. let z = eqb-true k.end (length text) t in eq-eqb (length m.rest) 0 (omega (arith, l, z)))
     (λ t. let z = eqb-true (length m.rest) 0 t in let i = o.inside in eq-eqb k.end (length text) (omega (arith, l, z, i))) in
-    rw (o.good, e) refl
+    rw (f ∙ formed_is o, e) refl
 
 -- ---- the column that differs first
 
@@ -116,9 +103,6 @@ pub record Going (text : List ℕ) (kind at j : ℕ) : Type 0 where
   pub within : at ≤ length text
   pub few : j ≤ column_count - 1
   pub same : bad_by (column_count - 1 - j) kind j (drop at text) ≡ bad_by (column_count - 1) kind 0 text
-
-pub going-none : (text : List ℕ) (kind : ℕ) → Going text kind 0 0
-going-none text kind = record { within = omega arith; few = omega arith; same = refl }
 
 abbrev here : ℕ → List ℕ → Place
 here j s = record { column = j; rest = s }
@@ -158,13 +142,13 @@ module _ {text : List ℕ} {kind at j : ℕ} (g : Going text kind at j) where
     left : column_count - 1 - j ≡ suc (column_count - 1 - (j + 1))
     left = omega arith
 
-    good-is : k.good ≡ (read_column (column_at kind j) (drop at text)).good
-    good-is = o.good ∙ ap (λ (d : Column). (read_column d (drop at text)).good) e
+    good-is : is_formed k.number ≡ (read_column (column_at kind j) (drop at text)).good
+    good-is = formed_is o ∙ ap (λ (d : Column). (read_column d (drop at text)).good) e
 
-    pub going-stop : k.good ≡ false → IsSpot text kind (bad_by (column_count - 1) kind 0 text) (record { kind = kind; column = j; at = at })
+    pub going-stop : is_formed k.number ≡ false → IsSpot text kind (bad_by (column_count - 1) kind 0 text) (record { kind = kind; column = j; at = at })
     going-stop w = spot (sym (one-stop _ kind j (drop at text) (sym good-is ∙ w)) ∙ (rw left at g.same))
 
-    pub going_on : k.good ≡ true → Going text kind k.end (j + 1)
+    pub going_on : is_formed k.number ≡ true → Going text kind k.end (j + 1)
     going_on w =
         let rest : drop k.end text ≡ (read_column (column_at kind j) (drop at text)).rest =
         o.rest ∙ ap (λ (d : Column). (read_column d (drop at text)).rest) e in

@@ -7,22 +7,27 @@ use mathlib.Core.Bool.{Bool, true, false, not, ◌&&◌}
 use mathlib.Core.Path.{◌≡◌, refl, sym, ap, ◌∙◌}
 use mathlib.Core.List.{List, [], ◌∷◌, ◌++◌, append_assoc, append-nil}
 use lib.ListN.{length, get_or, take, drop, set, replicate, drop_of_length-le, length-set}
-use lib.Seq.{drop-cons, drop-drop, take-suc-set, take_all}
-use lib.Dec.{eqb}
-use borrow.Author.Tests.{eqb-true, eqb-false, eq-eqb, ne_eqb, not-true, not-false}
+use lib.Seq.{drop-cons, take-suc-set, take_all}
+use lib.Dec.{eqb, leb}
+use lib.Pointwise.{pointwise}
+use borrow.Author.Tests.{eqb-true, eqb-false, not-true, not-false}
 use Rattle.base.specs.Choice.{pick}
 use Rattle.codec.specs.declared.Field.{Field}
 use Rattle.line_bytes.specs.Lines.{figure, figure_count, line_fields, total_fields, number_width}
 use Rattle.line_bytes.proofs.AnyLine.{figure-width}
 use Rattle.line_rows.specs.Rows.{is_signed}
 use Rattle.base.proofs.Tests.{by-test, and_l, and_r}
+use Rattle.std.specs.Prelude.{Result, is_ok}
+use Rattle.std.specs.Result.{result_unwrap_or}
+use Rattle.sheet.specs.declared.numbers.CellFault.{CellFault}
+use Rattle.sheet.specs.declared.numbers.CellFault.TheVariants.{Malformed, Outside}
 use Rattle.sheet.specs.declared.numbers.Read.{Read}
 use Rattle.sheet.specs.declared.rows.Column.{Column}
-use Rattle.sheet.specs.Numbers.{half, Cell}
-use Rattle.sheet.specs.Rows.{column, highest_of, column_count, column_of, columns_from, empty, columns, column_end}
-use Rattle.sheet.specs.Rows.{starts_with, read_cell, ended, read_column, Row, read_row}
-use Rattle.sheet.specs.Code.{IsRead, IsRow}
-use Rattle.sheet.proofs.Held.{and_assoc}
+use Rattle.sheet.specs.Numbers.{half, full, first, Number, Cell, positive, unsigned, in_field, unsigned_cell, signed_cell}
+use Rattle.sheet.specs.Rows.{column, highest_of, column_count, column_of, columns_from, empty, columns}
+use Rattle.sheet.specs.Rows.{starts_with, read_cell, read_column, Row, read_row}
+use Rattle.sheet.specs.Code.{result_of, number_of, is_formed, IsRead, IsRowRead, IsWhole, IsBadRow}
+use Rattle.std.proofs.Math.Bool.{and_assoc, and-true}
 
 -- ---- the columns by their place
 
@@ -86,51 +91,49 @@ fair-highest s w h e t = rw (e, t) (omega arith)
 
 -- ---- a word after a number
 
-and-false : (a : Bool) → (a && false) ≡ false
-and-false true = refl
-and-false false = refl
-
-pub too_short : (e s : List ℕ) → length s < length e → starts_with e s ≡ false
+-- as std's starts_with says it
+pub starts-as : (e s : List ℕ) → starts_with e s ≡ pointwise eqb e (take (length e) s)
 unfolding starts_with
-too_short [] s h = absurd (omega arith)
-too_short (x ∷ e) [] h = refl
-too_short (x ∷ e) (b ∷ s) h = rw (too_short e s (omega arith)) (and-false (eqb x b))
-
-module _ (text : List ℕ) (at : ℕ) (word : List ℕ) (i : ℕ) where
-  pub word_end : length word ≤ i → starts_with (drop i word) (drop (at + i) text) ≡ true
-  unfolding starts_with
-  word_end h = rw (drop_of_length-le word h)
-
-  module _ (h : i < length word) (k : at + i < length text) where
-    pub word_on : get_or word i 0 ≡ get_or text (at + i) 0
-        → starts_with (drop i word) (drop (at + i) text) ≡ starts_with (drop (i + 1) word) (drop (at + (i + 1)) text)
-    unfolding starts_with
-    word_on e =
-        let n : at + (i + 1) ≡ suc (at + i) = omega arith in
-        rw (n, add-one i, drop-cons word i 0 h, drop-cons text (at + i) 0 k, eq-eqb (get_or word i 0) (get_or text (at + i) 0) e)
-
-    pub word-off : (get_or word i 0 ≡ get_or text (at + i) 0 → ⊥) → starts_with (drop i word) (drop (at + i) text) ≡ false
-    unfolding starts_with
-    word-off e = rw (drop-cons word i 0 h, drop-cons text (at + i) 0 k, ne_eqb (get_or word i 0) (get_or text (at + i) 0) e)
-
-pub ended_is : (text : List ℕ) (m : Cell) (k : Read) (word : List ℕ) (t : Bool) (e : ℕ) → IsRead text m k → t ≡ starts_with word (drop k.end text)
-    → drop e text ≡ drop (k.end + length word) text → e ≤ length text
-    → IsRead text (ended word m) (record { good = k.good && t; fits = k.fits; value = k.value; end = e })
-ended_is text m k word t e o s d l =
-    record {
-      good = rw (s, o.rest, o.good);
-      fits = o.fits;
-      value = o.value;
-      rest = d ∙ sym (drop-drop (length word) k.end text) ∙ ap (drop (length word)) o.rest;
-      inside = l;
-    }
-
--- a column's word, by what it is
-pub column-ends : (text : List ℕ) (c : Column) (s word : List ℕ) (r : Read) → column_end c.last ≡ word → IsRead text (ended word (read_cell c s)) r
-    → IsRead text (read_column c s) r
-column-ends text c s word r e o = rw e o
+starts-as [] s = refl
+starts-as (x ∷ e) [] = refl
+starts-as (x ∷ e) (b ∷ s) = rw (starts-as e s)
 
 -- ---- column by column
+
+-- what the code finds of a column
+formed-good : (g f : Bool) (v : ℕ) → is_formed (result_of g f v) ≡ g
+formed-good true true v = refl
+formed-good true false v = refl
+formed-good false f v = refl
+
+pub formed_is : {text : List ℕ} {m : Cell} {k : Read} → IsRead text m k → is_formed k.number ≡ m.good
+formed_is {text} {m} o = ap is_formed o.number ∙ formed-good m.good m.fits m.value
+
+-- a cell that tells by its number alone whether it fits, and its value
+record Plain (m : Cell) : Type 0 where
+  fits : is_ok (number_of m) ≡ m.fits
+  value : result_unwrap_or (number_of m) 0 ≡ m.value
+
+plain-by : (g b : Bool) (v : ℕ) (s : List ℕ) → Plain (record { good = g; fits = g && b; value = pick (g && b) v 0; rest = s })
+plain-by true true v s = record { fits = refl; value = refl }
+plain-by true false v s = record { fits = refl; value = refl }
+plain-by false b v s = record { fits = refl; value = refl }
+
+plain-field : (n : Number) (h v : ℕ) → Plain (in_field n h v)
+plain-field n h v = plain-by n.good (leb n.value h) v n.rest
+
+plain-pick : (b : Bool) (m n : Cell) → Plain m → Plain n → Plain (pick b m n)
+plain-pick true m n p q = p
+plain-pick false m n p q = q
+
+plain-cell : (c : Column) (s : List ℕ) → Plain (read_cell c s)
+unfolding read_cell signed_cell unsigned_cell
+plain-cell c s =
+    let h = c.highest in
+    let u = plain-field (unsigned s) h (unsigned s).value in
+    let p = positive (drop 1 s) in
+    plain-pick (eqb c.width 0) _ _ (record { fits = refl; value = refl })
+    (plain-pick c.signed _ _ (plain-pick (eqb (first s) 45) _ _ (plain-field p (h + 1) (full - p.value)) u) u)
 
 -- what was read of a row before the rest r
 abbrev pub with_rest : Bool → Bool → List ℕ → Row → Row
@@ -143,59 +146,75 @@ pub record SoFar (text : List ℕ) (kind : ℕ) (row : Row) (good fits : Bool) (
   pub all : length values ≡ column_count
   pub same : row ≡ with_rest good fits (take j values) (read_row (drop j (columns kind)) (drop i text))
 
-step : (text : List ℕ) (c : Column) (cs : List Column) (g f : Bool) (vs us : List ℕ) (i : ℕ) (k : Read) → IsRead text (read_column c (drop i text)) k
-    → us ≡ vs ++ (k.value ∷ [])
-    → with_rest g f vs (read_row (c ∷ cs) (drop i text)) ≡ with_rest (g && k.good) (f && k.fits) us (read_row cs (drop k.end text))
+step : (text : List ℕ) (c : Column) (cs : List Column) (g f : Bool) (vs us : List ℕ) (i : ℕ) (cell k : Read)
+    → IsRead text (read_cell c (drop i text)) cell → IsRead text (read_column c (drop i text)) k → us ≡ vs ++ (result_unwrap_or cell.number 0 ∷ [])
+    → with_rest g f vs (read_row (c ∷ cs) (drop i text))
+    ≡ with_rest (g && is_formed k.number) (f && is_ok cell.number) us (read_row cs (drop k.end text))
 unfolding read_row
-step text c cs g f vs us i k o e =
+step text c cs g f vs us i cell k o p e =
     let r = read_row cs (drop k.end text) in
+    let m = read_cell c (drop i text) in
+    let plain = plain-cell c (drop i text) in
+    let good : is_formed k.number ≡ (read_column c (drop i text)).good = formed_is p in
+    let fits : is_ok cell.number ≡ m.fits = ap is_ok o.number ∙ plain.fits in
+    let value : result_unwrap_or cell.number 0 ≡ m.value = ap (λ (n : Result ℕ CellFault). result_unwrap_or n 0) o.number ∙ plain.value in
     rw (
-      ← o.good,
-      ← o.fits,
-      ← o.value,
-      ← o.rest,
+      ← good,
+      ← fits,
+      ← value,
+      ← p.rest,
       e,
-      and_assoc g k.good r.good,
-      and_assoc f k.fits r.fits,
-      append_assoc vs
-          (k.value ∷ []) r.values,
+      and_assoc g (is_formed k.number) r.good,
+      and_assoc f (is_ok cell.number) r.fits,
+      append_assoc vs (result_unwrap_or cell.number 0 ∷ []) r.values,
     )
 
-pub one_more : (text : List ℕ) (kind : ℕ) (row : Row) (good fits : Bool) (values : List ℕ) (i j : ℕ) (c : Column) (k : Read)
-    → SoFar text kind row good fits values i j → j < column_count
-    → c ≡ get_or (columns kind) j empty → IsRead text (read_column c (drop i text)) k
-    → SoFar text kind row (good && k.good) (fits && k.fits) (set values j k.value) k.end (j + 1)
-one_more text kind row good fits values i j c k s l e o =
+pub one_more : (text : List ℕ) (kind : ℕ) (row : Row) (good fits : Bool) (values : List ℕ) (i j : ℕ) (c : Column) (cell k : Read)
+    → SoFar text kind row good fits values i j → j < column_count → c ≡ get_or (columns kind) j empty
+    → IsRead text (read_cell c (drop i text)) cell → IsRead text (read_column c (drop i text)) k
+    → SoFar text kind row (good && is_formed k.number) (fits && is_ok cell.number) (set values j (result_unwrap_or cell.number 0)) k.end (j + 1)
+one_more text kind row good fits values i j c cell k s l e o p =
+    let v = result_unwrap_or cell.number 0 in
     let more : j < length values = omega (arith, s.all) in
     let cs : drop j (columns kind) ≡ c ∷ drop (suc j) (columns kind) = rw e (drop-cons (columns kind) j empty (omega (arith, count kind))) in
     record {
-      inside = o.inside;
+      inside = p.inside;
       few = omega arith;
       all = simp length-set s.all;
       same = rw (add-one j)
-          (rw cs at s.same ∙ step text c (drop (suc j) (columns kind)) good fits (take j values) (take (suc j) (set values j k.value)) i k o
-          (take-suc-set values j k.value more));
+          (rw cs at s.same ∙ step text c (drop (suc j) (columns kind)) good fits (take j values) (take (suc j) (set values j v)) i cell k o p
+          (take-suc-set values j v more));
     }
-
-pub started : (text : List ℕ) (kind : ℕ) (i : ℕ) (values : List ℕ) → i ≤ length text → length values ≡ column_count
-    → SoFar text kind (read_row (columns kind) (drop i text)) true true values i 0
-started text kind i values h e = record { inside = h; few = omega arith; all = e; same = refl }
-
-and-true : (a : Bool) → (a && true) ≡ a
-and-true true = refl
-and-true false = refl
 
 finished : (g f : Bool) (vs q : List ℕ)
     → with_rest g f vs (record { good = true; fits = true; values = []; rest = q }) ≡ record { good = g; fits = f; values = vs; rest = q }
 finished g f vs q = rw (and-true g, and-true f, append-nil vs)
 
-pub all_read : (text : List ℕ) (kind : ℕ) (row : Row) (good fits : Bool) (values : List ℕ) (i j kind' : ℕ) → SoFar text kind row good fits values i j
-    → column_count ≤ j → kind' ≡ kind
-    → IsRow text kind row (record { good = good; fits = fits; kind = kind'; values = values; end = i })
-unfolding read_row
-all_read text kind row good fits values i j kind' s h e =
-    let done : drop j (columns kind) ≡ [] = drop_of_length-le (columns kind) {i = j} (omega (arith, count kind)) in
-    let whole : take j values ≡ values = take_all j values (omega (arith, s.all)) in
-    let r : row ≡ record { good = good; fits = fits; values = values; rest = drop i text } = s.same
-    ∙ rw (done, whole) (finished good fits values (drop i text)) in
-    rw r (record { good = refl; fits = refl; kinds = e; values = refl; rest = refl; inside = s.inside })
+-- a row is read
+module _ (text : List ℕ) (kind : ℕ) (row : Row) (good fits : Bool) (values : List ℕ) (i j : ℕ) (s : SoFar text kind row good fits values i j)
+    (h : column_count ≤ j) where
+  all_read : row ≡ record { good = good; fits = fits; values = values; rest = drop i text }
+  unfolding read_row
+  all_read =
+      let done : drop j (columns kind) ≡ [] = drop_of_length-le (columns kind) {i = j} (omega (arith, count kind)) in
+      let whole : take j values ≡ values = take_all j values (omega (arith, s.all)) in
+      s.same ∙ rw (done, whole) (finished good fits values (drop i text))
+
+  is-read : IsRowRead text kind row (record { kind = kind; values = values; end = i })
+  is-read = rw all_read (record { kinds = refl; values = refl; rest = refl; inside = s.inside })
+
+  pub row-malformed : good ≡ false
+      → IsBadRow text kind row (record { fault = Malformed; fits = fits; read = record { kind = kind; values = values; end = i } })
+  row-malformed g = record { fault = ap (λ (r : Row). r.good) all_read ∙ g; fits = sym (ap (λ (r : Row). r.fits) all_read); read = is-read }
+
+  pub row-outside : good ≡ true → fits ≡ false
+      → IsBadRow text kind row (record { fault = Outside; fits = fits; read = record { kind = kind; values = values; end = i } })
+  row-outside g f =
+      record {
+        fault = (ap (λ (r : Row). r.good) all_read ∙ g, ap (λ (r : Row). r.fits) all_read ∙ f);
+        fits = sym (ap (λ (r : Row). r.fits) all_read);
+        read = is-read;
+      }
+
+  pub row-whole : good ≡ true → fits ≡ true → IsWhole text kind row (record { kind = kind; values = values; end = i })
+  row-whole g f = record { good = ap (λ (r : Row). r.good) all_read ∙ g; fits = ap (λ (r : Row). r.fits) all_read ∙ f; read = is-read }

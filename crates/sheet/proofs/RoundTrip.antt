@@ -22,6 +22,7 @@ use Rattle.line_rows.specs.Rows.{is_signed, line_row, header}
 use Rattle.sheet.specs.Rows.{highest_of, column_count, column_of, columns_from, empty, columns, starts_with, read_cell, read_row, kind_in}
 use Rattle.sheet.proofs.AsColumns.{kind_at, bytes, values, line_of, cell_text, row_text}
 use Rattle.sheet.proofs.ByFields.{line-bytes, row-columns}
+use Rattle.sheet.specs.declared.Refusal.{Refusal}
 use Rattle.sheet.specs.Sheets.{Item, item, wrong, Made, made, refused, before, each, line_item, no_row, rows_of, export_of, row_as, row_item}
 use Rattle.sheet.specs.Sheets.{import_of}
 use Rattle.base.proofs.Tests.{of-choice, by-test, no_bool, and_l, and_r}
@@ -84,8 +85,8 @@ row-some k vs = let t = decimal (get_or vs 0 0) in rw (length-append t) (omega a
 
 -- ---- a line to its row, and back
 
-pub other : {P : Type 0} {c : ℕ} {t r : List ℕ} → wrong c ≡ item t r → P
-other e = let z : ◌≡◌ {A = ℕ} 0 1 = cc in absurd (omega arith)
+pub other : {P : Type 0} {c : Refusal} {t r : List ℕ} → wrong c ≡ item t r → P
+other e = cc
 
 pub record Line (s : List ℕ) : Type 0 where
   pub long : front_size s ≤ length s

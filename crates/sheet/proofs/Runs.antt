@@ -4,11 +4,12 @@ use native.Mathlib.Omega.{arith}
 use mathlib.Core.Path.{◌≡◌, refl, ap, ◌∙◌}
 use mathlib.Core.List.{List, [], ◌∷◌, ◌++◌}
 use lib.ListN.{length, length-append}
+use Rattle.sheet.specs.declared.Refusal.{Refusal}
 use Rattle.sheet.specs.Sheets.{Item, item, wrong, Made, made, refused, before, goes_on_lem, each_by}
 
 -- nothing is both made and refused
-pub not_made : {P : Type 0} {c n : ℕ} {t : List ℕ} → refused c n ≡ made t → P
-not_made e = let z : ◌≡◌ {A = ℕ} 0 1 = cc in absurd (omega arith)
+pub not_made : {P : Type 0} {c : Refusal} {n : ℕ} {t : List ℕ} → refused c n ≡ made t → P
+not_made e = cc
 
 -- an item, and what is made of the rest, where all is made
 pub record Goes (x : Item) (next : List ℕ → Made) (t : List ℕ) : Type 0 where

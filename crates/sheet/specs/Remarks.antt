@@ -1,13 +1,13 @@
 -- What is told of a sheet that is read or written, on standard error: "N lines", or a sentence for people and then, for machines, "refused" with the
 -- number and the row. And the byte of the exit status.
-use Rattle.std.specs.Prelude.{ℕ, ◌+◌, ◌-◌, Bool, ◌&&◌, List, [], ◌∷◌, ◌++◌, eqb}
+use Rattle.std.specs.Prelude.{Result, Ok, Err, ℕ, ◌+◌, ◌-◌, Bool, ◌&&◌, List, [], ◌∷◌, ◌++◌, eqb}
 use Rattle.base.specs.Choice.{pick}
 use Rattle.printing.specs.Ascii.{ascii}
 use Rattle.printing.specs.Decimal.{decimal}
 use Rattle.names.specs.Names.{sentence}
 use Rattle.sheet.specs.Faults.{fault_text}
-use Rattle.sheet.specs.declared.Answer.{Answer}
-use Rattle.sheet.specs.declared.Answer.TheVariants.{Written, Refused}
+use Rattle.sheet.specs.declared.Refused.{Refused}
+use Rattle.sheet.specs.Sheets.{code_of}
 
 -- how many line feeds a text has: one for each row
 unfoldable pub feeds : List ℕ → ℕ
@@ -29,8 +29,8 @@ abbrev pub sentence_text : ℕ → ℕ → List ℕ
 sentence_text code row = row_head row ++ (sentence code ++ ascii "\n")
 
 -- 20 names the place, the others have their sentence
-abbrev pub people_text : List ℕ → ℕ → ℕ → List ℕ
-people_text text code row = pick (eqb code 20) (fault_text text row) (sentence_text code row)
+abbrev pub people_text : List ℕ → Refused → List ℕ
+people_text text r = pick (eqb (code_of r.why) 20) (fault_text text r.row) (sentence_text (code_of r.why) r.row)
 
 abbrev pub row_word : ℕ → List ℕ
 row_word row = pick (eqb row 0) [] (ascii " row " ++ decimal row)
@@ -39,9 +39,9 @@ abbrev pub refused_text : ℕ → ℕ → List ℕ
 refused_text code row = ascii "refused " ++ (decimal code ++ (row_word row ++ ascii "\n"))
 
 -- what is said at the end, of the text and the answer: the machine's line is the last
-abbrev pub end_text : List ℕ → Answer → List ℕ
-end_text text (Written n) = lines_text (line_count text)
-end_text text (Refused code row) = people_text text code row ++ refused_text code row
+abbrev pub end_text : List ℕ → Result ℕ Refused → List ℕ
+end_text text (Ok n) = lines_text (line_count text)
+end_text text (Err r) = people_text text r ++ refused_text (code_of r.why) r.row
 
 -- what is longer than the most bytes that the program has room for
 abbrev pub most_text : ℕ → List ℕ

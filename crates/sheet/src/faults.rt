@@ -40,32 +40,20 @@ pub struct Spot {
     pub at: usize,
 }
 
-fn less_if(n: usize, yes: bool) -> usize
-    ensures { result ≡ pick yes (n - 1) n }
-{
-    if !yes {
-        return n;
-    }
-    if n == 0 {
-        return 0;
-    }
-    n - 1
-}
-
 // The index after the first n bytes b.
 fn after_marks(text: &[u8], b: u8, n: usize) -> usize
     ensures { (result ≤ length text.now) × (drop result text.now ≡ after_marks b n text.now) }
 {
     let mut left = n;
-    let mut i = 0;
-    while i < text.len() {
+    for i in 0..text.len() {
         if left == 0 {
             return i;
         }
-        left = less_if(left, text[i] == b);
-        i += 1;
+        if text[i] == b {
+            left -= 1;
+        }
     }
-    i
+    text.len()
 }
 
 fn ends(cell: bool, b: u8) -> bool
@@ -78,27 +66,15 @@ fn ends(cell: bool, b: u8) -> bool
 fn part_length(text: &[u8], cell: bool) -> usize
     ensures { (result ≡ part_length_lem cell text.now) × (result ≤ length text.now) }
 {
-    let mut i = 0;
-    while i < text.len() {
-        if ends(cell, text[i]) {
-            return i;
-        }
-        i += 1;
-    }
-    i
+    text.iter()
+        .position(|&b| ends(cell, b))
+        .unwrap_or(text.len())
 }
 
 fn has(text: &[u8], b: u8) -> bool
     ensures { result ≡ has b text.now }
 {
-    let mut i = 0;
-    while i < text.len() {
-        if text[i] == b {
-            return true;
-        }
-        i += 1;
-    }
-    false
+    text.contains(&b)
 }
 
 // What is wrong with a first row.
@@ -133,10 +109,11 @@ fn last_fault(text: &[u8], c: Column) -> Fault
     ensures { result ≡ last_fault c text.now }
 {
     let k = read_cell(text, 0, c);
-    if k.good & (byte(text, k.end) == b'\n') {
+    let formed = k.is_formed();
+    if formed & (byte(text, k.end) == b'\n') {
         return Fault::FeedAlone;
     }
-    if k.good & (k.end == text.len()) {
+    if formed & (k.end == text.len()) {
         return Fault::NoEnd;
     }
     if c.width == 0 {
@@ -168,12 +145,11 @@ fn bad_column(text: &[u8]) -> Spot
     ensures { IsSpot text.now (kind_in text.now) (bad_in text.now) result }
 {
     let first = unsigned_cell(text, 0, 255);
-    let kind = first.value;
+    let kind = first.number.unwrap_or(0);
     let mut at = 0;
-    let mut j = 0;
-    while j < LINE_NUMBERS {
+    for j in 0..LINE_NUMBERS {
         let k = read_column(text, at, column_of(kind, j));
-        if !k.good {
+        if !k.is_formed() {
             return Spot {
                 kind: kind,
                 column: j,
@@ -181,11 +157,10 @@ fn bad_column(text: &[u8]) -> Spot
             };
         }
         at = k.end;
-        j += 1;
     }
     Spot {
         kind: kind,
-        column: j,
+        column: LINE_NUMBERS,
         at: at,
     }
 }
@@ -313,6 +288,6 @@ pub(crate) fn say_fault(out: &mut [u8], text: &[u8], row: usize) -> usize
     if row == 1 {
         return say_first(out, text);
     }
-    let at = after_marks(text, b'\n', less_if(row, true));
+    let at = after_marks(text, b'\n', row.saturating_sub(1));
     say_row(out, row, rest_of(text, at))
 }

@@ -7,55 +7,108 @@ pub mod lines; // lines.rt: a line record from its values, its row as text, and 
 pub mod remarks; // remarks.rt: what is told of a sheet that is read
 mod faults; // faults.rt: where a sheet is not of its form, and what to do
 
-ghost use Rattle.std.specs.Prelude.{◌≡◌, ℕ, ◌+◌, ◌≤◌, length, drop};
+ghost use Rattle.std.specs.Prelude.{◌≡◌, ℕ, ◌+◌, ◌≤◌, Some, None, length, drop, ok_or};
 ghost use Rattle.base.specs.Choice.{pick};
 ghost use Rattle.line_rows.specs.declared.Form.TheVariants.{Sheet};
 ghost use Rattle.line_rows.specs.Rows.{header};
 ghost use Rattle.printing.specs.Decimal.{Put};
 ghost use Rattle.sheet.specs.Rows.{starts_with};
-ghost use Rattle.sheet.specs.Sheets.{made, each, rows_of, export_of, row_item, import_of, answer, buffer};
-ghost use Rattle.sheet.specs.Code.{total_of, answer_after, made_of};
+ghost use Rattle.sheet.specs.Sheets.{code_of, made, each, rows_of, export_of, row_item, import_of, no_room, answer, buffer};
+ghost use Rattle.sheet.specs.Code.{refusal_of, IsLineRow, total_of, answer_after, made_of};
 
 use base::{first_of, rest_of};
 use line_bytes::{front_size, is_line, is_line_kind, size_of_kind};
 use line_rows::{Form, ROW_MOST, put_header};
-use lines::{Total, add, put_line, put_row, row_size};
-use rows::{read_row, starts};
+use lines::{add, put_line, put_row, row_size};
+use numbers::CellFault;
+use rows::{RowRead, read_row, starts};
 
-// What an export or an import answers: the bytes written, or a refusal with its row (0: none).
+// Why a text or some lines are refused: there is no room, the text is not of a sheet's form, a number is outside its field, or the bytes are no
+// whole lines.
 #[derive(Clone, Copy)]
-pub enum Answer {
-    Written(usize),
-    Refused(u8, usize),
+pub enum Refusal {
+    Full,
+    WrongForm,
+    OutsideField,
+    NoLines,
 }
 
-// The answer to the rows of a text from an index on, with so much room for their lines.
-fn plan_rows(text: &[u8], from: usize, room: usize) -> Answer
+impl Refusal {
+    // Its number.
+    pub(crate) fn code(self) -> u8
+        ensures { result ≡ code_of self }
+    {
+        match self {
+            Refusal::Full => 16,
+            Refusal::WrongForm => 20,
+            Refusal::OutsideField => 21,
+            Refusal::NoLines => 23,
+        }
+    }
+}
+
+// What an export or an import is refused for, and its row (0: none).
+#[derive(Clone, Copy)]
+pub struct Refused {
+    pub why: Refusal,
+    pub row: usize,
+}
+
+// Of a row.
+fn refusal_of(fault: CellFault) -> Refusal
+    ensures { result ≡ refusal_of fault }
+{
+    match fault {
+        CellFault::Malformed => Refusal::WrongForm,
+        CellFault::Outside => Refusal::OutsideField,
+    }
+}
+
+// The bytes counted, or the refusal that there is no room for them.
+fn with_room(total: Option<usize>) -> Result<usize, Refused>
+    ensures { result ≡ ok_or total no_room }
+{
+    total.ok_or(Refused {
+        why: Refusal::Full,
+        row: 0,
+    })
+}
+
+// The row that the text goes on with from an index on, with its line's kind.
+fn line_row(text: &[u8], at: usize) -> Result<RowRead, Refusal>
+    requires { at ≤ length text.now }
+    ensures { IsLineRow text.now (drop at text.now) result }
+{
+    match read_row(text, at) {
+        Ok(row) => {
+            if is_line_kind(row.kind) {
+                return Ok(row);
+            }
+            Err(Refusal::OutsideField)
+        }
+        Err(bad) => Err(refusal_of(bad.fault)),
+    }
+}
+
+// The answer to the rows of a text from an index on, with so much room for their lines: the bytes of the lines.
+fn plan_rows(text: &[u8], from: usize, room: usize) -> Result<usize, Refused>
     requires { (2 ≤ from) × (from ≤ length text.now) }
     ensures { result ≡ answer (each row_item 2 (drop from text.now)) room }
 {
-    let mut total = Total {
-        over: false,
-        sum: 0,
-    };
+    let mut total = Some(0);
     let mut i = from;
     let mut row: usize = 2;
+    // A cursor and no count: each row has a length of its own.
     while i < text.len() {
-        let r = read_row(text, i);
-        if !r.good {
-            return Answer::Refused(20, row);
-        }
-        if !(r.fits & is_line_kind(r.kind)) {
-            return Answer::Refused(21, row);
-        }
+        let r = match line_row(text, i) {
+            Ok(r) => r,
+            Err(why) => return Err(Refused { why, row }),
+        };
         total = add(total, size_of_kind(r.kind), room);
         i = r.end;
         row += 1;
     }
-    if total.over {
-        return Answer::Refused(16, 0);
-    }
-    Answer::Written(total.sum)
+    with_room(total)
 }
 
 // Their lines.
@@ -67,10 +120,10 @@ fn write_rows(text: &[u8], from: usize, lines: &mut [u8]) -> usize
 {
     let mut i = from;
     let mut at = 0;
+    // A cursor and no count: each row has a length of its own.
     while i < text.len() {
-        let r = read_row(text, i);
-        let values = r.values;
-        at = put_line(lines, at, r.kind, &values);
+        let r = line_row(text, i).unwrap();
+        at = put_line(lines, at, r.kind, &r.values);
         i = r.end;
     }
     at
@@ -83,51 +136,50 @@ fn header_size() -> usize
     put_header(&mut head, 0, Form::Sheet)
 }
 
-// The index after the header, where the text begins with it; else 0.
-fn after_header(text: &[u8]) -> usize
-    ensures { result ≡ pick (starts_with (header Sheet) text.now) (length (header Sheet)) 0 }
+// The index after the header, where the text begins with it.
+fn after_header(text: &[u8]) -> Option<usize>
+    ensures { result ≡ pick (starts_with (header Sheet) text.now) (Some (length (header Sheet))) None }
 {
     let mut head = [0u8; ROW_MOST];
     let n = put_header(&mut head, 0, Form::Sheet);
     if starts(text, 0, first_of(&head, n)) {
-        return n;
+        return Some(n);
     }
-    0
+    None
 }
 
-pub fn import(text: &[u8], lines: &mut [u8]) -> Answer
+// The line of each row behind the header.
+pub fn import(text: &[u8], lines: &mut [u8]) -> Result<usize, Refused>
     ensures value { result ≡ answer (import_of text.now) (length lines.old) }
     ensures lines_after { lines.new ≡ buffer (import_of text.now) lines.old }
 {
-    let from = after_header(text);
-    if from == 0 {
-        return Answer::Refused(20, 1);
-    }
-    let plan = plan_rows(text, from, lines.len());
-    let Answer::Written(n) = plan else {
-        return plan;
-    };
-    Answer::Written(write_rows(text, from, lines))
+    let from = after_header(text).ok_or(Refused {
+        why: Refusal::WrongForm,
+        row: 1,
+    })?;
+    plan_rows(text, from, lines.len())?;
+    Ok(write_rows(text, from, lines))
 }
 
-// The answer to the rows of some lines, with so much room, a part of which is taken.
-fn plan_lines(lines: &[u8], start: Total, room: usize) -> Answer
+// The answer to the rows of some lines, with so much room, a part of which is taken: the bytes of the rows behind it.
+fn plan_lines(lines: &[u8], start: Option<usize>, room: usize) -> Result<usize, Refused>
     ensures { (k : ℕ) → start ≡ total_of room k → result ≡ answer_after k (rows_of lines.now) room }
 {
     let mut total = start;
     let mut i = 0;
+    // A cursor and no count: a line has one of two lengths.
     while i < lines.len() {
         let rest = rest_of(lines, i);
         if !is_line(rest) {
-            return Answer::Refused(23, 0);
+            return Err(Refused {
+                why: Refusal::NoLines,
+                row: 0,
+            });
         }
         total = add(total, row_size(rest), room);
         i += front_size(rest);
     }
-    if total.over {
-        return Answer::Refused(16, 0);
-    }
-    Answer::Written(total.sum)
+    with_room(total)
 }
 
 // The rows.
@@ -138,6 +190,7 @@ fn write_lines(lines: &[u8], text: &mut [u8], from: usize) -> usize
 {
     let mut i = 0;
     let mut at = from;
+    // A cursor and no count: a line has one of two lengths.
     while i < lines.len() {
         let rest = rest_of(lines, i);
         at = put_row(text, at, rest);
@@ -147,19 +200,12 @@ fn write_lines(lines: &[u8], text: &mut [u8], from: usize) -> usize
 }
 
 // The header, then a row for each line.
-pub fn export(lines: &[u8], text: &mut [u8]) -> Answer
+pub fn export(lines: &[u8], text: &mut [u8]) -> Result<usize, Refused>
     ensures value { result ≡ answer (export_of lines.now) (length text.old) }
     ensures text_after { text.new ≡ buffer (export_of lines.now) text.old }
 {
-    let none = Total {
-        over: false,
-        sum: 0,
-    };
-    let start = add(none, header_size(), text.len());
-    let plan = plan_lines(lines, start, text.len());
-    let Answer::Written(n) = plan else {
-        return plan;
-    };
+    let start = add(Some(0), header_size(), text.len());
+    plan_lines(lines, start, text.len())?;
     let at = put_header(text, 0, Form::Sheet);
-    Answer::Written(write_lines(lines, text, at))
+    Ok(write_lines(lines, text, at))
 }

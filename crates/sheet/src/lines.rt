@@ -11,30 +11,15 @@ use line_bytes::{TOTAL_NUMBERS, put_numbers, size_of_kind};
 use line_rows::{Form, ROW_MOST};
 use printing::put_text;
 
-// A count of bytes up to some room, or past it.
-#[derive(Clone, Copy)]
-pub struct Total {
-    pub over: bool,
-    pub sum: usize,
-}
-
-// A count with so many bytes more.
-pub fn add(t: Total, size: usize, room: usize) -> Total
-    ensures { result ≡ more_bytes t size room }
+// A count of bytes with so many more, where there is room for them.
+pub fn add(total: Option<usize>, size: usize, room: usize) -> Option<usize>
+    ensures { result ≡ more_bytes total size room }
 {
-    if t.over {
-        return Total { over: true, sum: 0 };
+    let sum = total?.checked_add(size)?;
+    if room < sum {
+        return None;
     }
-    if room < size {
-        return Total { over: true, sum: 0 };
-    }
-    if room - size < t.sum {
-        return Total { over: true, sum: 0 };
-    }
-    Total {
-        over: false,
-        sum: t.sum + size,
-    }
+    Some(sum)
 }
 
 // A line from the numbers of its row.

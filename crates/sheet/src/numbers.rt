@@ -1,30 +1,33 @@
-// Numbers read off a text, from an index on.
-ghost use Rattle.std.specs.Prelude.{◌≡◌, ℕ, ◌+◌, ◌-◌, ◌*◌, ◌≤◌, ◌<◌, ◌&&◌, List, length, get_or, drop, leb};
-ghost use Rattle.sheet.specs.Numbers.{half, Number, digits, positive, unsigned, unsigned_cell, signed_cell};
-ghost use Rattle.sheet.specs.Code.{held, IsRun, IsRead};
+// Numbers read off a text, from an index on. Text and index stay two: what is read gives an index, so that a struct of both would be built anew
+// for each call, and a slice in an answer has its address, which two answers need not share (proofs/OneAnswer).
+ghost use Rattle.std.specs.Prelude.{◌≡◌, ℕ, ◌+◌, ◌-◌, ◌*◌, ◌≤◌, ◌<◌, length, get_or, drop};
+ghost use Rattle.sheet.specs.Numbers.{half, Number, digits, positive, unsigned, in_field, unsigned_cell, signed_cell};
+ghost use Rattle.sheet.specs.Code.{held, in_bits, number_of, is_formed, IsRun, IsRead};
 
-// A number in 64 bits, or too big for them.
+// Why a column has no number that counts: it is not of the form, or the number is outside its field.
 #[derive(Clone, Copy)]
-pub struct Amount {
-    pub big: bool,
-    pub value: u64,
+pub enum CellFault {
+    Malformed,
+    Outside,
 }
 
-// A number read: whether there is one, its amount, and the index past it.
-#[derive(Clone, Copy)]
-pub struct Run {
-    pub good: bool,
-    pub amount: Amount,
-    pub end: usize,
-}
-
-// A number in its field: whether there is one, whether it fits, its value there (0 where it does not), and the index past it.
+// A number read, and the index past it.
 #[derive(Clone, Copy)]
 pub struct Read {
-    pub good: bool,
-    pub fits: bool,
-    pub value: u64,
+    pub number: Result<u64, CellFault>,
     pub end: usize,
+}
+
+impl Read {
+    // Whether what was read is of the form, also where its number is outside its field.
+    pub(crate) fn is_formed(self) -> bool
+        ensures { result ≡ is_formed self.number }
+    {
+        match self.number {
+            Err(CellFault::Malformed) => false,
+            _ => true,
+        }
+    }
 }
 
 pub fn byte(text: &[u8], at: usize) -> u8
@@ -36,117 +39,76 @@ pub fn byte(text: &[u8], at: usize) -> u8
     0
 }
 
-// One digit more.
-fn more(a: Amount, b: u8) -> Amount
-    requires { (48 ≤ b) × (b ≤ 57) }
-    ensures { (w : ℕ) → a ≡ held w → result ≡ held (w * 10 + (b - 48)) }
+// One digit more, where 64 bits hold it.
+fn more(number: Option<u64>, digit: u8) -> Option<u64>
+    requires { (48 ≤ digit) × (digit ≤ 57) }
+    ensures { (w : ℕ) → number ≡ held w → result ≡ held (w * 10 + (digit - 48)) }
 {
-    if a.big {
-        return Amount {
-            big: true,
-            value: 0,
-        };
-    }
-    if 1_844_674_407_370_955_161 < a.value {
-        return Amount {
-            big: true,
-            value: 0,
-        };
-    }
-    let tens = a.value * 10;
-    let d = (b - 48) as u64;
-    if 18_446_744_073_709_551_615 - tens < d {
-        return Amount {
-            big: true,
-            value: 0,
-        };
-    }
-    Amount {
-        big: false,
-        value: tens + d,
-    }
+    number?.checked_mul(10)?.checked_add((digit - 48) as u64)
 }
 
 // The number v goes on with the digits from `at` on.
-fn go_on(text: &[u8], at: usize, v: u64) -> Run
+fn go_on(text: &[u8], at: usize, v: u64) -> Read
     requires { at ≤ length text.now }
     ensures { IsRun text.now (digits v (drop at text.now)) result }
 {
-    let mut a = Amount {
-        big: false,
-        value: v,
-    };
-    let mut i = at;
-    while i < text.len() {
+    let mut number = Some(v);
+    for i in at..text.len() {
         let b = text[i];
-        if b < 48 {
-            return Run {
-                good: true,
-                amount: a,
+        if !b.is_ascii_digit() {
+            return Read {
+                number: number.ok_or(CellFault::Outside),
                 end: i,
             };
         }
-        if 57 < b {
-            return Run {
-                good: true,
-                amount: a,
-                end: i,
-            };
-        }
-        a = more(a, b);
-        i += 1;
+        number = more(number, b);
     }
-    Run {
-        good: true,
-        amount: a,
-        end: i,
+    Read {
+        number: number.ok_or(CellFault::Outside),
+        end: text.len(),
     }
 }
 
-// No number, or a zero.
-fn nothing(good: bool, end: usize) -> Run
-    ensures { (result.good ≡ good) × (result.amount ≡ held 0) × (result.end ≡ end) }
-{
-    let zero = Amount {
-        big: false,
-        value: 0,
-    };
-    Run {
-        good,
-        amount: zero,
-        end,
-    }
-}
-
-fn read_positive(text: &[u8], at: usize) -> Run
+fn read_positive(text: &[u8], at: usize) -> Read
     requires { at ≤ length text.now }
     ensures { IsRun text.now (positive (drop at text.now)) result }
 {
+    let none = Read {
+        number: Err(CellFault::Malformed),
+        end: at,
+    };
     let b = byte(text, at);
     if b < 49 {
-        return nothing(false, at);
+        return none;
     }
     if 57 < b {
-        return nothing(false, at);
+        return none;
     }
     go_on(text, at + 1, (b - 48) as u64)
 }
 
-fn read_unsigned(text: &[u8], at: usize) -> Run
+fn read_unsigned(text: &[u8], at: usize) -> Read
     requires { at ≤ length text.now }
     ensures { IsRun text.now (unsigned (drop at text.now)) result }
 {
     if byte(text, at) == 48 {
-        return nothing(true, at + 1);
+        return Read {
+            number: Ok(0),
+            end: at + 1,
+        };
     }
     read_positive(text, at)
 }
 
-fn fits(n: Run, highest: u64) -> bool
-    ensures { (text : List ℕ) (m : Number) → IsRun text m n → result ≡ (m.good && leb m.value highest) }
+// A number up to the highest of its field.
+fn in_field(number: Result<u64, CellFault>, highest: u64) -> Result<u64, CellFault>
+    ensures { (m : Number) → number ≡ in_bits m → result ≡ number_of (in_field m highest m.value) }
 {
-    let a = n.amount;
-    n.good & !a.big & (a.value <= highest)
+    let n = number?;
+    if highest < n {
+        return Err(CellFault::Outside);
+    }
+    Ok(n)
 }
 
 pub fn unsigned_cell(text: &[u8], at: usize, highest: u64) -> Read
@@ -154,19 +116,8 @@ pub fn unsigned_cell(text: &[u8], at: usize, highest: u64) -> Read
     ensures { IsRead text.now (unsigned_cell highest (drop at text.now)) result }
 {
     let n = read_unsigned(text, at);
-    if !fits(n, highest) {
-        return Read {
-            good: n.good,
-            fits: false,
-            value: 0,
-            end: n.end,
-        };
-    }
-    let a = n.amount;
     Read {
-        good: n.good,
-        fits: true,
-        value: a.value,
+        number: in_field(n.number, highest),
         end: n.end,
     }
 }
@@ -179,19 +130,14 @@ pub fn signed_cell(text: &[u8], at: usize, highest: u64) -> Read
         return unsigned_cell(text, at, highest);
     }
     let n = read_positive(text, at + 1);
-    if !fits(n, highest + 1) {
-        return Read {
-            good: n.good,
-            fits: false,
-            value: 0,
+    match in_field(n.number, highest + 1) {
+        Ok(number) => Read {
+            number: Ok(number.wrapping_neg()),
             end: n.end,
-        };
-    }
-    let a = n.amount;
-    Read {
-        good: n.good,
-        fits: true,
-        value: 18_446_744_073_709_551_615 - a.value + 1,
-        end: n.end,
+        },
+        Err(fault) => Read {
+            number: Err(fault),
+            end: n.end,
+        },
     }
 }

@@ -2,31 +2,19 @@
 ghost use Rattle.std.specs.Prelude.{◌≡◌, ◌++◌, ◌-◌, ◌≤◌, eqb, length};
 ghost use Rattle.base.specs.Choice.{pick};
 ghost use Rattle.printing.specs.Said.{Said};
+ghost use Rattle.sheet.specs.Sheets.{code_of};
 ghost use Rattle.sheet.specs.Remarks.{feeds, line_count, lines_text, row_head, people_text, row_word, refused_text, end_text};
 ghost use Rattle.sheet.specs.Remarks.{most_text, too_long_text, lines_too_long_text, status_byte};
 
-use crate::Answer;
 use crate::faults::say_fault;
+use crate::{Refusal, Refused};
 use printing::{say, say_number};
-
-fn one_if_feed(b: u8) -> usize
-    ensures value { result ≡ pick (eqb b 10) 1 0 }
-    ensures upper_bound { result ≤ 1 }
-{
-    if b == 10 { 1 } else { 0 }
-}
 
 // How many line feeds a text has.
 fn count_feeds(text: &[u8]) -> usize
     ensures { result ≡ feeds text.now }
 {
-    let mut n = 0;
-    let mut i = 0;
-    while i < text.len() {
-        n += one_if_feed(text[i]);
-        i += 1;
-    }
-    n
+    text.iter().filter(|&&b| b == b'\n').count()
 }
 
 fn count_lines(text: &[u8]) -> usize
@@ -58,15 +46,17 @@ fn say_row_head(out: &mut [u8], row: usize) -> usize
 }
 
 // The sentence for people. Of a text that is not of a sheet's form it names the place.
-fn say_people(out: &mut [u8], text: &[u8], code: u8, row: usize) -> usize
-    ensures { Said out.old out.new 0 (people_text text.now code row) result }
+fn say_people(out: &mut [u8], text: &[u8], refused: Refused) -> usize
+    ensures { Said out.old out.new 0 (people_text text.now refused) result }
 {
-    if code == 20 {
-        return say_fault(out, text, row);
+    match refused.why {
+        Refusal::WrongForm => say_fault(out, text, refused.row),
+        why => {
+            let head = say_row_head(out, refused.row);
+            let words = names::say_sentence(out, head, why.code() as u64);
+            say(out, words, b"\n")
+        }
     }
-    let head = say_row_head(out, row);
-    let words = names::say_sentence(out, head, code as u64);
-    say(out, words, b"\n")
 }
 
 fn say_row(out: &mut [u8], at: usize, row: usize) -> usize
@@ -80,23 +70,23 @@ fn say_row(out: &mut [u8], at: usize, row: usize) -> usize
     say_number(out, word, row as u64)
 }
 
-fn say_refused(out: &mut [u8], text: &[u8], code: u8, row: usize) -> usize
-    ensures { Said out.old out.new 0 (people_text text.now code row ++ refused_text code row) result }
+fn say_refused(out: &mut [u8], text: &[u8], refused: Refused) -> usize
+    ensures { Said out.old out.new 0 (people_text text.now refused ++ refused_text (code_of refused.why) refused.row) result }
 {
-    let people = say_people(out, text, code, row);
+    let people = say_people(out, text, refused);
     let word = say(out, people, b"refused ");
-    let number = say_number(out, word, code as u64);
-    let end = say_row(out, number, row);
+    let number = say_number(out, word, refused.why.code() as u64);
+    let end = say_row(out, number, refused.row);
     say(out, end, b"\n")
 }
 
 // What is said at the end, of the text and the answer, from the start of out.
-pub fn say_end(out: &mut [u8], text: &[u8], answer: Answer) -> usize
+pub fn say_end(out: &mut [u8], text: &[u8], answer: Result<usize, Refused>) -> usize
     ensures { Said out.old out.new 0 (end_text text.now answer) result }
 {
     match answer {
-        Answer::Written(n) => say_lines(out, count_lines(text)),
-        Answer::Refused(code, row) => say_refused(out, text, code, row),
+        Ok(n) => say_lines(out, count_lines(text)),
+        Err(refused) => say_refused(out, text, refused),
     }
 }
 

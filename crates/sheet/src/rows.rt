@@ -2,10 +2,10 @@
 ghost use Rattle.std.specs.Prelude.{◌≡◌, ◌-◌, ◌≤◌, ◌<◌, length, get_or, drop};
 ghost use Rattle.sheet.specs.Numbers.{Cell};
 ghost use Rattle.codec.specs.Codec.{bytes_hold};
-ghost use Rattle.sheet.specs.Rows.{highest_of, empty, column_count, columns, starts_with, read_cell, ended, read_column, kind_in, row_in};
+ghost use Rattle.sheet.specs.Rows.{highest_of, empty, column_count, columns, starts_with, column_end, read_cell, ended, read_column, kind_in, row_in};
 ghost use Rattle.sheet.specs.Code.{IsRead, IsRow, Fair};
 
-use crate::numbers::{Read, signed_cell, unsigned_cell};
+use crate::numbers::{CellFault, Read, signed_cell, unsigned_cell};
 use line_bytes::{LINE_NUMBERS, TOTAL_NUMBERS, number_width};
 use line_rows::is_signed;
 
@@ -19,14 +19,20 @@ pub struct Column {
     pub last: bool,
 }
 
-// A row read: whether it is of the form, whether its numbers fit their fields, its kind, its values, and the index past it.
+// A row read: its kind, its values, and the index past it.
 #[derive(Clone, Copy)]
 pub struct RowRead {
-    pub good: bool,
-    pub fits: bool,
     pub kind: u64,
     pub values: [u64; TOTAL_NUMBERS],
     pub end: usize,
+}
+
+// What is wrong with a row, whether all its numbers are there and fit, and what was read of it all the same.
+#[derive(Clone, Copy)]
+pub struct BadRow {
+    pub fault: CellFault,
+    pub fits: bool,
+    pub read: RowRead,
 }
 
 // The highest number of so many bytes.
@@ -35,10 +41,8 @@ fn highest_in(width: usize) -> u64
     ensures { result ≡ bytes_hold width - 1 }
 {
     let mut highest: u64 = 0;
-    let mut i = 0;
-    while i < width {
+    for i in 0..width {
         highest = highest * 256 + 255;
-        i += 1;
     }
     highest
 }
@@ -84,17 +88,7 @@ pub fn starts(text: &[u8], at: usize, word: &[u8]) -> bool
     requires { at ≤ length text.now }
     ensures { result ≡ starts_with word.now (drop at text.now) }
 {
-    if text.len() - at < word.len() {
-        return false;
-    }
-    let mut i = 0;
-    while i < word.len() {
-        if word[i] != text[at + i] {
-            return false;
-        }
-        i += 1;
-    }
-    true
+    text[at..].starts_with(word)
 }
 
 pub(crate) fn read_cell(text: &[u8], at: usize, c: Column) -> Read
@@ -104,9 +98,7 @@ pub(crate) fn read_cell(text: &[u8], at: usize, c: Column) -> Read
 {
     if c.width == 0 {
         return Read {
-            good: true,
-            fits: true,
-            value: 0,
+            number: Ok(0),
             end: at,
         };
     }
@@ -121,22 +113,28 @@ fn with_end(text: &[u8], k: Read, word: &[u8]) -> Read
     requires { k.end ≤ length text.now }
     ensures { (m : Cell) → IsRead text.now m k → IsRead text.now (ended word.now m) result }
 {
-    let at = k.end;
-    let there = starts(text, at, word);
-    if text.len() - at < word.len() {
+    let end = text.len().min(k.end + word.len());
+    if !starts(text, k.end, word) {
         return Read {
-            good: k.good & there,
-            fits: k.fits,
-            value: k.value,
-            end: text.len(),
+            number: Err(CellFault::Malformed),
+            end,
         };
     }
     Read {
-        good: k.good & there,
-        fits: k.fits,
-        value: k.value,
-        end: at + word.len(),
+        number: k.number,
+        end,
     }
+}
+
+// What was read of a column, and what stands after it: CRLF after the last, a comma after any other.
+fn end_column(text: &[u8], k: Read, last: bool) -> Read
+    requires { k.end ≤ length text.now }
+    ensures { (m : Cell) → IsRead text.now m k → IsRead text.now (ended (column_end last) m) result }
+{
+    if last {
+        return with_end(text, k, b"\r\n");
+    }
+    with_end(text, k, b",")
 }
 
 pub(crate) fn read_column(text: &[u8], at: usize, c: Column) -> Read
@@ -144,38 +142,43 @@ pub(crate) fn read_column(text: &[u8], at: usize, c: Column) -> Read
     requires fair { Fair c }
     ensures { IsRead text.now (read_column c (drop at text.now)) result }
 {
-    let k = read_cell(text, at, c);
-    if c.last {
-        return with_end(text, k, b"\r\n");
-    }
-    with_end(text, k, b",")
+    end_column(text, read_cell(text, at, c), c.last)
 }
 
-pub fn read_row(text: &[u8], at: usize) -> RowRead
+// A row, or what is wrong with it, and what was read of it: that it is not of the form comes before a number outside its field.
+pub fn read_row(text: &[u8], at: usize) -> Result<RowRead, BadRow>
     requires { at ≤ length text.now }
     ensures { IsRow text.now (kind_in (drop at text.now)) (row_in (drop at text.now)) result }
 {
     let first = unsigned_cell(text, at, 255);
-    let kind = first.value;
-    let mut good = true;
+    let kind = first.number.unwrap_or(0);
+    let mut formed = true;
     let mut fits = true;
     let mut values = [0u64; TOTAL_NUMBERS];
     let mut end = at;
-    let mut j = 0;
-    while j < TOTAL_NUMBERS {
+    for j in 0..TOTAL_NUMBERS {
         let c = column_of(kind, j);
-        let k = read_column(text, end, c);
-        good = good & k.good;
-        fits = fits & k.fits;
-        values[j] = k.value;
+        let cell = read_cell(text, end, c);
+        let k = end_column(text, cell, c.last);
+        formed = formed & k.is_formed();
+        fits = fits & cell.number.is_ok();
+        values[j] = cell.number.unwrap_or(0);
         end = k.end;
-        j += 1;
     }
-    RowRead {
-        good,
-        fits,
-        kind,
-        values,
-        end,
+    let read = RowRead { kind, values, end };
+    if !formed {
+        return Err(BadRow {
+            fault: CellFault::Malformed,
+            fits,
+            read,
+        });
     }
+    if !fits {
+        return Err(BadRow {
+            fault: CellFault::Outside,
+            fits,
+            read,
+        });
+    }
+    Ok(read)
 }

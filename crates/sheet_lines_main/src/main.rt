@@ -6,7 +6,7 @@ ghost use Rattle.line_bytes.specs.Lines.{figure_count, line_size, total_size};
 
 use line_bytes::{FIGURES, LINE_SIZE, TOTAL_SIZE};
 use program::{System, report, send};
-use sheet::{Answer, remarks};
+use sheet::{Refused, remarks};
 
 // The most bytes of a book's lines: of 4,096 records the farm's gives none, the close's two where the first heading gave none, each other one.
 const MOST: usize = 4094 * LINE_SIZE + TOTAL_SIZE;
@@ -35,7 +35,7 @@ fn sheet_buffer() -> [u8; MOST_TEXT]
 }
 
 // A sentence where it is refused, and the last word, which is part of the answer: whether it went out.
-fn tell_end(rt: &impl System, text: &[u8], answer: Answer) -> bool {
+fn tell_end(rt: &impl System, text: &[u8], answer: Result<usize, Refused>) -> bool {
     let mut said = [0u8; 512];
     let n = remarks::say_end(&mut said, text, answer);
     report(rt, &said[..n])
@@ -48,7 +48,7 @@ fn tell_too_long(rt: &impl System) {
 }
 
 // Where the sheet can't go out, nothing more is printed.
-fn give(rt: &impl System, answer: Answer, sheet: &[u8]) -> Done {
+fn give(rt: &impl System, answer: Result<usize, Refused>, sheet: &[u8]) -> Done {
     if !send(rt, sheet) {
         return Done {
             accepted: true,
@@ -77,8 +77,8 @@ fn write_sheet(rt: &impl System, lines: &[u8]) -> Done {
     let mut sheet = sheet_buffer();
     let answer = sheet::export(lines, &mut sheet);
     match answer {
-        Answer::Written(n) => give(rt, answer, &sheet[..n]),
-        Answer::Refused(code, row) => {
+        Ok(n) => give(rt, answer, &sheet[..n]),
+        Err(_) => {
             tell_end(rt, b"", answer);
             refused()
         }

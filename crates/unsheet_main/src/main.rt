@@ -6,7 +6,7 @@ ghost use Rattle.line_bytes.specs.Lines.{total_size};
 
 use line_bytes::TOTAL_SIZE;
 use program::{System, report, send};
-use sheet::{Answer, remarks};
+use sheet::{Refused, remarks};
 
 // The most bytes of a sheet: a book of 4,096 records has no more rows, the header among them, and none comes to 64 bytes a row.
 const MOST: usize = 64 * 4096;
@@ -35,7 +35,7 @@ fn lines_buffer() -> [u8; MOST_LINES]
 }
 
 // A sentence where it is refused, and the last word, which is part of the answer: whether it went out.
-fn tell_end(rt: &impl System, text: &[u8], answer: Answer) -> bool {
+fn tell_end(rt: &impl System, text: &[u8], answer: Result<usize, Refused>) -> bool {
     let mut said = [0u8; 512];
     let n = remarks::say_end(&mut said, text, answer);
     report(rt, &said[..n])
@@ -48,7 +48,7 @@ fn tell_too_long(rt: &impl System) {
 }
 
 // Where the lines can't go out, nothing more is printed.
-fn give(rt: &impl System, text: &[u8], answer: Answer, lines: &[u8]) -> Done {
+fn give(rt: &impl System, text: &[u8], answer: Result<usize, Refused>, lines: &[u8]) -> Done {
     if !send(rt, lines) {
         return Done {
             accepted: true,
@@ -77,8 +77,8 @@ fn read_sheet(rt: &impl System, text: &[u8]) -> Done {
     let mut lines = lines_buffer();
     let answer = sheet::import(text, &mut lines);
     match answer {
-        Answer::Written(n) => give(rt, text, answer, &lines[..n]),
-        Answer::Refused(code, row) => {
+        Ok(n) => give(rt, text, answer, &lines[..n]),
+        Err(_) => {
             tell_end(rt, text, answer);
             refused()
         }

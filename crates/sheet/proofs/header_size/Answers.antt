@@ -5,6 +5,3 @@ use Rattle.sheet.proofs.header_size.Goals as goal
 
 pub put_header-requires : goal.put_header-requires
 put_header-requires c = omega (arith, header-fits)
-
-pub returns : goal.returns
-returns c = omega (arith, c.put_header.ensures.next)

@@ -1,12 +1,11 @@
-use Prim.Native.Nat.{ℕ, suc, ◌+◌, ◌≤◌}
-use mathlib.Core.Bool.{not}
+use Prim.Native.Nat.{ℕ, suc, ◌+◌}
 use mathlib.Core.Path.{refl, sym, ap, ◌∙◌}
 use native.Mathlib.Omega.{arith}
 use lib.ListN.{length, drop, length-drop, drop_of_length-le}
 use Rattle.sheet.specs.Sheets.{each, row_item}
 use Rattle.sheet.specs.Code.{total_of}
-use Rattle.sheet.proofs.Plans.{in-room, total-more, sized-plain, plan-wrong, plan-more, plan-over, plan-written}
-use Rattle.sheet.proofs.Items.{line-length, row-form, row_field, row-right, row-shorter}
+use Rattle.sheet.proofs.Plans.{in-room, total-more, sized-plain, plan-wrong, plan-more, plan-done}
+use Rattle.sheet.proofs.Items.{line-length}
 use borrow.Author.Rules.{rules}
 use Rattle.sheet.proofs.plan_rows.Goals as goal
 
@@ -23,75 +22,23 @@ loop-i-init c = let a = c.args in (
   },
 )
 
-pub returns-then-not-r : goal.returns-then-not-r
-returns-then-not-r c = let l = c.loop-i in
-    let text = c.args.text.now in
-    let r = c.read_row-r in
-    sym (plan-wrong l.invariant.2 20 (omega (arith, length-drop l.i text)) (row-form text l.i r.result r.ensures c.if-not-r.true))
-
-pub returns-then-not-r-is_line_kind : goal.returns-then-not-r-is_line_kind
-returns-then-not-r-is_line_kind c = let l = c.loop-i in
-    let text = c.args.text.now in
-    let r = c.read_row-r in
-    let k = c.is_line_kind in
-    sym (plan-wrong l.invariant.2 21 (omega (arith, length-drop l.i text))
-    (row_field text l.i r.result r.ensures k.result k.ensures c.if-not-r.false (ap not c.if-not-r-is_line_kind.true)))
+pub returns-in-Err : goal.returns-in-Err
+returns-in-Err c = let l = c.loop-i in
+    sym (plan-wrong l.invariant.2 _ (omega (arith, length-drop l.i c.args.text.now)) c.in-Err.ensures)
 
 pub loop-i-preserved : goal.loop-i-preserved
-loop-i-preserved c =
-    let shorter : c.loop-i.i + 1 ≤ c.read_row-r.result.end = let l = c.loop-i in
+loop-i-preserved c = let l = c.loop-i in
     let text = c.args.text.now in
-    let r = c.read_row-r in
-    let k = c.is_line_kind in
-    omega (
-      arith,
-      row-shorter text l.i r.result r.ensures k.result k.ensures c.if-not-r.false
-          (ap not c.if-not-r-is_line_kind.false),
-      length-drop l.i text,
-      length-drop r.result.end text,
-      r.ensures.inside,
-    ) in
-    let l = c.loop-i in
-    let text = c.args.text.now in
-    let r = c.read_row-r in
-    let k = c.is_line_kind in
-    let g = c.if-not-r.false in
-    let f = (ap not c.if-not-r-is_line_kind.false) in
-    let o = l.invariant.2 in
-    let size = c.size_of_kind in
-    let more = shorter in (
-      r.ensures.inside,
-      omega arith,
-      plan-more o _ _ c.add-total.result _ (omega (arith, length-drop l.i text, r.ensures.inside))
-          (row-right text l.i r.result r.ensures k.result k.ensures g f)
-          (row-shorter text l.i r.result r.ensures k.result k.ensures g f)
+    let e = c.in-Ok.ensures in
+    let r = c.in-Ok.r in
+    let o = l.invariant.2 in (
+      e.inside,
+      omega (arith, e.shorter, length-drop l.i text, length-drop r.end text),
+      plan-more o _ _ c.add-total.result _ (omega (arith, length-drop l.i text)) e.line e.shorter
           (c.add-total.ensures ∙ total-more _ _ o.sum o.holds _
-          ∙ ap (λ (n : ℕ). total_of c.args.room
-          (o.sum + n)) (size.ensures.value ∙ sym (line-length r.result.kind r.result.values))) refl,
+          ∙ ap (λ (n : ℕ). total_of c.args.room (o.sum + n)) (c.size_of_kind.ensures.value ∙ sym (line-length r.kind r.values))) refl,
     )
-
-pub loop-i-smaller : goal.loop-i-smaller
-loop-i-smaller c =
-    let shorter : c.loop-i.i + 1 ≤ c.read_row-r.result.end = let l = c.loop-i in
-    let text = c.args.text.now in
-    let r = c.read_row-r in
-    let k = c.is_line_kind in
-    omega (
-      arith,
-      row-shorter text l.i r.result r.ensures k.result k.ensures c.if-not-r.false
-          (ap not c.if-not-r-is_line_kind.false),
-      length-drop l.i text,
-      length-drop r.result.end text,
-      r.ensures.inside,
-    ) in
-    let more = shorter in omega arith
-
-pub returns-then-total : goal.returns-then-total
-returns-then-total c = let l = c.loop-i in
-    sym (plan-over l.invariant.2 (drop_of_length-le c.args.text.now c.loop-i-test.false)
-    c.if-total.true)
 
 pub returns : goal.returns
 returns c = let l = c.loop-i in
-    sym (plan-written l.invariant.2 (drop_of_length-le c.args.text.now c.loop-i-test.false)
-    c.if-total.false)
+    c.with_room.ensures ∙ sym (plan-done l.invariant.2 (drop_of_length-le c.args.text.now c.loop-i-test.false))

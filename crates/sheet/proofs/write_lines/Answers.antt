@@ -6,9 +6,8 @@ use lib.Seq.{drop-drop}
 use Rattle.line_rows.specs.declared.Form.TheVariants.{Sheet}
 use Rattle.line_rows.specs.Rows.{line_row}
 use Rattle.sheet.specs.Sheets.{line_item}
-use Rattle.sheet.proofs.Exporting.{long-enough, Is, line-is, line-ahead, line-more, rows_start}
+use Rattle.sheet.proofs.Exporting.{long-enough, Is, line-is, line-ahead, rows_start}
 use Rattle.sheet.proofs.Writing.{next-item, run_room, run_on, run-done}
-use borrow.Author.Rules.{rules}
 use Rattle.sheet.proofs.write_lines.Goals as goal
 
 pub loop-i-init : goal.loop-i-init
@@ -23,24 +22,6 @@ put_row-at-requires c =
     line-is c.rest_of-rest.result.now o.piece o.rest (ap line_item c.rest_of-rest.ensures ∙ o.first) in
     let e = there in
     record { s_value = e.line; s_in_bounds = run_room c.loop-i.invariant.1 (some) (line_row Sheet c.rest_of-rest.result.now) e.row }
-
-pub loop-i-smaller : goal.loop-i-smaller
-loop-i-smaller c =
-    let some : 0 < length (drop c.loop-i.i c.args.lines.now) = omega (arith, length-drop c.loop-i.i c.args.lines.now) in
-    let there : Is c.rest_of-rest.result.now (next-item c.loop-i.invariant.1 (some)).piece
-    (next-item c.loop-i.invariant.1 (some)).rest = let o = next-item c.loop-i.invariant.1 (some) in
-    line-is c.rest_of-rest.result.now o.piece o.rest (ap line_item c.rest_of-rest.ensures ∙ o.first) in
-    let ahead : c.loop-i.i + c.front_size-i.result ≤ length
-    c.args.lines.now = let l = c.loop-i in
-    line-ahead c.args.lines.now l.i c.rest_of-rest.result.now c.front_size-i.result
-    c.rest_of-rest.ensures (there).line c.front_size-i.ensures l.invariant.0 in
-    let l = c.loop-i in
-    omega (
-      arith,
-      ahead,
-      line-more c.args.lines.now l.i c.rest_of-rest.result.now
-          c.front_size-i.result c.rest_of-rest.ensures (there).line c.front_size-i.ensures,
-    )
 
 pub loop-i-preserved : goal.loop-i-preserved
 loop-i-preserved c =
@@ -67,21 +48,6 @@ front_size-i-requires c =
     (next-item c.loop-i.invariant.1 (some)).rest = let o = next-item c.loop-i.invariant.1 (some) in
     line-is c.rest_of-rest.result.now o.piece o.rest (ap line_item c.rest_of-rest.ensures ∙ o.first) in
     long-enough c.rest_of-rest.result.now (there).line
-
-pub overflow_add-i : goal.overflow_add-i
-overflow_add-i c =
-    let some : 0 < length (drop c.loop-i.i c.args.lines.now) = omega (arith, length-drop c.loop-i.i c.args.lines.now) in
-    let there : Is c.rest_of-rest.result.now (next-item c.loop-i.invariant.1 (some)).piece
-    (next-item c.loop-i.invariant.1 (some)).rest = let o = next-item c.loop-i.invariant.1 (some) in
-    line-is c.rest_of-rest.result.now o.piece o.rest (ap line_item c.rest_of-rest.ensures ∙ o.first) in
-    let ahead : c.loop-i.i + c.front_size-i.result ≤ length
-    c.args.lines.now = let l = c.loop-i in
-    line-ahead c.args.lines.now l.i c.rest_of-rest.result.now c.front_size-i.result
-    c.rest_of-rest.ensures (there).line c.front_size-i.ensures l.invariant.0 in
-    let e = ahead in search rules
-
-pub shape_of-text : goal.shape_of-text
-shape_of-text c = c.loop-i.invariant.1.puts.same
 
 pub returns : goal.returns
 returns c = run-done c.loop-i.invariant.1 (drop_of_length-le c.args.lines.now c.loop-i-test.false)

@@ -6,10 +6,10 @@ use Rattle.unsheet_main.proofs.read_sheet.Goals as goal
 
 pub slice_bounds-lines-end : goal.slice_bounds-lines-end
 slice_bounds-lines-end g c =
-    let w : c.in-Written.n ≤ length c.lines_buffer-lines.result = written-within _ _ _ (sym c.in-Written.ensures.value) in
+    let w : c.in-Ok.n ≤ length c.lines_buffer-lines.result = written-within _ _ _ (sym c.in-Ok.ensures.value) in
     omega arith
 
 pub slice_bounds-give-end : goal.slice_bounds-give-end
 slice_bounds-give-end g c =
-    let w : c.in-Written.n ≤ length c.lines_buffer-lines.result = written-within _ _ _ (sym c.in-Written.ensures.value) in
+    let w : c.in-Ok.n ≤ length c.lines_buffer-lines.result = written-within _ _ _ (sym c.in-Ok.ensures.value) in
     sym (length-take-le _ _ (omega arith))

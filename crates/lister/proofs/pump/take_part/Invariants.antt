@@ -4,8 +4,5 @@ use mathlib.Core.Path.{◌≡◌}
 use lib.ListN.{length}
 use Rattle.lister.proofs.pump.take_part.Given as goal
 
-abbrev pub invariant-loop-calls : goal.invariant-loop-calls
-invariant-loop-calls g l = (l.i ≤ length l.part) × (length l.text ≡ length l.initial.text)
-
-abbrev pub decreases-loop-calls : goal.decreases-loop-calls
-decreases-loop-calls g l = l.calls
+abbrev pub invariant-loop-call : goal.invariant-loop-call
+invariant-loop-call g l = (l.i ≤ length l.part) × (length l.text ≡ length l.initial.text)

@@ -1,27 +1,20 @@
 -- The invariant: the first that differs is among those that are left. Assumes nothing.
+use mathlib.Core.Path.{◌≡◌, sym, ◌∙◌}
 use native.Mathlib.Omega.{arith}
-use Rattle.base.proofs.Tests.{not-true, not-false}
-use Rattle.sheet.proofs.Places.{going-none, going_on, going-stop, going_end}
+use Rattle.sheet.proofs.Held.{kind-is}
+use Rattle.sheet.proofs.Places.{going_on, going-stop, going_end}
 use Rattle.sheet.proofs.faults.bad_column.Goals as goal
 
-pub loop-j-init : goal.loop-j-init
-loop-j-init c = going-none _ _
-
-pub column_of-requires : goal.column_of-requires
-column_of-requires c = omega (arith, c.loop-j-test.true)
-
-pub read_column-k-requires : goal.read_column-k-requires
-read_column-k-requires c = record { at_in_bounds = c.loop-j.invariant.within; fair = c.column_of.ensures.fair }
-
-pub returns-then-not-k : goal.returns-then-not-k
-returns-then-not-k c = let l = c.loop-j in
-    rw (← c.unsigned_cell-first.ensures.value)
+pub returns-then-not-is_formed : goal.returns-then-not-is_formed
+returns-then-not-is_formed c = let l = c.loop-j in
+    rw (← kind-is _ c.unwrap_or-kind.ensures c.unsigned_cell-first.ensures)
     (going-stop l.invariant c.loop-j-test.true c.column_of.ensures.value c.read_column-k.ensures
-    (not-true _ c.if-not-k.true))
+    (sym c.is_formed.ensures ∙ c.if-not-is_formed.true))
 
 pub loop-j-preserved : goal.loop-j-preserved
 loop-j-preserved c = let l = c.loop-j in
-    going_on l.invariant c.loop-j-test.true c.column_of.ensures.value c.read_column-k.ensures (not-false _ c.if-not-k.false)
+    going_on l.invariant c.loop-j-test.true c.column_of.ensures.value c.read_column-k.ensures (sym c.is_formed.ensures ∙ c.if-not-is_formed.false)
 
 pub returns : goal.returns
-returns c = rw (← c.unsigned_cell-first.ensures.value) (going_end c.loop-j.invariant c.loop-j-test.false)
+returns c = let end : c.loop-j.j ≡ 8 = omega arith in
+    rw (← kind-is _ c.unwrap_or-kind.ensures c.unsigned_cell-first.ensures) (rw end at (going_end c.loop-j.invariant c.loop-j-test.false))

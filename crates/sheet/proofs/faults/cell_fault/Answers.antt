@@ -7,10 +7,6 @@ use Rattle.sheet.specs.Faults.{has, part_at, cell_fault}
 use Rattle.sheet.proofs.Places.{last-cell}
 use Rattle.sheet.proofs.faults.cell_fault.Goals as goal
 
-pub first_of-cell-requires : goal.first_of-cell-requires
-unfolding cell_fault
-first_of-cell-requires c = c.part_length.ensures.1
-
 pub returns-then-has : goal.returns-then-has
 unfolding cell_fault
 returns-then-has c =
@@ -27,10 +23,6 @@ returns-then-has-2 c =
     let quotes : c.has.result ≡ has 34 (part_at true c.args.text.now) = rw (cell) at c.has.ensures in
     let semicolons : c.has-2.result ≡ has 59 (part_at true c.args.text.now) = rw (cell) at c.has-2.ensures in
     rw (sym (quotes) ∙ c.if-has.false, sym (semicolons) ∙ c.if-has-2.true) refl
-
-pub last_fault-requires : goal.last_fault-requires
-unfolding cell_fault
-last_fault-requires c = c.requires
 
 pub returns-then-c : goal.returns-then-c
 unfolding cell_fault

@@ -6,25 +6,15 @@ use native.Mathlib.Omega.{arith}
 use lib.Dec.{eqb}
 use lib.ListN.{length, get_or, take}
 use Rattle.line_rows.specs.Rows.{column_names}
-use Rattle.printing.proofs.Puts.{put-length}
 use Rattle.sheet.specs.Rows.{starts_with}
 use Rattle.sheet.specs.Faults.{has, part_at, first_fault}
 use Rattle.sheet.proofs.Plans.{header-fits}
 use Rattle.sheet.proofs.Places.{names_at, names-end, both-same}
-use borrow.Author.Rules.{rules}
 use Rattle.sheet.proofs.faults.first_fault.Goals as goal
-
-pub starts-requires : goal.starts-requires
-unfolding first_fault
-starts-requires c = omega arith
 
 pub returns-then-starts : goal.returns-then-starts
 unfolding first_fault
 returns-then-starts c = rw (sym c.starts.ensures ∙ c.if-starts.true) refl
-
-pub first_of-line-requires : goal.first_of-line-requires
-unfolding first_fault
-first_of-line-requires c = c.part_length.ensures.1
 
 pub returns-then-has : goal.returns-then-has
 unfolding first_fault
@@ -43,10 +33,6 @@ returns-then-has-2 c =
     let semicolons : c.has-2.result ≡ has 59 (part_at false c.args.text.now) = rw (line) at c.has-2.ensures in
     rw (sym c.starts.ensures ∙ c.if-starts.false, sym (quotes) ∙ c.if-has.false, sym (semicolons) ∙ c.if-has-2.true) refl
 
-pub slice_bounds-put_header-end : goal.slice_bounds-put_header-end
-unfolding first_fault
-slice_bounds-put_header-end c = search rules
-
 pub put_header-n-requires : goal.put_header-n-requires
 unfolding first_fault
 put_header-n-requires c = omega (arith, header-fits)
@@ -54,18 +40,6 @@ put_header-n-requires c = omega (arith, header-fits)
 pub overflow_sub-n : goal.overflow_sub-n
 unfolding first_fault
 overflow_sub-n c = omega (arith, names-end c.put_header-n.ensures)
-
-pub slice_bounds-first_of-end : goal.slice_bounds-first_of-end
-unfolding first_fault
-slice_bounds-first_of-end c = search rules
-
-pub first_of-requires : goal.first_of-requires
-unfolding first_fault
-first_of-requires c = let p = c.put_header-n.ensures in omega (arith, names-end p, p.room, put-length p)
-
-pub starts-named-requires : goal.starts-named-requires
-unfolding first_fault
-starts-named-requires c = omega arith
 
 pub returns-then-named-byte : goal.returns-then-named-byte
 unfolding first_fault

@@ -1,27 +1,35 @@
--- The invariant: the bytes gone through and those that are left. Assumes nothing.
-use mathlib.Core.Path.{sym, ◌∙◌}
+use Prim.Native.Nat.{ℕ, ◌≤◌}
+use mathlib.Core.Path.{◌≡◌, refl, sym, ap, ◌∙◌}
+use mathlib.Core.Bool.{cond}
 use native.Mathlib.Omega.{arith}
-use Rattle.sheet.proofs.Places.{part-on, part-stop, part_end}
+use lib.Dec.{ltb}
+use lib.ListN.{length}
+use borrow.Author.Tests.{ltb-false}
+use Rattle.base.proofs.Tests.{by-test}
+use Rattle.std.proofs.Common.{rules, tests}
+use Rattle.std.proofs.lemmas.Iterator.{YieldsList-from_slice}
+use Rattle.std.proofs.lemmas.Iterator.Search.{position_from_yields_List}
+use Rattle.std.proofs.lemmas.List.Sums.{prefix_len-le-length}
+use Rattle.std.specs.List.{position_or_len}
+use Rattle.std.specs.Option.{unwrap_or}
+use Rattle.std.specs.declared.option.Option.TheVariants.{Some, None}
+use Rattle.sheet.specs.Faults.{ends}
+use Rattle.sheet.proofs.Places.{part-as}
 use Rattle.sheet.proofs.faults.part_length.Goals as goal
 
-pub loop-i-init : goal.loop-i-init
-loop-i-init c = (omega arith, omega arith)
-
-pub returns-then-ends : goal.returns-then-ends
-returns-then-ends c = let l = c.loop-i in
-    let a = c.args in
-    let test = c.loop-i-test.true in
-    let stop = part-stop a.cell a.text.now l.i test (sym c.ends.ensures ∙ c.if-ends.true) in
-    (omega (arith, l.invariant.1, stop), l.invariant.0)
-
-pub loop-i-preserved : goal.loop-i-preserved
-loop-i-preserved c = let l = c.loop-i in
-    let a = c.args in
-    let test = c.loop-i-test.true in
-    let on = part-on a.cell a.text.now l.i test (sym c.ends.ensures ∙ c.if-ends.false) in
-    (omega (arith, test), omega (arith, l.invariant.1, on))
+-- none is the end
+or-end : (n end : ℕ) → n ≤ end → unwrap_or (cond (ltb n end) (Some n) None) end ≡ n
+or-end n end h =
+    by-test (ltb n end)
+    (λ t. rw t refl)
+    (λ f. let o = ltb-false n end f in rw f (omega arith))
 
 pub returns : goal.returns
-returns c = let l = c.loop-i in
-    let a = c.args in
-    (omega (arith, l.invariant.1, part_end a.cell a.text.now l.i c.loop-i-test.false), l.invariant.0)
+returns c = let a = c.args in
+    let s = a.text.now in
+    let n = position_or_len (ends a.cell) s in
+    let within : n ≤ length s = prefix_len-le-length _ s in
+    let found : c.position.result ≡ cond (ltb n (length s)) (Some n) None =
+    position_from_yields_List (ends a.cell) _ _ c.position.result c.position.ensures.ran (YieldsList-from_slice s cc) (λ x b q k. search (rules, tests)) in
+    let e = c.unwrap_or.ensures ∙ ap (λ (o : _). unwrap_or o (length s)) found ∙ or-end n (length s) within in
+    (e ∙ sym (part-as a.cell s), omega (arith, e, within))

@@ -1,7 +1,6 @@
 -- The names are those of the header. Assumes nothing.
 use native.Mathlib.Omega.{arith}
 use mathlib.Core.Path.{◌∙◌}
-use Rattle.printing.proofs.Puts.{put-length}
 use Rattle.printing.proofs.Sayings.{◌⟫◌}
 use Rattle.sheet.proofs.Plans.{header-fits}
 use Rattle.sheet.proofs.Places.{names_at, names-end}
@@ -12,10 +11,6 @@ put_header-n-requires c = omega (arith, header-fits)
 
 pub overflow_sub-n : goal.overflow_sub-n
 overflow_sub-n c = omega (arith, names-end c.put_header-n.ensures)
-
-pub first_of-requires : goal.first_of-requires
-first_of-requires c = let p = c.put_header-n.ensures in
-    omega (arith, names-end p, p.room, put-length p)
 
 pub returns : goal.returns
 returns c = let p = c.put_header-n.ensures in

@@ -5,7 +5,6 @@ use mathlib.Core.Bool.{true}
 use mathlib.Core.List.{List}
 use native.Mathlib.Omega.{arith}
 use lib.ListN.{take}
-use Rattle.printing.proofs.Puts.{put-length}
 use Rattle.sheet.specs.Faults.{after_marks, part_at}
 use Rattle.sheet.proofs.Plans.{header-fits}
 use Rattle.sheet.proofs.Places.{names_at, names-end}
@@ -16,15 +15,6 @@ put_header-n-requires c = omega (arith, header-fits)
 
 pub overflow_sub-n : goal.overflow_sub-n
 overflow_sub-n c = omega (arith, names-end c.put_header-n.ensures)
-
-pub first_of-names-requires : goal.first_of-names-requires
-first_of-names-requires c = let p = c.put_header-n.ensures in omega (arith, names-end p, p.room, put-length p)
-
-pub rest_of-rest-requires : goal.rest_of-rest-requires
-rest_of-rest-requires c = c.after_marks.ensures.0
-
-pub first_of-requires : goal.first_of-requires
-first_of-requires c = c.part_length.ensures.1
 
 pub returns : goal.returns
 returns c = let p = c.put_header-n.ensures in

@@ -2,12 +2,6 @@
 use Rattle.printing.proofs.Sayings.{◌⟫◌}
 use Rattle.sheet.proofs.faults.say_place.Goals as goal
 
-pub column_of-requires : goal.column_of-requires
-column_of-requires c = c.requires.1
-
-pub cell_fault-fault-requires : goal.cell_fault-fault-requires
-cell_fault-fault-requires c = c.column_of.ensures.fair
-
 pub returns : goal.returns
 returns c = let fault = rw c.column_of.ensures.value at c.cell_fault-fault.ensures in
     c.say-word.ensures

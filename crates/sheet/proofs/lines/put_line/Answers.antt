@@ -7,9 +7,6 @@ pub put_numbers-requires : goal.put_numbers-requires
 put_numbers-requires c = let a = c.args in
     record { kind_in_bounds = omega (arith, line-length a.kind a.values.now); figure_count_in_bounds = omega arith }
 
-pub overflow_add-result : goal.overflow_add-result
-overflow_add-result c = omega (arith, line-length c.args.kind c.args.values.now, c.size_of_kind.ensures.value)
-
 pub returns : goal.returns
 returns c = let a = c.args in
     stored-put a.kind a.values.now a.out.now _ a.at c.size_of_kind.result c.size_of_kind.ensures.value c.requires

@@ -1,10 +1,20 @@
 -- The place, or the sentence. Assumes nothing.
-use borrow.Author.Tests.{eq-eqb, ne_eqb}
+use mathlib.Core.Path.{◌≡◌, refl}
+use mathlib.Core.Bool.{false}
+use lib.Dec.{eqb}
 use Rattle.printing.proofs.Sayings.{◌⟫◌}
+use Rattle.sheet.specs.declared.Refusal.{Refusal}
+use Rattle.sheet.specs.declared.Refusal.TheVariants.{Full, WrongForm, OutsideField, NoLines}
+use Rattle.sheet.specs.Sheets.{code_of}
 use Rattle.sheet.proofs.remarks.say_people.Goals as goal
 
-pub returns-then-code-eq20 : goal.returns-then-code-eq20
-returns-then-code-eq20 c = rw (eq-eqb _ 20 c.if-code-eq20.true) c.say_fault.ensures
+other-number : (why : Refusal) → (why ≡ WrongForm → ⊥) → eqb (code_of why) 20 ≡ false
+other-number Full n = refl
+other-number WrongForm n = absurd (n refl)
+other-number OutsideField n = refl
+other-number NoLines n = refl
 
-pub returns : goal.returns
-returns c = rw (ne_eqb _ 20 c.if-code-eq20.false) (c.say_row_head-head.ensures ⟫ c.say_sentence-words.ensures ⟫ c.say.ensures)
+pub returns-in_default : goal.returns-in_default
+returns-in_default c =
+    rw (other-number _ c.in_default.not-WrongForm)
+    (c.say_row_head-head.ensures ⟫ (rw c.code.ensures at c.say_sentence-words.ensures) ⟫ c.say.ensures)

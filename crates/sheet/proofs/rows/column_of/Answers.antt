@@ -18,6 +18,3 @@ returns c = let h = c.highest_of in
           c.if-last-kind.false;
       fair = record { narrow = w.ensures.upper_bound; lower = fair-highest s.result w.result h.result h.ensures };
     }
-
-pub highest_of-requires : goal.highest_of-requires
-highest_of-requires c = c.number_width-width.ensures.upper_bound

@@ -41,8 +41,3 @@ overflow_add-highest c = omega (arith, seven-bytes c.loop-i.i (omega arith))
 
 pub loop-i-preserved : goal.loop-i-preserved
 loop-i-preserved c = (omega arith, byte_more c.loop-i.i c.loop-i.highest c.loop-i.invariant.1)
-
-pub returns : goal.returns
-returns c = let l = c.loop-i in
-    let done : l.i ≡ c.args.width = omega arith in
-    all-bytes l.highest l.i c.args.width l.invariant.1 done

@@ -6,7 +6,7 @@ use Rattle.sheet.proofs.rows.read_cell.Goals as goal
 
 pub returns-then-c-eq0 : goal.returns-then-c-eq0
 unfolding read_cell
-returns-then-c-eq0 c = rw (eq-eqb _ 0 c.if-c-eq0.true) (record { good = refl; fits = refl; value = refl; rest = refl; inside = search rules })
+returns-then-c-eq0 c = rw (eq-eqb _ 0 c.if-c-eq0.true) (record { number = refl; rest = refl; inside = search rules })
 
 pub returns-then-c : goal.returns-then-c
 unfolding read_cell
@@ -15,6 +15,3 @@ returns-then-c c = rw (ne_eqb _ 0 c.if-c-eq0.false, c.if-c.true) c.signed_cell.e
 pub returns : goal.returns
 unfolding read_cell
 returns c = rw (ne_eqb _ 0 c.if-c-eq0.false, c.if-c.false) c.unsigned_cell.ensures
-
-pub signed_cell-requires : goal.signed_cell-requires
-signed_cell-requires c = (search rules, c.requires.fair.lower c.if-c.true)
