@@ -11,3 +11,4 @@ pub mod Pieces
 pub mod NextGroups
 pub mod OneAnswer
 pub mod PartnerRecords
+pub mod GroupNumbers

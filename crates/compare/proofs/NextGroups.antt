@@ -17,6 +17,7 @@ use Rattle.account.specs.declared.Account.{Account}
 use Rattle.walk.specs.Walk.{Entry, entry_of, entries_after, entries_of}
 use Rattle.compare.specs.declared.Cursor.{Cursor}
 use Rattle.compare.specs.declared.Side.{Side}
+use Rattle.compare.specs.declared.Stage.TheVariants.{Section}
 use Rattle.compare.specs.declared.Step.{Step}
 use Rattle.compare.specs.declared.places.Place.{Place}
 use Rattle.compare.specs.declared.places.Taken.{Taken}
@@ -41,7 +42,7 @@ alone-is xs p h e n f g k =
     ap (λ (m : ℕ). record { place = p; left = m; end = e; grouped = true }) k
     ∙ ap (λ (x : Place). record { place = p; left = x.number - p.number; end = x; grouped = true }) q
 
-module _ (xs : List ℕ) (p q : Place) (out out' : List ℕ) (n g : ℕ) (s : Side) (d : Cursor) (e : d ≡ at_places 5 p q) where
+module _ (xs : List ℕ) (p q : Place) (out out' : List ℕ) (n g : ℕ) (s : Side) (d : Cursor) (e : d ≡ at_places Section p q) where
   pub removed-stepped : g ≡ group_at (left_of xs p) → s ≡ alone_side xs p → Said out out' 0 (group_title g (ascii ", removed:\n")) n
       → Steps (removed_step xs p q) out out'
       (record { cursor = record { stage = d.stage; old = s; new = d.new; paired = d.paired; moved = d.moved; others = d.others }; written = n })
@@ -50,7 +51,7 @@ module _ (xs : List ℕ) (p q : Place) (out out' : List ℕ) (n g : ℕ) (s : Si
         said = subst (λ (m : ℕ). Said out out' 0 (group_title m (ascii ", removed:\n")) n) f t;
         cursor =
             ap (λ (c : Cursor). record { stage = c.stage; old = s; new = c.new; paired = c.paired; moved = c.moved; others = c.others }) e
-            ∙ ap (λ (x : Side). record { stage = 5; old = x; new = (at_places 5 p q).new; paired = false; moved = 0; others = 0 }) h;
+            ∙ ap (λ (x : Side). record { stage = Section; old = x; new = (at_places Section p q).new; paired = false; moved = 0; others = 0 }) h;
       }
 
   pub added-stepped : g ≡ group_at (left_of xs q) → s ≡ alone_side xs q → Said out out' 0 (group_title g (ascii ", added:\n")) n
@@ -61,7 +62,7 @@ module _ (xs : List ℕ) (p q : Place) (out out' : List ℕ) (n g : ℕ) (s : Si
         said = subst (λ (m : ℕ). Said out out' 0 (group_title m (ascii ", added:\n")) n) f t;
         cursor =
             ap (λ (c : Cursor). record { stage = c.stage; old = c.old; new = s; paired = c.paired; moved = c.moved; others = c.others }) e
-            ∙ ap (λ (x : Side). record { stage = 5; old = (at_places 5 p q).old; new = x; paired = false; moved = 0; others = 0 }) h;
+            ∙ ap (λ (x : Side). record { stage = Section; old = (at_places Section p q).old; new = x; paired = false; moved = 0; others = 0 }) h;
       }
 
 -- ---- a group of both books

@@ -79,6 +79,16 @@ lines_same a b xs ys left right t u p q h k = rw (p.are h, q.are k) refl
 
 -- ---- many pairs
 
+-- one more of what is kept
+pub anew-is : (b : Bool) (n : ℕ) → pick b (pick b n 0 + 1) (pick b n 0) ≡ pick b (n + 1) 0
+anew-is true n = refl
+anew-is false n = refl
+
+pub lasting-is : (b l : Bool) (n : ℕ) → pick (b && not l) (pick b n 0 + 1) (pick b n 0) ≡ pick b (pick l n (n + 1)) 0
+lasting-is true true n = refl
+lasting-is true false n = refl
+lasting-is false l n = refl
+
 -- k of the pairs are counted, up to the bytes at and to; counting those left makes the whole
 pub record Pairing (xs ys : List ℕ) (es ns : List Entry) (many : ℕ) (a b : Account) (at to : ℕ) (u : Counts) (k : ℕ) : Type 0 where
   pub inside : at ≤ length xs

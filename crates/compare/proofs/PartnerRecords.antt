@@ -8,7 +8,7 @@ use native.Mathlib.Omega.{arith}
 use native.Mathlib.Numerals.{add-one}
 use borrow.Author.Tests.{eq-eqb}
 use lib.ListN.{length, take, drop, set, get_or, length-set, length-append, drop_of_length-le}
-use lib.Seq.{length-take-le, take-suc-set, take-set-lt, get_or-take}
+use lib.Seq.{length-take-le, take-suc-set, take-set-lt}
 use lib.Dec.{eqb}
 use Rattle.base.specs.Choice.{pick}
 use Rattle.base.proofs.Tests.{by-test, no_bool, not-true, not-false, and-false}
@@ -18,7 +18,7 @@ use Rattle.promises.specs.WholeLines.{is_detail}
 use Rattle.walk.proofs.Walks.{records-none}
 use Rattle.compare.specs.Records.{same}
 use Rattle.compare.specs.Moved.{times_in, as_often, all_as_often, same_details}
-use Rattle.compare.specs.InnerMoved.{found_at, stands_at, all_found_at, Noted, OneMore, Takes}
+use Rattle.compare.specs.InnerMoved.{found_at, stands_at, LeadsTo, all_found_at, Noted, OneMore, Takes}
 use Rattle.compare.proofs.SameBytes.{same_self, same_true}
 use Rattle.compare.proofs.MovedRecords.{ahead, ahead-all, ahead-far, ahead_none, ahead-on, next-inside}
 
@@ -75,17 +75,17 @@ module _ (r ys places : List ℕ) (many : ℕ) (size : length places ≡ 4096) w
   pub takes_none : Takes r ys many places places false
   takes_none = record { size = size; detail = λ e. no_bool e; one = λ e. no_bool e }
 
-  pub takes-some : (j p : ℕ) (b d : Bool) → many ≤ 4096 → j < many → p ≡ get_or places j 0 → b ≡ stands_at r ys p → not b ≡ false
-      → d ≡ is_detail r → not d ≡ false → Takes r ys many places (set places j (length ys)) true
-  takes-some j p b d h k e f n g o =
+  pub takes-some : (links : List ℕ) (link : ℕ) (d : Bool) → many ≤ 4096 → LeadsTo r ys (take many places) links link → d ≡ is_detail r → d ≡ true
+      → Takes r ys many places (set places (get_or links link 0) (length ys)) true
+  takes-some links link d h k g o =
+      let j = get_or links link 0 in
       let l : length (take many places) ≡ many = length-take-le many places (omega (arith, size, h)) in
-      let q : found_at ys (get_or (take many places) j 0) ≡ r ∷ [] =
-      rw (get_or-take many places j 0 k, ← e) (found_some r ys p (sym f ∙ not-false b n)) in
-      let t = taken_out r ys (take many places) j (length ys) (omega (arith, l, k)) q (found_none ys (length ys) (omega arith)) in
+      let q = found_some r ys (get_or (take many places) j 0) k.same in
+      let t = taken_out r ys (take many places) j (length ys) k.noted q (found_none ys (length ys) (omega arith)) in
       record {
         size = length-set places j (length ys) ∙ size;
-        detail = λ z. sym g ∙ not-false d o;
-        one = λ z. rw (take-set-lt many places j (length ys) k) t;
+        detail = λ z. sym g ∙ o;
+        one = λ z. rw (take-set-lt many places j (length ys) (omega (arith, l, k.noted))) t;
       }
 
 -- ---- the places noted

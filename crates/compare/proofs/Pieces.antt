@@ -17,6 +17,7 @@ use Rattle.account.specs.declared.Account.{Account}
 use Rattle.walk.specs.Walk.{Entry, entries_after}
 use Rattle.compare.specs.declared.Cursor.{Cursor}
 use Rattle.compare.specs.declared.Side.{Side}
+use Rattle.compare.specs.declared.Stage.TheVariants.{Section, NextGroup}
 use Rattle.compare.specs.declared.Step.{Step}
 use Rattle.compare.specs.declared.places.Place.{Place}
 use Rattle.compare.specs.declared.places.Taken.{Taken}
@@ -71,37 +72,37 @@ stepped x out out' s p q = record { said = p; cursor = q }
 module _ (xs : List ℕ) (c : Cursor) (out out' : List ℕ) (n : ℕ) (s : Side) where
   pub old-stepped : Said out out' 0 (old_step xs c).text n → s ≡ one_told xs c.old
       → Steps (old_step xs c) out out'
-      (record { cursor = record { stage = 5; old = s; new = c.new; paired = c.paired; moved = c.moved; others = c.others }; written = n })
+      (record { cursor = record { stage = Section; old = s; new = c.new; paired = c.paired; moved = c.moved; others = c.others }; written = n })
   old-stepped p e =
       record {
         said = p;
-        cursor = ap (λ (x : Side). record { stage = 5; old = x; new = c.new; paired = c.paired; moved = c.moved; others = c.others }) e;
+        cursor = ap (λ (x : Side). record { stage = Section; old = x; new = c.new; paired = c.paired; moved = c.moved; others = c.others }) e;
       }
 
   pub new-stepped : Said out out' 0 (new_step xs c).text n → s ≡ one_told xs c.new
       → Steps (new_step xs c) out out'
-      (record { cursor = record { stage = 5; old = c.old; new = s; paired = c.paired; moved = c.moved; others = c.others }; written = n })
+      (record { cursor = record { stage = Section; old = c.old; new = s; paired = c.paired; moved = c.moved; others = c.others }; written = n })
   new-stepped p e =
       record {
         said = p;
-        cursor = ap (λ (x : Side). record { stage = 5; old = c.old; new = x; paired = c.paired; moved = c.moved; others = c.others }) e;
+        cursor = ap (λ (x : Side). record { stage = Section; old = c.old; new = x; paired = c.paired; moved = c.moved; others = c.others }) e;
       }
 
 pub pair-stepped : (xs ys : List ℕ) (c : Cursor) (out out' : List ℕ) (n : ℕ) (s t : Side) → Said out out' 0 (pair_step xs ys c).text n
     → s ≡ one_told xs c.old → t ≡ one_told ys c.new
     → Steps (pair_step xs ys c) out out'
-    (record { cursor = record { stage = 5; old = s; new = t; paired = c.paired; moved = c.moved; others = c.others }; written = n })
+    (record { cursor = record { stage = Section; old = s; new = t; paired = c.paired; moved = c.moved; others = c.others }; written = n })
 pair-stepped xs ys c out out' n s t p e f =
     record {
       said = p;
       cursor =
-          ap (λ (x : Side). record { stage = 5; old = x; new = t; paired = c.paired; moved = c.moved; others = c.others }) e
-          ∙ ap (λ (x : Side). record { stage = 5; old = one_told xs c.old; new = x; paired = c.paired; moved = c.moved; others = c.others }) f;
+          ap (λ (x : Side). record { stage = Section; old = x; new = t; paired = c.paired; moved = c.moved; others = c.others }) e
+          ∙ ap (λ (x : Side). record { stage = Section; old = one_told xs c.old; new = x; paired = c.paired; moved = c.moved; others = c.others }) f;
     }
 
 pub tail-stepped : (xs ys : List ℕ) (c : Cursor) (out out' : List ℕ) (n : ℕ) (d : Cursor)
     → Said out out' 0 (others_text c.others ++ sum_text (ascii "subtotal") figure_count (subtotal_at xs c.old) (subtotal_at ys c.new)) n
-    → d ≡ at_places 6 c.old.end c.new.end → Steps (tail_step xs ys c) out out' (record { cursor = d; written = n })
+    → d ≡ at_places NextGroup c.old.end c.new.end → Steps (tail_step xs ys c) out out' (record { cursor = d; written = n })
 unfolding tail_text
 tail-stepped xs ys c out out' n d p e = record { said = p; cursor = e }
 

@@ -1,15 +1,13 @@
 -- Laws of the test for the same bytes, and a record's kind.
 -- Assumes nothing.
-use Prim.Native.Nat.{ℕ, suc, ◌+◌, ◌<◌, ◌≤◌}
+use Prim.Native.Nat.{ℕ}
 use mathlib.Core.Path.{◌≡◌, refl, sym, ap, ◌∙◌}
 use mathlib.Core.List.{List, [], ◌∷◌}
 use mathlib.Core.Bool.{Bool, true, false, ◌&&◌}
 use native.Mathlib.Omega.{arith}
-use native.Mathlib.Numerals.{add-one}
-use borrow.Author.Tests.{eqb-true, eq-eqb, ne_eqb}
-use lib.ListN.{length, get_or, drop, drop_of_length-le}
-use lib.Seq.{drop-cons}
+use borrow.Author.Tests.{eqb-true, eq-eqb}
 use lib.Dec.{eqb}
+use lib.Pointwise.{pointwise}
 use Rattle.base.proofs.Tests.{and_l, and_r, no_bool}
 use Rattle.codec.specs.Codec.{val_at}
 use Rattle.account.specs.declared.sort.Sort.{Sort}
@@ -37,33 +35,13 @@ same_true (x ∷ xs) (y ∷ ys) e =
 pub same_false : (xs ys : List ℕ) → same xs ys ≡ false → xs ≡ ys → ⊥
 same_false xs ys e q = let z : true ≡ false = sym (same_self ys) ∙ (rw q at e) in no_bool (sym z)
 
--- of different lengths they are not
-pub same-lengths : (xs ys : List ℕ) → (length xs ≡ length ys → ⊥) → false ≡ same xs ys
+-- std's test of two slices, pair by pair, is this one
+pub pointwise-same : (xs ys : List ℕ) → pointwise eqb xs ys ≡ same xs ys
 unfolding same
-same-lengths [] [] n = absurd (n refl)
-same-lengths [] (y ∷ ys) n = refl
-same-lengths (x ∷ xs) [] n = refl
-same-lengths (x ∷ xs) (y ∷ ys) n = rw (← same-lengths xs ys (λ e. n (ap suc e))) (both (eqb x y))
-  where
-    both : (b : Bool) → false ≡ b && false
-    both true = refl
-    both false = refl
-
--- the bytes up to i are the same: then it is decided by the others
-module _ (xs ys : List ℕ) (i : ℕ) (s : same (drop i xs) (drop i ys) ≡ same xs ys) (p : i < length xs) (q : i < length ys) where
-  next-same : same (drop i xs) (drop i ys) ≡ eqb (get_or xs i 0) (get_or ys i 0) && same (drop (i + 1) xs) (drop (i + 1) ys)
-  unfolding same
-  next-same = rw (add-one i, drop-cons xs i 0 p, drop-cons ys i 0 q) refl
-
-  pub same-on : get_or xs i 0 ≡ get_or ys i 0 → same (drop (i + 1) xs) (drop (i + 1) ys) ≡ same xs ys
-  same-on e = rw (next-same, eq-eqb _ _ e) at s
-
-  pub same-stops : (get_or xs i 0 ≡ get_or ys i 0 → ⊥) → false ≡ same xs ys
-  same-stops n = rw (next-same, ne_eqb _ _ n) at s
-
-pub same_end : (xs ys : List ℕ) (i : ℕ) → same (drop i xs) (drop i ys) ≡ same xs ys → length xs ≤ i → length xs ≡ length ys → true ≡ same xs ys
-unfolding same
-same_end xs ys i s p l = rw (drop_of_length-le xs {i = i} p, drop_of_length-le ys {i = i} (omega arith)) at s
+pointwise-same [] [] = refl
+pointwise-same [] (y ∷ ys) = refl
+pointwise-same (x ∷ xs) [] = refl
+pointwise-same (x ∷ xs) (y ∷ ys) = ap (λ (b : Bool). eqb x y && b) (pointwise-same xs ys)
 
 -- the code reads it
 pub kind-byte : (k : ℕ) (r : List ℕ) → k ≡ val_at r 3 1 → k ≡ kind_byte r

@@ -13,6 +13,8 @@ use Rattle.base.proofs.Tests.{by-test, and_l, and_r}
 use Rattle.walk.specs.Walk.{Entry}
 use Rattle.compare.specs.declared.Cursor.{Cursor}
 use Rattle.compare.specs.declared.Side.{Side}
+use Rattle.compare.specs.declared.Stage.{Stage}
+use Rattle.compare.specs.declared.Stage.TheVariants.{Section}
 use Rattle.compare.specs.declared.places.Place.{Place}
 use Rattle.compare.specs.declared.plans.Plan.{Plan}
 use Rattle.compare.specs.Inner.{Valid}
@@ -23,7 +25,7 @@ use Rattle.compare.specs.Steps.{at_places, side_after, opened}
 use Rattle.compare.proofs.Onward.{number-onward}
 use Rattle.compare.proofs.Pairs.{leading-left, leading-right}
 
-pub at-start : (stage : ℕ) (p q : Place) (c : Cursor) → c ≡ at_places stage p q → p ≡ start → q ≡ start → c ≡ at_places stage start start
+pub at-start : (stage : Stage) (p q : Place) (c : Cursor) → c ≡ at_places stage p q → p ≡ start → q ≡ start → c ≡ at_places stage start start
 at-start stage p q c e f g = e ∙ ap (λ (x : Place). at_places stage x q) f ∙ ap (λ (x : Place). at_places stage start x) g
 
 -- ---- a side
@@ -113,12 +115,12 @@ module _ (grouped : Bool) (xs ys : List ℕ) (p q s t : Place) (v : Valid xs p) 
         (fs : first ≡ side_after xs p b.front k s grouped) (fv : ValidSide xs first)
         (ss : second ≡ side_after ys q b.front l t grouped) (sv : ValidSide ys second) where
       abbrev made : Cursor
-      made = record { stage = 5; old = first; new = second; paired = b.paired; moved = m; others = b.others }
+      made = record { stage = Section; old = first; new = second; paired = b.paired; moved = m; others = b.others }
 
       with-plan : (z : Plan) (a c : Place) → Cursor
       with-plan z a c =
           record {
-            stage = 5;
+            stage = Section;
             old = side_after xs p z.front (old_told z) a grouped;
             new = side_after ys q z.front (new_told z) c grouped;
             paired = z.paired;
@@ -129,10 +131,10 @@ module _ (grouped : Bool) (xs ys : List ℕ) (p q s t : Place) (v : Valid xs p) 
       pub opened-is : made ≡ opened grouped xs p ys q
       unfolding opened with-plan
       opened-is =
-          ap (λ (x : Side). record { stage = 5; old = x; new = second; paired = b.paired; moved = m; others = b.others })
+          ap (λ (x : Side). record { stage = Section; old = x; new = second; paired = b.paired; moved = m; others = b.others })
           (fs ∙ ap (λ (n : ℕ). side_after xs p b.front n s grouped) kk)
           ∙ ap (λ (x : Side). record {
-            stage = 5;
+            stage = Section;
             old = side_after xs p b.front (old_told b) s grouped;
             new = x;
             paired = b.paired;
@@ -141,7 +143,7 @@ module _ (grouped : Bool) (xs ys : List ℕ) (p q s t : Place) (v : Valid xs p) 
           })
           (ss ∙ ap (λ (n : ℕ). side_after ys q b.front n t grouped) ll)
           ∙ ap (λ (n : ℕ). record {
-            stage = 5;
+            stage = Section;
             old = side_after xs p b.front (old_told b) s grouped;
             new = side_after ys q b.front (new_told b) t grouped;
             paired = b.paired;

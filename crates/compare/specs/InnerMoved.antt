@@ -1,7 +1,7 @@
 -- The contracts of the functions that find for each record of a run a partner in another: the same record, which no other one has. A reader of the
 -- promises can pass this file over: no public contract cites it.
 -- Assumes nothing.
-use Rattle.std.specs.Prelude.{ℕ, ◌≤◌, ◌≡◌, List, [], ◌∷◌, ◌++◌, Bool, true, length, take, drop, eqb}
+use Rattle.std.specs.Prelude.{ℕ, ◌≤◌, ◌<◌, ◌≡◌, List, [], ◌∷◌, ◌++◌, Bool, true, length, get_or, take, drop, eqb}
 use Rattle.book.specs.WholeRecords.{records_of}
 use Rattle.promises.specs.WholeLines.{is_detail}
 use Rattle.compare.specs.Moved.{times_in}
@@ -13,6 +13,12 @@ found_at ys p = take 1 (records_of (drop p ys))
 -- it is r
 abbrev pub stands_at : List ℕ → List ℕ → ℕ → Bool
 stands_at r ys p = eqb (times_in r (found_at ys p)) 1
+
+-- the link leads to one of the places, where r begins
+pub record LeadsTo (r ys places links : List ℕ) (link : ℕ) : Type 0 where
+  pub inside : link < length links
+  pub noted : get_or links link 0 < length places
+  pub same : stands_at r ys (get_or places (get_or links link 0) 0) ≡ true
 
 -- those that begin at the places ps
 unfoldable pub all_found_at : List ℕ → List ℕ → List (List ℕ)

@@ -1,7 +1,7 @@
 -- The comparison step by step, as a program prints it: a cursor says where it has come to in either book, and each step gives a piece of the text and
 -- the next cursor. A record is a step of its own, so that no piece is long, and either book is walked once, a part of it a few times more.
 -- Assumes nothing.
-use Rattle.std.specs.Prelude.{ℕ, zero, suc, ◌+◌, ◌-◌, ◌≡◌, List, [], ◌++◌, Bool, true, false, ◌&&◌, eqb, ltb}
+use Rattle.std.specs.Prelude.{ℕ, zero, suc, ◌-◌, ◌≡◌, List, [], ◌++◌, Bool, true, false, ◌&&◌, eqb, ltb}
 use Rattle.base.specs.Choice.{pick}
 use Rattle.printing.specs.Ascii.{ascii}
 use Rattle.printing.specs.Said.{Said}
@@ -9,6 +9,8 @@ use Rattle.why.specs.Why.{why_of}
 use Rattle.why.specs.Remarks.{machine_text}
 use Rattle.compare.specs.declared.Cursor.{Cursor}
 use Rattle.compare.specs.declared.Side.{Side}
+use Rattle.compare.specs.declared.Stage.{Stage}
+use Rattle.compare.specs.declared.Stage.TheVariants.{OldName, OldVerdict, NewName, NewVerdict, Before, Section, NextGroup, End}
 use Rattle.compare.specs.declared.Step.{Step}
 use Rattle.compare.specs.declared.places.Place.{Place}
 use Rattle.compare.specs.Records.{same}
@@ -33,15 +35,15 @@ pub record Steps (x : Stepping) (out out' : List ℕ) (s : Step) : Type 0 where
 abbrev pub idle : Place → Side
 idle p = record { place = p; left = 0; end = p; grouped = false }
 
--- at two places, in a stage: 0 to 3 are the verdicts, 4 what stands before the groups, 5 a section, 6 the next one, 7 the end
-abbrev pub at_places : ℕ → Place → Place → Cursor
+-- at two places, in a stage
+abbrev pub at_places : Stage → Place → Place → Cursor
 at_places stage p q = record { stage = stage; old = idle p; new = idle q; paired = false; moved = 0; others = 0 }
 
 abbrev pub beginning : Cursor
-beginning = at_places 0 start start
+beginning = at_places OldName start start
 
 abbrev pub ended : Cursor
-ended = at_places 7 start start
+ended = at_places End start start
 
 -- a group alone: its heading and its part
 abbrev pub alone_side : List ℕ → Place → Side
@@ -58,7 +60,7 @@ unfoldable pub opened : Bool → List ℕ → Place → List ℕ → Place → C
 opened grouped old p new q =
     let plan = plan_of (part_of (left_of old p)) (part_of (left_of new q)) in
     record {
-      stage = 5;
+      stage = Section;
       old = side_after old p plan.front (old_told plan) (part_end_lem old p) grouped;
       new = side_after new q plan.front (new_told plan) (part_end_lem new q) grouped;
       paired = plan.paired;
@@ -96,14 +98,14 @@ abbrev pub old_step : List ℕ → Cursor → Stepping
 old_step old c =
     record {
       text = first_alone false c.old.place.number (left_of old c.old.place);
-      cursor = record { stage = 5; old = one_told old c.old; new = c.new; paired = c.paired; moved = c.moved; others = c.others };
+      cursor = record { stage = Section; old = one_told old c.old; new = c.new; paired = c.paired; moved = c.moved; others = c.others };
     }
 
 abbrev pub new_step : List ℕ → Cursor → Stepping
 new_step new c =
     record {
       text = first_alone true c.new.place.number (left_of new c.new.place);
-      cursor = record { stage = 5; old = c.old; new = one_told new c.new; paired = c.paired; moved = c.moved; others = c.others };
+      cursor = record { stage = Section; old = c.old; new = one_told new c.new; paired = c.paired; moved = c.moved; others = c.others };
     }
 
 abbrev pub pair_step : List ℕ → List ℕ → Cursor → Stepping
@@ -112,7 +114,7 @@ pair_step old new c =
       text = first_pair c.old.place.number (left_of old c.old.place) c.new.place.number (left_of new c.new.place);
       cursor =
           record {
-            stage = 5;
+            stage = Section;
             old = one_told old c.old;
             new = one_told new c.new;
             paired = c.paired;
@@ -124,7 +126,7 @@ pair_step old new c =
 -- the end of a section
 abbrev pub tail_step : List ℕ → List ℕ → Cursor → Stepping
 tail_step old new c =
-    record { text = tail_text c.others (subtotal_at old c.old) (subtotal_at new c.new); cursor = at_places 6 c.old.end c.new.end }
+    record { text = tail_text c.others (subtotal_at old c.old) (subtotal_at new c.new); cursor = at_places NextGroup c.old.end c.new.end }
 
 -- one by one, or those of the old book and then those of the new one, then the end
 unfoldable pub section_step : List ℕ → List ℕ → Cursor → Stepping
@@ -137,14 +139,14 @@ abbrev pub removed_step : List ℕ → Place → Place → Stepping
 removed_step old p q =
     record {
       text = group_title (group_at (left_of old p)) (ascii ", removed:\n");
-      cursor = record { stage = 5; old = alone_side old p; new = idle q; paired = false; moved = 0; others = 0 };
+      cursor = record { stage = Section; old = alone_side old p; new = idle q; paired = false; moved = 0; others = 0 };
     }
 
 abbrev pub added_step : List ℕ → Place → Place → Stepping
 added_step new p q =
     record {
       text = group_title (group_at (left_of new q)) (ascii ", added:\n");
-      cursor = record { stage = 5; old = idle p; new = alone_side new q; paired = false; moved = 0; others = 0 };
+      cursor = record { stage = Section; old = idle p; new = alone_side new q; paired = false; moved = 0; others = 0 };
     }
 
 unfoldable pub both_step : List ℕ → List ℕ → Place → Place → Stepping
@@ -169,14 +171,12 @@ group_step alike old new p q =
     pick (ltb g h) (removed_step old p q)
     (pick (ltb h g) (added_step new p q) (pick (eqb g no_group) (last_step_lem alike old new p q) (both_step old new p q)))
 
--- the verdicts, a book's word and its line
-unfoldable pub verdict_text : ℕ → List ℕ → List ℕ → List ℕ
-verdict_text stage old new =
-    pick (eqb stage 0) (book_text false)
-    (pick (eqb stage 1) (machine_text (why_of old)) (pick (eqb stage 2) (book_text true) (machine_text (why_of new))))
+-- a book's name, and its verdict; then the next stage
+abbrev pub name_step : Bool → Stage → Stepping
+name_step new next = record { text = book_text new; cursor = at_places next start start }
 
-abbrev pub verdict_step : List ℕ → List ℕ → Cursor → Stepping
-verdict_step old new c = record { text = verdict_text c.stage old new; cursor = at_places (c.stage + 1) start start }
+abbrev pub verdict_step : List ℕ → Stage → Stepping
+verdict_step book next = record { text = machine_text (why_of book); cursor = at_places next start start }
 
 -- the end
 abbrev pub no_step : Stepping
@@ -184,12 +184,18 @@ no_step = record { text = []; cursor = ended }
 
 -- ---- any step
 
+abbrev pub step_in : Stage → Bool → List ℕ → List ℕ → Cursor → Stepping
+step_in OldName alike old new c = name_step false OldVerdict
+step_in OldVerdict alike old new c = verdict_step old NewName
+step_in NewName alike old new c = name_step true NewVerdict
+step_in NewVerdict alike old new c = verdict_step new Before
+step_in Before alike old new c = before_step old new c
+step_in Section alike old new c = section_step old new c
+step_in NextGroup alike old new c = group_step alike old new c.old.place c.new.place
+step_in End alike old new c = no_step
+
 unfoldable pub stage_step : Bool → List ℕ → List ℕ → Cursor → Stepping
-stage_step alike old new c =
-    pick (ltb c.stage 4) (verdict_step old new c)
-    (pick (eqb c.stage 4) (before_step old new c)
-    (pick (eqb c.stage 5) (section_step old new c)
-    (pick (eqb c.stage 6) (group_step alike old new c.old.place c.new.place) no_step)))
+stage_step alike old new c = step_in c.stage alike old new c
 
 -- the places of a cursor are those of the books
 abbrev pub side_in : List ℕ → Side → Bool

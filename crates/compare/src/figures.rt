@@ -137,10 +137,8 @@ pub(crate) fn say_figures(
     ensures { Said out.old out.new at (figures_text n alone s.now t.now) result }
 {
     let mut end = at;
-    let mut f = 0;
-    while f < n {
+    for f in 0..n {
         end = say_figure(out, end, alone, f, figure(s, f), figure(t, f));
-        f += 1;
     }
     end
 }

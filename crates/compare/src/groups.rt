@@ -7,18 +7,17 @@ ghost use Rattle.compare.specs.InnerSides.{Opens};
 ghost use Rattle.compare.specs.Records.{same};
 ghost use Rattle.compare.specs.Places.{left_of, onward, group_at, first_bytes};
 ghost use Rattle.compare.specs.Sections.{group_title, total_text, same_each, last_text};
-ghost use Rattle.compare.specs.Steps.{Steps, opened, alone_side, removed_step, added_step, both_step, last_step_lem, group_step, verdict_text};
-ghost use Rattle.compare.specs.Steps.{verdict_step};
+ghost use Rattle.compare.specs.Steps.{Steps, opened, alone_side, removed_step, added_step, both_step, last_step_lem, group_step};
+ghost use Rattle.compare.specs.Steps.{name_step, verdict_step};
 
 use crate::figures::say_sum;
 use crate::places::{
-    NO_GROUP, Place, after, close_lines, end_of_part, group_at, last_line, reach, start, step,
+    Place, after, close_lines, end_of_part, group_at, last_line, reach, start, step,
 };
-use crate::plans::less;
 use crate::records::same;
 use crate::remarks::say_book;
 use crate::sections::{is_silent, open, say_moved_in, say_next_pair};
-use crate::{Cursor, Side, Step, alike_on, at_places, at_stage};
+use crate::{Cursor, Side, Stage, Step, alike_on, at_places, at_stage};
 use base::{first_of, rest_of};
 use line_bytes::{FIGURES, LINES_MOST};
 use printing::{say, say_number};
@@ -39,7 +38,7 @@ fn alone_side(book: &[u8], p: Place) -> Side
 {
     let heading = reach(book, p, 1);
     let end = end_of_part(book, heading);
-    let left = less(end.number, p.number);
+    let left = end.number.saturating_sub(p.number);
     Side {
         place: p,
         left: left,
@@ -55,7 +54,7 @@ fn removed_step(old: &[u8], p: Place, q: Place, group: u64, out: &mut [u8]) -> S
 {
     let end = say_title(out, group, b", removed:\n");
     let side = alone_side(old, p);
-    let mut d = at_places(5, p, q);
+    let mut d = at_places(Stage::Section, p, q);
     d.old = side;
     Step {
         cursor: d,
@@ -69,7 +68,7 @@ fn added_step(new: &[u8], p: Place, q: Place, group: u64, out: &mut [u8]) -> Ste
 {
     let end = say_title(out, group, b", added:\n");
     let side = alone_side(new, q);
-    let mut d = at_places(5, p, q);
+    let mut d = at_places(Stage::Section, p, q);
     d.new = side;
     Step {
         cursor: d,
@@ -144,6 +143,7 @@ fn same_each(old: &[u8], new: &[u8]) -> bool
 {
     let mut p = start();
     let mut q = start();
+    // A cursor in either book and no count: each record has a length of its own.
     while p.at < old.len() {
         let a = p.account;
         let b = q.account;
@@ -186,7 +186,7 @@ fn last_step(old: &[u8], new: &[u8], alike: bool, p: Place, q: Place, out: &mut 
 {
     let total = say_totals(out, old, p, new, q);
     let end = say_last(out, total, old, new, alike);
-    let d = at_stage(7);
+    let d = at_stage(Stage::End);
     Step {
         cursor: d,
         written: end,
@@ -205,43 +205,40 @@ pub(crate) fn group_step(
     requires { Valid old.now p × Valid new.now q }
     ensures { Steps (group_step alike old.now new.now p q) out.old out.new result }
 {
-    let g = group_at(old, p);
-    let h = group_at(new, q);
-    if g < h {
-        return removed_step(old, p, q, g, out);
+    match (group_at(old, p), group_at(new, q)) {
+        (None, None) => last_step(old, new, alike, p, q, out),
+        (Some(g), None) => removed_step(old, p, q, g, out),
+        (None, Some(h)) => added_step(new, p, q, h, out),
+        (Some(g), Some(h)) => {
+            if g < h {
+                return removed_step(old, p, q, g, out);
+            }
+            if h < g {
+                return added_step(new, p, q, h, out);
+            }
+            both_step(old, new, p, q, g, out)
+        }
     }
-    if h < g {
-        return added_step(new, p, q, h, out);
-    }
-    if g == NO_GROUP {
-        return last_step(old, new, alike, p, q, out);
-    }
-    both_step(old, new, p, q, g, out)
 }
 
-// A book's word or its verdict, from the start of out.
-fn say_verdict(out: &mut [u8], stage: usize, old: &[u8], new: &[u8]) -> usize
-    ensures { Said out.old out.new 0 (verdict_text stage old.now new.now) result }
+// A book's name, before its verdict.
+pub(crate) fn name_step(new: bool, next: Stage, out: &mut [u8]) -> Step
+    ensures { Steps (name_step new next) out.old out.new result }
 {
-    if stage == 0 {
-        return say_book(out, false);
+    let n = say_book(out, new);
+    let d = at_stage(next);
+    Step {
+        cursor: d,
+        written: n,
     }
-    if stage == 1 {
-        return why::remarks::say_first(out, why::why(old));
-    }
-    if stage == 2 {
-        return say_book(out, true);
-    }
-    why::remarks::say_first(out, why::why(new))
 }
 
-// The next piece of the verdicts.
-pub(crate) fn verdict_step(old: &[u8], new: &[u8], c: Cursor, out: &mut [u8]) -> Step
-    requires { c.stage < 4 }
-    ensures { Steps (verdict_step old.now new.now c) out.old out.new result }
+// A book's verdict.
+pub(crate) fn verdict_step(book: &[u8], next: Stage, out: &mut [u8]) -> Step
+    ensures { Steps (verdict_step book.now next) out.old out.new result }
 {
-    let n = say_verdict(out, c.stage, old, new);
-    let d = at_stage(c.stage + 1);
+    let n = why::remarks::say_first(out, why::why(book));
+    let d = at_stage(next);
     Step {
         cursor: d,
         written: n,

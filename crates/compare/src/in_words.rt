@@ -84,13 +84,11 @@ fn say_fields(
 {
     let mut end = at;
     let mut any = false;
-    let mut i = 0;
-    while i < n {
+    for i in 0..n {
         let v = vs[i];
         let w = ws[i];
         end = say_next(out, end, any, alone, row, i, v, w);
         any = any | (alone | (v != w));
-        i += 1;
     }
     end
 }

@@ -19,7 +19,7 @@ ghost use Rattle.compare.specs.Places.{start as start_place};
 ghost use Rattle.compare.specs.Sections.{alike_on};
 ghost use Rattle.compare.specs.Steps.{Steps, idle as idle_side, at_places, beginning, no_step, stage_step, side_in, step_of};
 
-use crate::groups::{group_step, verdict_step};
+use crate::groups::{group_step, name_step, verdict_step};
 use crate::places::{Place, stands, start};
 use crate::records::same;
 use crate::sections::{before_step, section_step};
@@ -33,11 +33,25 @@ pub struct Side {
     pub grouped: bool,
 }
 
-// Where a comparison has come to: 0 to 3 are the verdicts, 4 what stands before the groups, 5 a section, 6 the next one, 7 the end. In a section
-// whether records go one by one, how many are only in another order, and how many are the same and give other lines.
+// The step that comes next: a book's name and its verdict, of the old one and then of the new one; what stands before the groups; the next piece of
+// a section; the next group; none.
+#[derive(Clone, Copy, PartialEq, Eq)]
+pub enum Stage {
+    OldName,
+    OldVerdict,
+    NewName,
+    NewVerdict,
+    Before,
+    Section,
+    NextGroup,
+    End,
+}
+
+// Where a comparison has come to. In a section whether records go one by one, how many are only in another order, and how many are the same and give
+// other lines.
 #[derive(Clone, Copy)]
 pub struct Cursor {
-    pub stage: usize,
+    pub stage: Stage,
     pub old: Side,
     pub new: Side,
     pub paired: bool,
@@ -65,7 +79,7 @@ pub(crate) fn idle(p: Place) -> Side
 }
 
 // At two places, in a stage.
-pub(crate) fn at_places(stage: usize, p: Place, q: Place) -> Cursor
+pub(crate) fn at_places(stage: Stage, p: Place, q: Place) -> Cursor
     ensures { result ≡ at_places stage p q }
 {
     let old = idle(p);
@@ -81,7 +95,7 @@ pub(crate) fn at_places(stage: usize, p: Place, q: Place) -> Cursor
 }
 
 // In a stage, where no place matters.
-pub(crate) fn at_stage(stage: usize) -> Cursor
+pub(crate) fn at_stage(stage: Stage) -> Cursor
     ensures { result ≡ at_places stage start_place start_place }
 {
     at_places(stage, start(), start())
@@ -91,7 +105,7 @@ pub(crate) fn at_stage(stage: usize) -> Cursor
 pub fn begin() -> Cursor
     ensures { result ≡ beginning }
 {
-    at_stage(0)
+    at_stage(Stage::OldName)
 }
 
 // Whether these bytes of both books are the same, where alike says it of all others.
@@ -114,7 +128,7 @@ fn side_in(book: &[u8], s: Side) -> bool
 fn end_step(out: &mut [u8]) -> Step
     ensures { Steps no_step out.old out.new result }
 {
-    let d = at_stage(7);
+    let d = at_stage(Stage::End);
     Step {
         cursor: d,
         written: 0,
@@ -126,21 +140,16 @@ fn stage_step(old: &[u8], new: &[u8], alike: bool, c: Cursor, out: &mut [u8]) ->
     requires { ValidSide old.now c.old × ValidSide new.now c.new }
     ensures { Steps (stage_step alike old.now new.now c) out.old out.new result }
 {
-    if c.stage < 4 {
-        return verdict_step(old, new, c, out);
+    match c.stage {
+        Stage::OldName => name_step(false, Stage::OldVerdict, out),
+        Stage::OldVerdict => verdict_step(old, Stage::NewName, out),
+        Stage::NewName => name_step(true, Stage::NewVerdict, out),
+        Stage::NewVerdict => verdict_step(new, Stage::Before, out),
+        Stage::Before => before_step(old, new, c, out),
+        Stage::Section => section_step(old, new, c, out),
+        Stage::NextGroup => group_step(old, new, alike, c.old.place, c.new.place, out),
+        Stage::End => end_step(out),
     }
-    if c.stage == 4 {
-        return before_step(old, new, c, out);
-    }
-    if c.stage == 5 {
-        return section_step(old, new, c, out);
-    }
-    if c.stage == 6 {
-        let s = c.old;
-        let t = c.new;
-        return group_step(old, new, alike, s.place, t.place, out);
-    }
-    end_step(out)
 }
 
 // The next piece of the text, from the start of out, and the cursor after it; alike is whether the bytes after these two are the same. A cursor that

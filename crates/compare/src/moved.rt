@@ -10,7 +10,7 @@ ghost use Rattle.compare.specs.Plans.{moved_of};
 
 use crate::partners::{LINKS, RECORDS, note_places, take_partner};
 use crate::places::{Place, reach};
-use crate::plans::less;
+use crate::plans::between;
 use crate::records::{detail, same};
 use crate::runs::one_if;
 use base::{first_of, rest_of};
@@ -21,9 +21,8 @@ pub(crate) fn times(r: &[u8], xs: &[u8], many: usize) -> usize
     ensures { result ≡ times_in r.now (take many (records_of xs.now)) }
 {
     let mut at = 0;
-    let mut i = 0;
     let mut n = 0;
-    while i < many {
+    for _i in 0..many {
         let rest = rest_of(xs, at);
         let size = ready(rest);
         if size == 0 {
@@ -31,7 +30,6 @@ pub(crate) fn times(r: &[u8], xs: &[u8], many: usize) -> usize
         }
         n = one_if(same(r, first_of(rest, size)), n);
         at += size;
-        i += 1;
     }
     n
 }
@@ -52,8 +50,7 @@ fn all_as_often(xs: &[u8], m: usize, ys: &[u8], n: usize) -> bool
     ensures { result ≡ each_as_often (take m (records_of xs.now)) (take n (records_of ys.now)) }
 {
     let mut at = 0;
-    let mut i = 0;
-    while i < m {
+    for _i in 0..m {
         let rest = rest_of(xs, at);
         let size = ready(rest);
         if size == 0 {
@@ -63,7 +60,6 @@ fn all_as_often(xs: &[u8], m: usize, ys: &[u8], n: usize) -> bool
             return false;
         }
         at += size;
-        i += 1;
     }
     true
 }
@@ -92,8 +88,7 @@ fn by_partners(
     ensures { result ≡ same_details (take m (records_of xs.now)) (take n (records_of ys.now)) }
 {
     let mut at = 0;
-    let mut i = 0;
-    while i < m {
+    for _i in 0..m {
         let rest = rest_of(xs, at);
         let size = ready(rest);
         if size == 0 {
@@ -107,7 +102,6 @@ fn by_partners(
             return counted(xs, m, ys, n);
         }
         at += size;
-        i += 1;
     }
     true
 }
@@ -126,13 +120,6 @@ fn same_details(xs: &[u8], m: usize, ys: &[u8], n: usize) -> bool
         return counted(xs, m, ys, n);
     }
     by_partners(xs, m, ys, n, &mut places, &mut links)
-}
-
-// How many records of n stand between the first and the last ones.
-fn between(n: usize, front: usize, back: usize) -> usize
-    ensures { result ≡ n - front - back }
-{
-    less(less(n, front), back)
 }
 
 // Whether the records between the first and the last ones, of the n after a place and of the m after another, are the same details in another order.

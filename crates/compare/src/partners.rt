@@ -1,7 +1,7 @@
 // A partner for each record of a run: the same record of another run, and for no other one. A table has the places where the records of that run
 // begin. Links lead from record to record to those that may be the same. A link decides nothing: what it leads to is looked at.
-ghost use Rattle.std.specs.Prelude.{◌≡◌, ◌≤◌, ◌<◌, length};
-ghost use Rattle.compare.specs.InnerMoved.{stands_at, Noted, Takes};
+ghost use Rattle.std.specs.Prelude.{◌≡◌, ◌≤◌, ◌<◌, length, IfSome};
+ghost use Rattle.compare.specs.InnerMoved.{stands_at, LeadsTo, Noted, Takes};
 
 use crate::moved::times;
 use crate::records::detail;
@@ -11,7 +11,7 @@ use book::front::ready;
 // A book has no more records.
 pub(crate) const RECORDS: usize = 4096;
 
-// A link for each record, and after them as many first links.
+// A link for each record, and after them as many first links. A link above all records is none: an Option in each would double the fixed memory.
 pub(crate) const LINKS: usize = 8192;
 
 // The first link for a record, by its bytes. 2531 spreads records that differ by little.
@@ -19,10 +19,8 @@ fn first_link(r: &[u8]) -> usize
     ensures { result < 8192 }
 {
     let mut k = 0;
-    let mut i = 0;
-    while i < r.len() {
-        k = (k * 2531 + r[i] as usize) % RECORDS;
-        i += 1;
+    for byte in r {
+        k = (k * 2531 + *byte as usize) % RECORDS;
     }
     RECORDS + k
 }
@@ -37,25 +35,23 @@ fn stands_at(r: &[u8], ys: &[u8], at: usize) -> bool
     times(r, rest_of(ys, at), 1) == 1
 }
 
-// The link that leads to a record of ys that is the same as r, or to none. It is a hint, and a hint decides nothing.
-fn link_to(r: &[u8], ys: &[u8], places: &[usize], links: &[u16]) -> usize
-    requires { (length places.now ≡ 4096) × (length links.now ≡ 8192) }
-    ensures { result < 8192 }
+// The link that leads to one of the places where a record of ys is the same as r. None: no link was found, and perhaps there is one.
+fn link_to(r: &[u8], ys: &[u8], places: &[usize], links: &[u16]) -> Option<usize>
+    requires { (length places.now ≤ 4096) × (length links.now ≡ 8192) }
+    ensures { IfSome result (λ link. LeadsTo r.now ys.now places.now links.now link) }
 {
     let mut link = first_link(r);
-    let mut left = RECORDS;
-    while left > 0 {
+    for _ in 0..places.len() {
         let j = links[link] as usize;
-        if RECORDS <= j {
-            return link;
+        if places.len() <= j {
+            return None;
         }
         if stands_at(r, ys, places[j]) {
-            return link;
+            return Some(link);
         }
         link = j;
-        left -= 1;
     }
-    link
+    None
 }
 
 // Takes a partner for r out of the first many places, and its link goes on past it. False where r is no detail, or no partner was found.
@@ -72,18 +68,15 @@ pub(crate) fn take_partner(
     if !detail(r) {
         return false;
     }
-    let link = link_to(r, ys, places, links);
-    let j = links[link] as usize;
-    if many <= j {
-        return false;
+    match link_to(r, ys, &places[..many], links) {
+        Some(link) => {
+            let j = links[link] as usize;
+            places[j] = ys.len();
+            links[link] = links[j];
+            true
+        }
+        None => false,
     }
-    let at = places[j];
-    if !stands_at(r, ys, at) {
-        return false;
-    }
-    places[j] = ys.len();
-    links[link] = links[j];
-    true
 }
 
 // A first link leads to record i, whose bytes are r, and from there on to where it led before: a hint.
@@ -101,8 +94,7 @@ pub(crate) fn note_places(ys: &[u8], n: usize, places: &mut [usize], links: &mut
     ensures { Noted ys.now n places.new result }
 {
     let mut at = 0;
-    let mut i = 0;
-    while i < n {
+    for i in 0..n {
         let rest = rest_of(ys, at);
         let size = ready(rest);
         if size == 0 {
@@ -111,7 +103,6 @@ pub(crate) fn note_places(ys: &[u8], n: usize, places: &mut [usize], links: &mut
         add_link(links, first_of(rest, size), i);
         places[i] = at;
         at += size;
-        i += 1;
     }
-    i
+    n
 }

@@ -1,10 +1,10 @@
 // A book read record by record, and where its parts end.
-ghost use Rattle.std.specs.Prelude.{◌≡◌, ◌||◌, ◌+◌, ◌≤◌, ◌<◌, eqb, length, take, drop};
+ghost use Rattle.std.specs.Prelude.{◌≡◌, ◌||◌, ◌+◌, ◌≤◌, ◌<◌, eqb, length, take, drop, IfSome, IfNone};
 ghost use Rattle.line_bytes.specs.Lines.{lines_most};
 ghost use Rattle.account.specs.Range.{AccountInRange};
 ghost use Rattle.account.specs.Judge.{kind_byte};
 ghost use Rattle.compare.specs.Inner.{Valid, Turned, Written};
-ghost use Rattle.compare.specs.Places.{start as start_place, left_of, one_on_lem, onward, stands_in, part_of, part_end_lem, group_at};
+ghost use Rattle.compare.specs.Places.{start as start_place, left_of, one_on_lem, onward, stands_in, part_of, part_end_lem, no_group, group_at};
 ghost use Rattle.compare.specs.Places.{subtotal_of, close_lines, last_line_lem};
 
 use crate::records::{kind_of, values};
@@ -13,9 +13,6 @@ use base::{first_of, rest_of};
 use codec::kinds::{CLOSE, HEADING};
 use line_bytes::{LINE_SIZE, LINES_MOST, TOTAL_SIZE};
 use walk::next_record;
-
-// Above every group's number.
-pub(crate) const NO_GROUP: u64 = 65536;
 
 // Where a walk through a book has come to: the account, the bytes read, and how many records they are.
 #[derive(Clone, Copy)]
@@ -103,15 +100,13 @@ pub(crate) fn reach(book: &[u8], p: Place, k: usize) -> Place
     ensures { (result ≡ onward k book.now p) × Valid book.now result }
 {
     let mut q = p;
-    let mut i = 0;
-    while i < k {
+    for _i in 0..k {
         let a = q.account;
         let t = step(a, rest_of(book, q.at));
         if t.n == 0 {
             return q;
         }
         q = after(book, q, t);
-        i += 1;
     }
     q
 }
@@ -132,6 +127,7 @@ pub(crate) fn end_of_part(book: &[u8], p: Place) -> Place
     ensures number_value { result.number ≡ p.number + length (part_of (left_of book.now p)) }
 {
     let mut q = p;
+    // A cursor and no count: each record has a length of its own.
     while q.at < book.len() {
         let a = q.account;
         let rest = rest_of(book, q.at);
@@ -147,23 +143,24 @@ pub(crate) fn end_of_part(book: &[u8], p: Place) -> Place
     q
 }
 
-// The number of the group whose heading comes next.
-pub(crate) fn group_at(book: &[u8], p: Place) -> u64
+// The number of the group whose heading comes next, if one does.
+pub(crate) fn group_at(book: &[u8], p: Place) -> Option<u64>
     requires { Valid book.now p }
-    ensures { result ≡ group_at (left_of book.now p) }
+    ensures some { IfSome result (λ g. (g ≡ group_at (left_of book.now p)) × (g < no_group)) }
+    ensures none { IfNone result (group_at (left_of book.now p) ≡ no_group) }
 {
     let a = p.account;
     let rest = rest_of(book, p.at);
     let t = step(a, rest);
     if t.n == 0 {
-        return NO_GROUP;
+        return None;
     }
     let r = first_of(rest, t.n);
     if kind_of(r) != HEADING {
-        return NO_GROUP;
+        return None;
     }
     let v = values(r);
-    v[0]
+    Some(v[0])
 }
 
 // The subtotal at the end of a group, at the start of a buffer.

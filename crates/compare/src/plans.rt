@@ -23,13 +23,11 @@ pub struct Plan {
     pub others: usize,
 }
 
-pub(crate) fn less(n: usize, m: usize) -> usize
-    ensures { result ≡ n - m }
+// How many records of n stand between the first and the last ones.
+pub(crate) fn between(n: usize, front: usize, back: usize) -> usize
+    ensures { result ≡ n - front - back }
 {
-    if n < m {
-        return 0;
-    }
-    n - m
+    n.saturating_sub(front).saturating_sub(back)
 }
 
 // The last so many of the n records after a place and of the m after another, in pairs.
@@ -86,7 +84,7 @@ pub(crate) fn old_told(p: Plan) -> usize
     if p.moved {
         return 0;
     }
-    less(less(p.old, p.front), p.back)
+    between(p.old, p.front, p.back)
 }
 
 pub(crate) fn new_told(p: Plan) -> usize
@@ -95,7 +93,7 @@ pub(crate) fn new_told(p: Plan) -> usize
     if p.moved {
         return 0;
     }
-    less(less(p.new, p.front), p.back)
+    between(p.new, p.front, p.back)
 }
 
 pub(crate) fn moved_many(p: Plan) -> usize
@@ -104,5 +102,5 @@ pub(crate) fn moved_many(p: Plan) -> usize
     if !p.moved {
         return 0;
     }
-    less(less(p.old, p.front), p.back)
+    between(p.old, p.front, p.back)
 }

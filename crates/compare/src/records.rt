@@ -11,17 +11,7 @@ use codec::numbers::be8;
 pub(crate) fn same(xs: &[u8], ys: &[u8]) -> bool
     ensures { result ≡ same xs.now ys.now }
 {
-    if xs.len() != ys.len() {
-        return false;
-    }
-    let mut i = 0;
-    while i < xs.len() {
-        if xs[i] != ys[i] {
-            return false;
-        }
-        i += 1;
-    }
-    true
+    xs == ys
 }
 
 pub(crate) fn kind_of(r: &[u8]) -> u64

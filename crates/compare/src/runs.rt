@@ -86,23 +86,12 @@ pub(crate) fn one_if(b: bool, n: usize) -> usize
     if b { n + 1 } else { n }
 }
 
-// One more where it is so, else none.
-fn anew(b: bool, n: usize) -> usize
-    requires { n < 18446744073709551615 }
-    ensures { result ≡ pick b (n + 1) 0 }
+// As many where it is so, else none.
+fn kept(b: bool, n: usize) -> usize
+    ensures value { result ≡ pick b n 0 }
+    ensures most { result ≤ n }
 {
-    if b { n + 1 } else { 0 }
-}
-
-// None where the records differ, one more where they are the same and their lines are not.
-fn lasting(records: bool, lines: bool, n: usize) -> usize
-    requires { n < 18446744073709551615 }
-    ensures { result ≡ pick records (pick lines n (n + 1)) 0 }
-{
-    if !records {
-        return 0;
-    }
-    if lines { n } else { n + 1 }
+    if b { n } else { 0 }
 }
 
 // One pair more.
@@ -112,9 +101,9 @@ fn one_more(u: Counts, records: bool, lines: bool) -> Counts
 {
     let lead = records & (u.leading == u.pairs);
     let leading = one_if(lead, u.leading);
-    let trailing = anew(records, u.trailing);
+    let trailing = one_if(records, kept(records, u.trailing));
     let first = one_if(lead & !lines, u.first);
-    let last = lasting(records, lines, u.last);
+    let last = one_if(records & !lines, kept(records, u.last));
     let others = one_if(records & !lines, u.others);
     Counts {
         pairs: u.pairs + 1,
@@ -143,8 +132,7 @@ pub(crate) fn runs(old: &[u8], p: Place, new: &[u8], q: Place, many: usize) -> C
         last: 0,
         others: 0,
     };
-    let mut k = 0;
-    while k < many {
+    for _k in 0..many {
         let l = look(a, rest_of(old, at), b, rest_of(new, to));
         if l.old == 0 {
             return u;
@@ -154,7 +142,6 @@ pub(crate) fn runs(old: &[u8], p: Place, new: &[u8], q: Place, many: usize) -> C
         b = l.b;
         at += l.old;
         to += l.new;
-        k += 1;
     }
     u
 }

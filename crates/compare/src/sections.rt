@@ -16,9 +16,9 @@ ghost use Rattle.compare.specs.Steps.{section_step};
 use crate::figures::say_sum;
 use crate::in_words::{say_alone, say_pair};
 use crate::places::{Place, end_of_part, reach, subtotal, turn};
-use crate::plans::{less, moved_many, new_told, old_told, planned};
+use crate::plans::{moved_many, new_told, old_told, planned};
 use crate::records::same;
-use crate::{Cursor, Side, Step, at_places};
+use crate::{Cursor, Side, Stage, Step, at_places};
 use base::{first_of, rest_of};
 use line_bytes::{FIGURES, LINES_MOST};
 use printing::{say, say_number};
@@ -50,7 +50,7 @@ pub(crate) fn open(grouped: bool, old: &[u8], p: Place, new: &[u8], q: Place) ->
     let second = side(new, q, both.front, new_told(both), t, grouped);
     let moved = moved_many(both);
     Cursor {
-        stage: 5,
+        stage: Stage::Section,
         old: first,
         new: second,
         paired: both.paired,
@@ -235,7 +235,7 @@ fn one_told(book: &[u8], s: Side) -> Side
     let mut next = s;
     let place = reach(book, s.place, 1);
     next.place = place;
-    next.left = less(s.left, 1);
+    next.left = s.left.saturating_sub(1);
     next
 }
 
@@ -248,7 +248,7 @@ fn old_step(old: &[u8], c: Cursor, out: &mut [u8]) -> Step
     let n = say_next_alone(out, false, old, side.place);
     let next = one_told(old, side);
     let mut d = c;
-    d.stage = 5;
+    d.stage = Stage::Section;
     d.old = next;
     Step {
         cursor: d,
@@ -264,7 +264,7 @@ fn new_step(new: &[u8], c: Cursor, out: &mut [u8]) -> Step
     let n = say_next_alone(out, true, new, side.place);
     let next = one_told(new, side);
     let mut d = c;
-    d.stage = 5;
+    d.stage = Stage::Section;
     d.new = next;
     Step {
         cursor: d,
@@ -282,7 +282,7 @@ fn pair_step(old: &[u8], new: &[u8], c: Cursor, out: &mut [u8]) -> Step
     let next = one_told(old, first);
     let other = one_told(new, second);
     let mut d = c;
-    d.stage = 5;
+    d.stage = Stage::Section;
     d.old = next;
     d.new = other;
     Step {
@@ -333,7 +333,7 @@ fn tail_step(old: &[u8], new: &[u8], c: Cursor, out: &mut [u8]) -> Step
     let second = c.new;
     let others = say_others(out, c.others);
     let end = say_subtotals(out, others, old, first, new, second);
-    let d = at_places(6, first.end, second.end);
+    let d = at_places(Stage::NextGroup, first.end, second.end);
     Step {
         cursor: d,
         written: end,

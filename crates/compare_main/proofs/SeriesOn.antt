@@ -5,7 +5,7 @@ use mathlib.Core.Path.{◌≡◌, refl, ap, ◌∙◌}
 use mathlib.Core.List.{List}
 use mathlib.Core.Bool.{Bool}
 use Rattle.compare.specs.declared.Cursor.{Cursor}
-use Rattle.compare.specs.Steps.{Stepping, step_of, cursor_after}
+use Rattle.compare.specs.Steps.{step_of, cursor_after}
 use Rattle.compare_main.specs.Series.{Goes}
 
 pub goes_none : (alike : Bool) (old new : List ℕ) (c : Cursor) → Goes alike old new c c

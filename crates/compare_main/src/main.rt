@@ -6,7 +6,7 @@ ghost use Rattle.std.specs.Prelude.{◌≡◌, length};
 ghost use Rattle.compare.specs.Steps.{beginning, step_of};
 ghost use Rattle.compare_main.specs.Series.{Goes};
 
-use compare::{Cursor, remarks};
+use compare::{Cursor, Stage, remarks};
 use names::hints::look;
 use program::{System, send};
 use std::fs::File;
@@ -18,9 +18,6 @@ const NEW_FILE: &str = "/dev/fd/5";
 
 // How many bytes of a book are compared record by record.
 const MOST: usize = 114716;
-
-// The stage of a cursor that has come to its end.
-const END: usize = 7;
 
 // Where the comparison has come to, and whether no write failed.
 #[derive(Clone, Copy)]
@@ -73,12 +70,10 @@ fn after<R: System, I: Read>(rt: &R, from: &mut I, old: &[u8], new: &[u8]) -> La
         good: true,
         more: old.len() == MOST,
     };
-    let mut turns = u64::MAX;
-    while turns > 0 {
+    for _ in 0..u64::MAX {
         if !(a.alike & a.good & a.more) {
             return a;
         }
-        turns -= 1;
         a = read_on(rt, from, a.alike, &mut left, &mut right);
     }
     Later {
@@ -102,18 +97,16 @@ fn turn(rt: &impl System, mut w: Work, old: &[u8], new: &[u8], alike: bool, text
 }
 
 // A series of steps, each from the cursor that the one before left, until the comparison is at its end or a write fails. A proved loop has to end:
-// the turns count down from a number that no two books use up.
+// so many turns no two books use up.
 fn run(rt: &impl System, from: Work, old: &[u8], new: &[u8], alike: bool, text: &mut [u8]) -> Work
     ensures { Goes alike old.now new.now from.cursor result.cursor }
 {
     let mut w = from;
-    let mut turns = u64::MAX;
-    while turns > 0 {
+    for _ in 0..u64::MAX {
         let c = w.cursor;
-        if (c.stage == END) | !w.written {
+        if (c.stage == Stage::End) | !w.written {
             return w;
         }
-        turns -= 1;
         w = turn(rt, w, old, new, alike, text);
     }
     w
@@ -129,7 +122,7 @@ fn tell(rt: &impl System, old: &[u8], new: &[u8], alike: bool) -> bool {
     };
     let last = run(rt, first, old, new, alike, &mut text);
     let c = last.cursor;
-    last.written & (c.stage == END)
+    last.written & (c.stage == Stage::End)
 }
 
 // A hint where one of the two is no book but a typed text, a sheet or nothing.

@@ -31,7 +31,8 @@ use Rattle.compare.specs.Sections.{groups_from}
 use Rattle.compare.specs.Sections.{groups_text, last_text, book_text, before_text, beginnings_text}
 use Rattle.compare.proofs.SameBytes.{same_true}
 use Rattle.compared.specs.Reported.{Prints, subtotal_at, total_of, subtotals_text, SumFate, both, single, SumsReported}
-use Rattle.compared.proofs.Whole.{after-drop, AllLow, all-low, group-low, some-there, shorter}
+use Rattle.compare.proofs.GroupNumbers.{AllLow, all-low}
+use Rattle.compared.proofs.Whole.{after-drop, group-low, some-there, shorter}
 use Rattle.compared.proofs.Fates.{prints-all, prints-left, prints-right, prints-in}
 use Rattle.compared.proofs.Unsaid.{CloseLast, close-last, Rest, rest-after, rest-group, group-rest, some-heads, sums-here}
 

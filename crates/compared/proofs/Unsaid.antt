@@ -36,7 +36,8 @@ use Rattle.compare.proofs.SameBytes.{same_true}
 use Rattle.compare.proofs.Onward.{take-of-take}
 use Rattle.compare.proofs.Sides.{part-few, part-take}
 use Rattle.compared.specs.Reported.{entry_at, Prints, Fate, kept, alone, close, Reported}
-use Rattle.compared.proofs.Whole.{after-drop, AllLow, all-low, low-drop, group-low, some-there, shorter, row-two}
+use Rattle.compare.proofs.GroupNumbers.{AllLow, all-low, row-two}
+use Rattle.compared.proofs.Whole.{after-drop, low-drop, group-low, some-there, shorter}
 use Rattle.compared.proofs.Fates.{prints-all, prints-left, prints-right, prints-in, reported-both, reported-here}
 use Rattle.compared.proofs.SectionFates.{section-reported, pair-old, pair-new, alones-at}
 

@@ -6,29 +6,25 @@ use mathlib.Core.List.{List, [], ◌∷◌, ◌++◌, append_assoc, append-nil}
 use mathlib.Core.Bool.{Bool, true, false, ◌&&◌, not}
 use native.Mathlib.Omega.{arith}
 use borrow.Author.Tests.{eqb-true, eqb-false, ltb-true, ltb-false, le-leb}
-use lib.ListN.{length, get_or, take, drop, length-drop}
+use lib.ListN.{length, take, drop, length-drop}
 use lib.Seq.{take-nil}
 use lib.Dec.{eqb, ltb, leb}
 use Rattle.base.specs.Choice.{pick}
-use Rattle.base.proofs.Tests.{by-test, of-choice, and_r, and-false, both_true, not-true}
-use Rattle.codec.specs.Table.{table, fields, row_of}
-use Rattle.codec.specs.Codec.{in_twelve, first_bad}
-use Rattle.codec.proofs.Within.{first-within}
-use Rattle.account.specs.declared.Account.{Account}
-use Rattle.account.specs.Judge.{version_of, kind_byte, record_row, values_of, judge}
-use Rattle.account.proofs.Refusals.{passed, judged-passes}
+use Rattle.base.proofs.Tests.{by-test, and_r, both_true}
 use Rattle.account.proofs.Clauses.{in-range-test}
 use Rattle.account.specs.Range.{account_in_range}
 use Rattle.printing.specs.Ascii.{ascii}
 use Rattle.why.specs.Why.{why_of}
 use Rattle.why.specs.Remarks.{machine_text}
 use Rattle.book.specs.WholeRecords.{records_of}
-use Rattle.walk.specs.Walk.{Entry, entry_of, accepts, entries_from, entries_of}
+use Rattle.walk.specs.Walk.{Entry, entries_of}
 use Rattle.compare.specs.declared.Cursor.{Cursor}
 use Rattle.compare.specs.declared.Side.{Side}
+use Rattle.compare.specs.declared.Stage.{Stage}
+use Rattle.compare.specs.declared.Stage.TheVariants.{OldName, OldVerdict, NewName, NewVerdict, Before, Section, NextGroup, End}
 use Rattle.compare.specs.declared.places.Place.{Place}
 use Rattle.compare.specs.declared.plans.Plan.{Plan}
-use Rattle.compare.specs.Records.{same, values_in}
+use Rattle.compare.specs.Records.{same}
 use Rattle.compare.specs.Places.{start, left_of, onward, stands_in, heads, ends, part_of, after_part, no_group, group_at, group_size, after_group}
 use Rattle.compare.specs.Places.{first_bytes}
 use Rattle.compare.specs.Places.{part_end_lem, subtotal_of}
@@ -41,10 +37,11 @@ use Rattle.compare.specs.Steps.{Stepping, idle, at_places, beginning, ended, ope
 use Rattle.compare.specs.Steps.{before_step}
 use Rattle.compare.specs.Steps.{old_step, new_step, pair_step, tail_step, section_step, removed_step, added_step, both_step, last_step_lem}
 use Rattle.compare.specs.Steps.{group_step}
-use Rattle.compare.specs.Steps.{verdict_text, no_step, stage_step, side_in, step_of, text_in, cursor_after}
+use Rattle.compare.specs.Steps.{no_step, step_in, stage_step, side_in, step_of, text_in, cursor_after}
 use Rattle.compare.specs.Inner.{Valid}
 use Rattle.compare.specs.InnerSides.{ValidSide}
 use Rattle.compare.proofs.Walks.{valid-start}
+use Rattle.compare.proofs.GroupNumbers.{AllLow, all-low}
 use Rattle.compare.proofs.Onward.{valid-onward, left-onward, number-onward}
 use Rattle.compare.proofs.Sides.{part-few, plan-front}
 
@@ -74,45 +71,6 @@ module _ (xs : List ℕ) (p : Place) (v : Valid xs p) where
       omega (arith, n, f)
 
 -- ---- group numbers, and how many sections there are
-
--- a heading's number is below the one that stands for no group
-abbrev pub Low : Entry → Type 0
-Low e = heads e ≡ true → get_or (values_in e.bytes) 0 0 < no_group
-
-unfoldable pub AllLow : List Entry → Type 0
-AllLow [] = Unit {0}
-AllLow (e ∷ es) = Low e × AllLow es
-
-first-value : (vs : List ℕ) → get_or (in_twelve vs) 0 0 ≡ get_or vs 0 0
-first-value [] = refl
-first-value (v ∷ vs) = refl
-
-pub row-two : (version kind : ℕ) → kind ≡ 2 → row_of version kind ≡ 2
-row-two version kind e = rw (e, and-false (eqb version 2)) refl
-
-low_value : (row : ℕ) (vs : List ℕ) → row ≡ 2 → first_bad (fields row) vs 0 ≡ 0 → get_or vs 0 0 ≤ 65535
-unfolding table
-low_value row vs e h = (first-within _ _ vs 0 (rw e at h)).0.below
-
-low : (a : Account) (r : List ℕ) → ((judge a r).account.stage ≡ 3 → ⊥) → Low (entry_of a r)
-low a r still h =
-    let t = judged-passes a r still in
-    let p = passed a (record_row r) (values_of r) t.values in
-    let v = low_value (record_row r) (values_of r) (row-two (version_of r) (kind_byte r) (eqb-true _ _ h)) p.ranges in
-    let f = first-value (values_of r) in
-    omega (arith, v, f)
-
-pub all-low : (a : Account) (rs : List (List ℕ)) → AllLow (entries_from a rs)
-unfolding AllLow entries_from
-all-low a [] = tt
-all-low a (r ∷ rs) =
-    of-choice AllLow (accepts a r)
-    (λ t. (
-      low a r (eqb-false _ _ (not-true _ (and_r (ltb a.stage 2) (not (eqb (judge a r).account.stage 3)) t))),
-      all-low
-          (judge a r).account rs,
-    ))
-    (λ t. tt)
 
 pub low-drop : (n : ℕ) (es : List Entry) → AllLow es → AllLow (drop n es)
 unfolding AllLow
@@ -208,16 +166,16 @@ before_rest alike old new =
 
 -- text is what is left to print at the cursor c
 pub data Left (alike : Bool) (old new : List ℕ) (c : Cursor) (text : List ℕ) : Type 0 where
-  first : c ≡ at_places 0 start start → text ≡ beginnings_text alike old new → Left alike old new c text
-  second : c ≡ at_places 1 start start
+  first : c ≡ at_places OldName start start → text ≡ beginnings_text alike old new → Left alike old new c text
+  second : c ≡ at_places OldVerdict start start
       → text ≡ machine_text (why_of old) ++ (book_text true ++ (machine_text (why_of new) ++ before_rest alike old new))
       → Left alike old new c text
-  third : c ≡ at_places 2 start start → text ≡ book_text true ++ (machine_text (why_of new) ++ before_rest alike old new) → Left alike old new c text
-  fourth : c ≡ at_places 3 start start → text ≡ machine_text (why_of new) ++ before_rest alike old new → Left alike old new c text
-  before : c ≡ at_places 4 start start → text ≡ before_rest alike old new → Left alike old new c text
-  section : c.stage ≡ 5 → ValidSide old c.old → ValidSide new c.new → (c.paired ≡ true → c.old.left ≡ c.new.left)
+  third : c ≡ at_places NewName start start → text ≡ book_text true ++ (machine_text (why_of new) ++ before_rest alike old new) → Left alike old new c text
+  fourth : c ≡ at_places NewVerdict start start → text ≡ machine_text (why_of new) ++ before_rest alike old new → Left alike old new c text
+  before : c ≡ at_places Before start start → text ≡ before_rest alike old new → Left alike old new c text
+  section : c.stage ≡ Section → ValidSide old c.old → ValidSide new c.new → (c.paired ≡ true → c.old.left ≡ c.new.left)
       → text ≡ section_rest alike old new c → Left alike old new c text
-  group : (p q : Place) → Valid old p → Valid new q → c ≡ at_places 6 p q → text ≡ groups_rest alike old new p q → Left alike old new c text
+  group : (p q : Place) → Valid old p → Valid new q → c ≡ at_places NextGroup p q → text ≡ groups_rest alike old new p q → Left alike old new c text
   over : c ≡ ended → text ≡ [] → Left alike old new c text
 
 -- one step: its text, and what is left after it
@@ -248,7 +206,7 @@ step-valid alike old new c v w =
 idle-valid : (xs : List ℕ) (p : Place) → Valid xs p → ValidSide xs (idle p)
 idle-valid xs p v = record { place = v; end = v }
 
-step-places : (alike : Bool) (old new : List ℕ) (stage : ℕ) (p q : Place) → Valid old p → Valid new q
+step-places : (alike : Bool) (old new : List ℕ) (stage : Stage) (p q : Place) → Valid old p → Valid new q
     → step_of alike old new (at_places stage p q) ≡ stage_step alike old new (at_places stage p q)
 step-places alike old new stage p q v w = step-valid alike old new (at_places stage p q) (idle-valid old p v) (idle-valid new q w)
 
@@ -332,15 +290,11 @@ one-valid xs s v = record { place = valid-onward 1 xs s.place v.place; end = v.e
 split : (a b c d e : List ℕ) → a ≡ b ++ c → a ++ (d ++ e) ≡ b ++ (c ++ (d ++ e))
 split a b c d e h = ap (λ (l : List ℕ). l ++ (d ++ e)) h ∙ append_assoc b c (d ++ e)
 
-at_five : (alike : Bool) (old new : List ℕ) (c : Cursor) → c.stage ≡ 5 → stage_step alike old new c ≡ section_step old new c
+in_section : (alike : Bool) (old new : List ℕ) (c : Cursor) → c.stage ≡ Section → stage_step alike old new c ≡ section_step old new c
 unfolding stage_step
-at_five alike old new c e =
-    let a : ltb c.stage 4 ≡ false = rw e refl in
-    let b : eqb c.stage 4 ≡ false = rw e refl in
-    let d : eqb c.stage 5 ≡ true = rw e refl in
-    rw (a, b, d) refl
+in_section alike old new c e = ap (λ (s : Stage). step_in s alike old new c) e
 
-module _ (alike : Bool) (old new : List ℕ) (c : Cursor) (text : List ℕ) (stage : c.stage ≡ 5) (v : ValidSide old c.old)
+module _ (alike : Bool) (old new : List ℕ) (c : Cursor) (text : List ℕ) (stage : c.stage ≡ Section) (v : ValidSide old c.old)
     (w : ValidSide new c.new)
     (even : c.paired ≡ true → c.old.left ≡ c.new.left) (is : text ≡ section_rest alike old new c) where
   abbrev tail_here : List ℕ
@@ -422,7 +376,7 @@ module _ (alike : Bool) (old new : List ℕ) (c : Cursor) (text : List ℕ) (sta
 
   pub section-left : Onwards alike old new (step_of alike old new c) text
   section-left =
-      subst (λ (x : Stepping). Onwards alike old new x text) (sym (step-valid alike old new c v w ∙ at_five alike old new c stage)) section-on
+      subst (λ (x : Stepping). Onwards alike old new x text) (sym (step-valid alike old new c v w ∙ in_section alike old new c stage)) section-on
 
 -- ---- a section that is opened
 
@@ -467,7 +421,7 @@ module _ (alike grouped : Bool) (old new : List ℕ) (p q : Place) (v : Valid ol
   unfolding opened
   opened-even h = plan-even (part_of (left_of old p)) (part_of (left_of new q)) h
 
-  opened-stage : d.stage ≡ 5
+  opened-stage : d.stage ≡ Section
   unfolding opened
   opened-stage = refl
 
@@ -711,23 +665,23 @@ module _ (alike : Bool) (old new : List ℕ) (p q : Place) (v : Valid old p) (w 
       (λ t. by-test (ltb (group_at ns) (group_at es)) (λ u. rw (t, u) (added-on t u))
       (λ u. by-test (eqb (group_at es) no_group) (λ x. rw (t, u, x) (last_on t u x)) (λ x. rw (t, u, x) (both-on t u x))))
 
-  at-six : stage_step alike old new (at_places 6 p q) ≡ group_step alike old new p q
+  at-six : stage_step alike old new (at_places NextGroup p q) ≡ group_step alike old new p q
   unfolding stage_step
   at-six = refl
 
-  pub group-step : Onwards alike old new (step_of alike old new (at_places 6 p q)) text
-  group-step = subst (λ (x : Stepping). Onwards alike old new x text) (sym (step-places alike old new 6 p q v w ∙ at-six)) group-on
+  pub group-step : Onwards alike old new (step_of alike old new (at_places NextGroup p q)) text
+  group-step = subst (λ (x : Stepping). Onwards alike old new x text) (sym (step-places alike old new NextGroup p q v w ∙ at-six)) group-on
 
 -- ---- the other stages
 
 module _ (alike : Bool) (old new : List ℕ) where
-  at_stage : (stage : ℕ) → step_of alike old new (at_places stage start start) ≡ stage_step alike old new (at_places stage start start)
+  at_stage : (stage : Stage) → step_of alike old new (at_places stage start start) ≡ stage_step alike old new (at_places stage start start)
   at_stage stage = step-places alike old new stage start start (valid-start old) (valid-start new)
 
-  first_on : (text : List ℕ) → text ≡ beginnings_text alike old new → Onwards alike old new (step_of alike old new (at_places 0 start start)) text
-  unfolding stage_step verdict_text beginnings_text
+  first_on : (text : List ℕ) → text ≡ beginnings_text alike old new → Onwards alike old new (step_of alike old new (at_places OldName start start)) text
+  unfolding stage_step beginnings_text
   first_on text e =
-      subst (λ (x : Stepping). Onwards alike old new x text) (sym (at_stage 0))
+      subst (λ (x : Stepping). Onwards alike old new x text) (sym (at_stage OldName))
       (record {
         rest = machine_text (why_of old) ++ (book_text true ++
             (machine_text (why_of new) ++ before_rest alike old new));
@@ -736,27 +690,27 @@ module _ (alike : Bool) (old new : List ℕ) where
       })
 
   second-on : (text : List ℕ) → text ≡ machine_text (why_of old) ++ (book_text true ++ (machine_text (why_of new) ++ before_rest alike old new))
-      → Onwards alike old new (step_of alike old new (at_places 1 start start)) text
-  unfolding stage_step verdict_text
+      → Onwards alike old new (step_of alike old new (at_places OldVerdict start start)) text
+  unfolding stage_step
   second-on text e =
-      subst (λ (x : Stepping). Onwards alike old new x text) (sym (at_stage 1))
+      subst (λ (x : Stepping). Onwards alike old new x text) (sym (at_stage OldVerdict))
       (record { rest = book_text true ++ (machine_text (why_of new) ++ before_rest alike old new); is = e; left = third refl refl })
 
   third-on : (text : List ℕ) → text ≡ book_text true ++ (machine_text (why_of new) ++ before_rest alike old new)
-      → Onwards alike old new (step_of alike old new (at_places 2 start start)) text
-  unfolding stage_step verdict_text
+      → Onwards alike old new (step_of alike old new (at_places NewName start start)) text
+  unfolding stage_step
   third-on text e =
-      subst (λ (x : Stepping). Onwards alike old new x text) (sym (at_stage 2))
+      subst (λ (x : Stepping). Onwards alike old new x text) (sym (at_stage NewName))
       (record { rest = machine_text (why_of new) ++ before_rest alike old new; is = e; left = fourth refl refl })
 
   fourth-on : (text : List ℕ) → text ≡ machine_text (why_of new) ++ before_rest alike old new
-      → Onwards alike old new (step_of alike old new (at_places 3 start start)) text
-  unfolding stage_step verdict_text
+      → Onwards alike old new (step_of alike old new (at_places NewVerdict start start)) text
+  unfolding stage_step
   fourth-on text e =
-      subst (λ (x : Stepping). Onwards alike old new x text) (sym (at_stage 3))
+      subst (λ (x : Stepping). Onwards alike old new x text) (sym (at_stage NewVerdict))
       (record { rest = before_rest alike old new; is = e; left = before refl refl })
 
-  before_on : (text : List ℕ) → text ≡ before_rest alike old new → Onwards alike old new (step_of alike old new (at_places 4 start start)) text
+  before_on : (text : List ℕ) → text ≡ before_rest alike old new → Onwards alike old new (step_of alike old new (at_places Before start start)) text
   unfolding stage_step before_step before_text
   before_on text e =
       let es = entries_of old in
@@ -765,7 +719,7 @@ module _ (alike : Bool) (old new : List ℕ) where
       let b : (part_end_lem new start).number ≡ length (part_of ns) = let m = end-number new start (valid-start new) in omega (arith, m) in
       let l = low_end es (places-low old start (valid-start old)) in
       let m = low_end ns (places-low new start (valid-start new)) in
-      subst (λ (x : Stepping). Onwards alike old new x text) (sym (at_stage 4))
+      subst (λ (x : Stepping). Onwards alike old new x text) (sym (at_stage Before))
       (opened-on alike false old new start start (valid-start old) (valid-start new) true (ascii "before the groups:\n") [] _ text
       (follows alike old new (length (after_part es) + length (after_part ns)) (length (part_of es)) (length (part_of ns)) (after_part es)
       (after_part ns)
@@ -778,7 +732,7 @@ module _ (alike : Bool) (old new : List ℕ) where
   over-on : (text : List ℕ) → text ≡ [] → Onwards alike old new (step_of alike old new ended) text
   unfolding stage_step
   over-on text e =
-      subst (λ (x : Stepping). Onwards alike old new x text) (sym (at_stage 7)) (record { rest = []; is = e; left = over refl refl })
+      subst (λ (x : Stepping). Onwards alike old new x text) (sym (at_stage End)) (record { rest = []; is = e; left = over refl refl })
 
   step-on : (c : Cursor) (text : List ℕ) → Left alike old new c text → Onwards alike old new (step_of alike old new c) text
   step-on c text (first e t) = subst (λ (x : Cursor). Onwards alike old new (step_of alike old new x) text) (sym e) (first_on text t)
@@ -792,17 +746,17 @@ module _ (alike : Bool) (old new : List ℕ) where
   step-on c text (over e t) = subst (λ (x : Cursor). Onwards alike old new (step_of alike old new x) text) (sym e) (over-on text t)
 
   -- at the end nothing is left
-  none_left : (c : Cursor) (text : List ℕ) → Left alike old new c text → 7 ≤ c.stage → [] ≡ text
-  none_left c text (first e t) h = let s = ap (λ (x : Cursor). x.stage) e in absurd (omega (arith, s, h))
-  none_left c text (second e t) h = let s = ap (λ (x : Cursor). x.stage) e in absurd (omega (arith, s, h))
-  none_left c text (third e t) h = let s = ap (λ (x : Cursor). x.stage) e in absurd (omega (arith, s, h))
-  none_left c text (fourth e t) h = let s = ap (λ (x : Cursor). x.stage) e in absurd (omega (arith, s, h))
-  none_left c text (before e t) h = let s = ap (λ (x : Cursor). x.stage) e in absurd (omega (arith, s, h))
-  none_left c text (section s v w k t) h = absurd (omega (arith, s, h))
-  none_left c text (group p q v w e t) h = let s = ap (λ (x : Cursor). x.stage) e in absurd (omega (arith, s, h))
+  none_left : (c : Cursor) (text : List ℕ) → Left alike old new c text → c.stage ≡ End → [] ≡ text
+  none_left c text (first e t) h = let s = ap (λ (x : Cursor). x.stage) e in cc (s, h)
+  none_left c text (second e t) h = let s = ap (λ (x : Cursor). x.stage) e in cc (s, h)
+  none_left c text (third e t) h = let s = ap (λ (x : Cursor). x.stage) e in cc (s, h)
+  none_left c text (fourth e t) h = let s = ap (λ (x : Cursor). x.stage) e in cc (s, h)
+  none_left c text (before e t) h = let s = ap (λ (x : Cursor). x.stage) e in cc (s, h)
+  none_left c text (section s v w k t) h = cc (s, h)
+  none_left c text (group p q v w e t) h = let s = ap (λ (x : Cursor). x.stage) e in cc (s, h)
   none_left c text (over e t) h = sym t
 
-  steps-left : (k : ℕ) (c : Cursor) (text : List ℕ) → Left alike old new c text → 7 ≤ (cursor_after k alike old new c).stage
+  steps-left : (k : ℕ) (c : Cursor) (text : List ℕ) → Left alike old new c text → (cursor_after k alike old new c).stage ≡ End
       → text_in k alike old new c ≡ text
   unfolding text_in cursor_after
   steps-left zero c text l h = none_left c text l h
@@ -811,6 +765,6 @@ module _ (alike : Bool) (old new : List ℕ) where
       ap (λ (x : List ℕ). (step_of alike old new c).text ++ x) (steps-left k (step_of alike old new c).cursor o.rest o.left h) ∙ sym o.is
 
   -- Where the steps have come to their end, however many they were, their pieces, one after the other, are what is said of the two books.
-  pub compared-in-parts : (k : ℕ) → 7 ≤ (cursor_after k alike old new beginning).stage
+  pub compared-in-parts : (k : ℕ) → (cursor_after k alike old new beginning).stage ≡ End
       → text_in k alike old new beginning ≡ beginnings_text alike old new
   compared-in-parts k h = steps-left k beginning (beginnings_text alike old new) (first refl refl) h

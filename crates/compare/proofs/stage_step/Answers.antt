@@ -1,66 +1,38 @@
 -- Assumes nothing.
-use borrow.Author.Rules.{rules}
-use borrow.Author.Tests.{eq-eqb, ne_eqb, lt-ltb, le-ltb}
-use Rattle.compare.specs.Steps.{stage_step}
+use Rattle.compare.specs.Steps.{stage_step, before_step, section_step}
 use Rattle.compare.proofs.stage_step.Goals as goal
 
-pub verdict_step-requires : goal.verdict_step-requires
+pub returns-in-OldName : goal.returns-in-OldName
 unfolding stage_step
-verdict_step-requires c = c.if-c-lt4.true
+returns-in-OldName c = rw c.in-OldName.is c.name_step.ensures
 
-pub shape_of-out-then-c-lt4 : goal.shape_of-out-then-c-lt4
+pub returns-in-OldVerdict : goal.returns-in-OldVerdict
 unfolding stage_step
-shape_of-out-then-c-lt4 c = search rules
+returns-in-OldVerdict c = rw c.in-OldVerdict.is c.verdict_step.ensures
 
-pub returns-then-c-lt4 : goal.returns-then-c-lt4
+pub returns-in-NewName : goal.returns-in-NewName
 unfolding stage_step
-returns-then-c-lt4 c = rw (lt-ltb _ _ c.if-c-lt4.true) c.verdict_step.ensures
+returns-in-NewName c = rw c.in-NewName.is c.name_step-in-NewName.ensures
 
-pub before_step-requires : goal.before_step-requires
+pub returns-in-NewVerdict : goal.returns-in-NewVerdict
 unfolding stage_step
-before_step-requires c = c.requires
+returns-in-NewVerdict c = rw c.in-NewVerdict.is c.verdict_step-in-NewVerdict.ensures
 
-pub shape_of-out-then-c-eq4 : goal.shape_of-out-then-c-eq4
-unfolding stage_step
-shape_of-out-then-c-eq4 c = search rules
+pub returns-in-Before : goal.returns-in-Before
+unfolding stage_step before_step
+returns-in-Before c = rw c.in-Before.is c.before_step.ensures
 
-pub returns-then-c-eq4 : goal.returns-then-c-eq4
-unfolding stage_step
-returns-then-c-eq4 c = rw (le-ltb _ _ c.if-c-lt4.false, eq-eqb _ _ c.if-c-eq4.true) c.before_step.ensures
-
-pub section_step-requires : goal.section_step-requires
-unfolding stage_step
-section_step-requires c = c.requires
-
-pub shape_of-out-then-c-eq5 : goal.shape_of-out-then-c-eq5
-unfolding stage_step
-shape_of-out-then-c-eq5 c = search rules
-
-pub returns-then-c-eq5 : goal.returns-then-c-eq5
-unfolding stage_step
-returns-then-c-eq5 c = rw (le-ltb _ _ c.if-c-lt4.false, ne_eqb _ _ c.if-c-eq4.false, eq-eqb _ _ c.if-c-eq5.true) c.section_step.ensures
+pub returns-in-Section : goal.returns-in-Section
+unfolding stage_step section_step
+returns-in-Section c = rw c.in-Section.is c.section_step.ensures
 
 pub group_step-requires : goal.group_step-requires
-unfolding stage_step
 group_step-requires c = (c.requires.0.place, c.requires.1.place)
 
-pub shape_of-out-then-c-eq6 : goal.shape_of-out-then-c-eq6
+pub returns-in-NextGroup : goal.returns-in-NextGroup
 unfolding stage_step
-shape_of-out-then-c-eq6 c = search rules
+returns-in-NextGroup c = rw c.in-NextGroup.is c.group_step.ensures
 
-pub returns-then-c-eq6 : goal.returns-then-c-eq6
+pub returns-in-End : goal.returns-in-End
 unfolding stage_step
-returns-then-c-eq6 c = rw (le-ltb _ _ c.if-c-lt4.false, ne_eqb _ _ c.if-c-eq4.false, ne_eqb _ _ c.if-c-eq5.false, eq-eqb _ _ c.if-c-eq6.true)
-    c.group_step.ensures
-
-pub end_step-requires : goal.end_step-requires
-unfolding stage_step
-end_step-requires c = search rules
-
-pub shape_of-out : goal.shape_of-out
-unfolding stage_step
-shape_of-out c = search rules
-
-pub returns : goal.returns
-unfolding stage_step
-returns c = rw (le-ltb _ _ c.if-c-lt4.false, ne_eqb _ _ c.if-c-eq4.false, ne_eqb _ _ c.if-c-eq5.false, ne_eqb _ _ c.if-c-eq6.false) c.end_step.ensures
+returns-in-End c = rw c.in-End.is c.end_step.ensures

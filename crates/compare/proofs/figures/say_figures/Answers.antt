@@ -18,12 +18,6 @@ figure-requires-in-loop-f c = omega (arith, c.loop-f-test.true, c.requires.1)
 pub say_figure-end-requires : goal.say_figure-end-requires
 say_figure-end-requires c = (c.loop-f.invariant.inside, omega (arith, c.loop-f-test.true, c.requires.1))
 
-pub overflow_add-f : goal.overflow_add-f
-overflow_add-f c = omega (arith, c.loop-f-test.true, c.requires.1)
-
-pub loop-f-smaller : goal.loop-f-smaller
-loop-f-smaller c = omega (arith, c.loop-f-test.true)
-
 pub loop-f-preserved : goal.loop-f-preserved
 loop-f-preserved c = let s = c.say_figure-end.ensures in
     let l = c.loop-f in

@@ -15,6 +15,3 @@ pub record SoFar (out₀ : List ℕ) (at n : ℕ) (alone : Bool) (s t out : List
 
 abbrev pub invariant-loop-f : goal.invariant-loop-f
 invariant-loop-f l = SoFar l.initial.out l.at l.n l.alone l.s l.t l.out l.end l.f
-
-abbrev pub decreases-loop-f : goal.decreases-loop-f
-decreases-loop-f l = l.n - l.f

@@ -12,9 +12,6 @@ loop-i-init c = record { same = refl; inside = c.requires.0; rest = λ zs q p. r
 pub say_next-end-requires : goal.say_next-end-requires
 say_next-end-requires c = c.loop-i.invariant.inside
 
-pub loop-i-smaller : goal.loop-i-smaller
-loop-i-smaller c = omega (arith, c.loop-i-test.true)
-
 pub loop-i-preserved : goal.loop-i-preserved
 loop-i-preserved c = let s = c.say_next-end.ensures in
     let l = c.loop-i in

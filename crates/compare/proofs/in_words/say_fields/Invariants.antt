@@ -16,6 +16,3 @@ pub record SoFar (out₀ : List ℕ) (at n : ℕ) (alone : Bool) (row : ℕ) (vs
 
 abbrev pub invariant-loop-i : goal.invariant-loop-i
 invariant-loop-i l = SoFar l.initial.out l.at l.n l.alone l.row l.vs l.ws l.out l.end l.any l.i
-
-abbrev pub decreases-loop-i : goal.decreases-loop-i
-decreases-loop-i l = l.n - l.i

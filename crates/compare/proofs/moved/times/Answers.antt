@@ -27,13 +27,6 @@ overflow_add-at c = let y = c in
     let n = next-inside _ _ l.loop-i.invariant.inside _ r.rest_of-rest.ensures _ y.ready-size.ensures c.if-size-eq0.false in
     omega (arith, n, l.well_formed)
 
-pub overflow_add-i : goal.overflow_add-i
-overflow_add-i c = let l = c in
-    omega (arith, l.loop-i-test.true, l.ranges)
-
-pub loop-i-smaller : goal.loop-i-smaller
-loop-i-smaller c = omega (arith, c.loop-i-test.true)
-
 pub loop-i-preserved : goal.loop-i-preserved
 loop-i-preserved c = let y = c in
     let r = y in

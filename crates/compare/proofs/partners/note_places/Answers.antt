@@ -1,4 +1,6 @@
+use mathlib.Core.Path.{subst}
 use native.Mathlib.Omega.{arith}
+use Rattle.compare.specs.InnerMoved.{Noted}
 use Rattle.compare.proofs.MovedRecords.{size-inside, next-inside}
 use Rattle.compare.proofs.PartnerRecords.{noting-none, noting-far, noting-ends, noting-on}
 use Rattle.compare.proofs.partners.note_places.Goals as goal
@@ -45,12 +47,6 @@ overflow_add-at c = let i = c in
     let n = next-inside _ _ l.loop-i.invariant.inside _ r.rest_of-rest.ensures _ y.ready-size.ensures i.if-size-eq0.false in
     omega (arith, n, l.well_formed)
 
-pub overflow_add-i : goal.overflow_add-i
-overflow_add-i c = let l = c in omega (arith, l.loop-i.invariant.few, l.loop-i-test.true)
-
-pub loop-i-smaller : goal.loop-i-smaller
-loop-i-smaller c = omega (arith, c.loop-i-test.true)
-
 pub loop-i-preserved : goal.loop-i-preserved
 loop-i-preserved c = let i = c in
     let y = i in
@@ -67,4 +63,5 @@ pub shape_of-links : goal.shape_of-links
 shape_of-links c = let l = c in omega (arith, l.loop-i.invariant.linked, l.requires)
 
 pub returns : goal.returns
-returns c = noting-far _ _ _ _ _ _ c.loop-i.invariant c.loop-i-test.false
+returns c = let v = c.loop-i.invariant in
+    subst (Noted _ _ _) (omega (arith, v.most, c.loop-i-test.false)) (noting-far _ _ _ _ _ _ v c.loop-i-test.false)

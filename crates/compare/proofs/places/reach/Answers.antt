@@ -18,12 +18,6 @@ returns-then-t-eq0 c = reaching-out _ _ _ _ _ c.loop-i.invariant _ (rw c.rest_of
 pub after-q-requires : goal.after-q-requires
 after-q-requires c = (c.loop-i.invariant.valid, (rw c.rest_of.ensures at c.step-t.ensures), omega (arith, c.if-t-eq0.false))
 
-pub overflow_add-i : goal.overflow_add-i
-overflow_add-i c = omega (arith, c.loop-i-test.true, c.ranges)
-
-pub loop-i-smaller : goal.loop-i-smaller
-loop-i-smaller c = omega (arith, c.loop-i-test.true)
-
 pub loop-i-preserved : goal.loop-i-preserved
 loop-i-preserved c = let a = c.after-q.ensures in
     reaching-on _ _ _ _ _ c.loop-i.invariant _ (rw c.rest_of.ensures at c.step-t.ensures) _ c.loop-i-test.true a.0 a.1

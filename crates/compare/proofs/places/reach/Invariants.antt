@@ -1,10 +1,6 @@
 -- Assumes nothing.
-use Prim.Native.Nat.{◌-◌}
 use Rattle.compare.proofs.Walks.{Reaching}
 use Rattle.compare.proofs.places.reach.Given as goal
 
 abbrev pub invariant-loop-i : goal.invariant-loop-i
-invariant-loop-i l = Reaching l.book l.initial.q l.k l.q l.i
-
-abbrev pub decreases-loop-i : goal.decreases-loop-i
-decreases-loop-i l = l.k - l.i
+invariant-loop-i l = Reaching l.book l.initial.q l.k l.q l._i

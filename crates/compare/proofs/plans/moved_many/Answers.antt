@@ -7,4 +7,4 @@ pub returns-then-not-p : goal.returns-then-not-p
 returns-then-not-p c = rw (not-true _ c.if-not-p.true) refl
 
 pub returns : goal.returns
-returns c = rw (not-false _ c.if-not-p.false) (rw c.less.ensures at c.less-2.ensures)
+returns c = rw (not-false _ c.if-not-p.false) c.between.ensures

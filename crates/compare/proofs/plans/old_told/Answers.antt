@@ -6,4 +6,4 @@ pub returns-then-p : goal.returns-then-p
 returns-then-p c = rw c.if-p.true refl
 
 pub returns : goal.returns
-returns c = rw c.if-p.false (rw c.less.ensures at c.less-2.ensures)
+returns c = rw c.if-p.false c.between.ensures

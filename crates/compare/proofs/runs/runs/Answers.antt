@@ -40,12 +40,6 @@ pub overflow_add-to : goal.overflow_add-to
 overflow_add-to c = omega
     (arith, pair-inside' _ _ _ _ _ _ _ _ _ _ _ c.loop-k.invariant _ _ c.rest_of.ensures c.rest_of-in-loop-k.ensures _ c.look-l.ensures, c.well_formed)
 
-pub overflow_add-k : goal.overflow_add-k
-overflow_add-k c = omega (arith, c.loop-k-test.true, c.ranges)
-
-pub loop-k-smaller : goal.loop-k-smaller
-loop-k-smaller c = omega (arith, c.loop-k-test.true)
-
 pub loop-k-preserved : goal.loop-k-preserved
 loop-k-preserved c = pairing-on _ _ _ _ _ _ _ _ _ _ _ c.loop-k.invariant _ _ c.rest_of.ensures c.rest_of-in-loop-k.ensures _ c.look-l.ensures _
     c.loop-k-test.true c.one_more-u.ensures c.if-l-eq0.false

@@ -1,5 +1,4 @@
 -- Assumes nothing.
-use Prim.Native.Nat.{◌-◌}
 use lib.ListN.{drop}
 use Rattle.compare.proofs.Pairs.{Pairing}
 use Rattle.walk.specs.Walk.{entries_after}
@@ -7,7 +6,4 @@ use Rattle.compare.proofs.runs.runs.Given as goal
 
 abbrev pub invariant-loop-k : goal.invariant-loop-k
 invariant-loop-k l = Pairing l.old l.new (entries_after l.initial.a (drop l.initial.at l.old)) (entries_after l.initial.b (drop l.initial.to l.new))
-    l.many l.a l.b l.at l.to l.u l.k
-
-abbrev pub decreases-loop-k : goal.decreases-loop-k
-decreases-loop-k l = l.many - l.k
+    l.many l.a l.b l.at l.to l.u l._k
