@@ -137,7 +137,7 @@ fn refused(v: Verdict) -> bool
     ensures { result ≡ is_refused v }
 {
     match v {
-        Verdict::Accepted(end, more) => false,
+        Verdict::Accepted { end, more } => false,
         Verdict::Missing(n) => false,
         Verdict::NextLength => false,
         Verdict::Refused(w) => true,

@@ -1,7 +1,7 @@
 // What programs share: text out, the status byte, and input read in parts or as a whole.
 #![tactic(auto)]
 
-ghost use Rattle.std.specs.Prelude.{◌≡◌, ◌-◌, ◌≤◌};
+ghost use Rattle.std.specs.Prelude.{◌≡◌, ◌-◌, ◌≤◌, IfSome};
 ghost use Rattle.io.specs.Counts.{IsPrefixLen};
 ghost use Rattle.program.specs.Beginning.{unread};
 
@@ -28,7 +28,7 @@ impl System for HostRuntime {
     }
 }
 
-// How many bytes were read, and whether no read failed.
+// How many bytes were read, and whether no read failed: what came before a failure counts.
 #[derive(Clone, Copy)]
 pub struct Input {
     pub len: usize,
@@ -66,11 +66,12 @@ impl Reading {
         ensures prefix_len { IsPrefixLen result.len buf.new }
         ensures turns_bound { result.turns ≤ self.turns - 1 }
     {
-        let input = read_once(rt, from, name, buf);
+        let read = read_once(rt, from, name, buf);
+        let len = read.unwrap_or(0);
         Reading {
-            len: input.len,
-            good: self.good & input.good,
-            turns: turns_left(self.turns, input.len),
+            len,
+            good: self.good & read.is_some(),
+            turns: turns_left(self.turns, len),
         }
     }
 }
@@ -79,16 +80,7 @@ impl Reading {
 fn turns_left(turns: u64, len: usize) -> u64
     ensures { result ≤ turns - 1 }
 {
-    if turns == 0 {
-        return 0;
-    }
-    if len == 0 { 0 } else { turns - 1 }
-}
-
-fn at_most(a: usize, b: usize) -> usize
-    ensures { (result ≤ a) × (result ≤ b) }
-{
-    if a < b { a } else { b }
+    if len == 0 { 0 } else { turns.saturating_sub(1) }
 }
 
 // A text for standard output. Where it can't go out, that is reported, unless nobody reads it any more: `head` has seen what it wanted.
@@ -152,18 +144,15 @@ pub fn tell_status(rt: &impl System, status: u8) {
     }
 }
 
-// One read. A read that fails gives no byte.
-fn read_once<R: System, I: Read>(rt: &R, from: &mut I, name: &[u8], buf: &mut [u8]) -> Input
-    ensures { IsPrefixLen result.len buf.new }
+// One read: how many bytes it gave. None where it fails, which is reported.
+fn read_once<R: System, I: Read>(rt: &R, from: &mut I, name: &[u8], buf: &mut [u8]) -> Option<usize>
+    ensures { IfSome result (λ len. IsPrefixLen len buf.new) }
 {
     match from.read(buf) {
-        Ok(len) => Input { len, good: true },
+        Ok(len) => Some(len),
         Err(why) => {
             fail(rt, name, &why);
-            Input {
-                len: 0,
-                good: false,
-            }
+            None
         }
     }
 }
@@ -174,13 +163,14 @@ pub fn read_all<R: System, I: Read>(rt: &R, from: &mut I, name: &[u8], buf: &mut
     ensures { IsPrefixLen result.len buf.new }
 {
     let mut n = 0;
+    // A cursor and no count: each read gives as many bytes as it likes.
     while n < buf.len() {
-        let part = read_once(rt, from, name, &mut buf[n..]);
-        let more = at_most(part.len, buf.len() - n);
+        let read = read_once(rt, from, name, &mut buf[n..]);
+        let more = read.unwrap_or(0).min(buf.len() - n);
         if more == 0 {
             return Input {
                 len: n,
-                good: part.good,
+                good: read.is_some(),
             };
         }
         n += more;

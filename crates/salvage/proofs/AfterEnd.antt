@@ -67,7 +67,7 @@ going-none xs = record { within = omega arith; opened = open-start; numbered = o
 pub going_on : (xs : List ℕ) (at : ℕ) {s : Reading} {t : Turn} → Turned s (drop at xs) t → 0 < t.n → Going xs s at → Going xs t.next (at + t.n)
 going_on xs at {s} {t} v h g =
     let more : bytes_read s (drop at xs) ≡ t.n + bytes_read t.next (drop (at + t.n) xs) =
-    rw (drop-drop t.n at xs) at (bytes-goes s t.next (drop at xs) t.n t.code s.number v.inside (v.first_of h) (v.goes h)) in
+    rw (drop-drop t.n at xs) at (bytes-goes s t.next (drop at xs) t.n (dropped_by s (record_at (drop at xs))) s.number v.inside (v.first_of h) (v.goes h)) in
     let far : reached_in s (drop at xs) ≡ reached_in t.next (drop t.n (drop at xs)) =
     rw (v.next-is h, v.size h) (goes-reached s (drop at xs) (v.on h)) in
     record {

@@ -4,6 +4,7 @@ use Prim.Native.Nat.{ℕ, ◌*◌, ◌/◌, ◌≤◌}
 use mathlib.Core.Path.{◌≡◌, refl, sym, ap, ◌∙◌}
 use mathlib.Core.List.{List, [], ◌∷◌}
 use mathlib.Core.Bool.{Bool, true, false, ◌||◌, not}
+use Rattle.std.specs.Prelude.{Result, Ok}
 use native.Mathlib.Nat.{zero-add}
 use native.Mathlib.Omega.{arith}
 use borrow.Author.Tests.{ltb-true, ltb-false, lt-ltb, le-ltb, eq-eqb, ne_eqb}
@@ -15,8 +16,9 @@ use Rattle.codec.specs.Codec.{be}
 use Rattle.account.specs.Judge.{kind_byte}
 use Rattle.salvage.specs.declared.Reading.{Reading}
 use Rattle.salvage.specs.declared.passes.Sizes.{Sizes}
-use Rattle.salvage.specs.declared.Salvaged.{Salvaged}
-use Rattle.salvage.specs.declared.Salvaged.TheVariants.{Saved}
+use Rattle.salvage.specs.declared.Lengths.{Lengths}
+use Rattle.salvage.specs.declared.Unsaved.{Unsaved}
+use Rattle.salvage.specs.declared.Unsaved.TheVariants.{NoFarm, NoRoom}
 use Rattle.salvage.specs.Salvage.{Entry, Found, start, found, book_of, entry_bytes, list_of, farm_among, refusing, saving, Salvage, answering}
 use Rattle.salvage.specs.Salvage.{salvage_of, saved_in, answer_for, book_after, list_after, found_in}
 use Rattle.salvage.specs.Inner.{Open, Measured}
@@ -71,12 +73,12 @@ module _ (xs : List ℕ) (book_room_lem list_room_lem : ℕ) (m : Sizes) (d : Me
       ≡ ltb book_room_lem m.book || ltb (list_room_lem / 9) m.dropped
   room-is = rw (list-long, d.book, d.dropped, ninth)
 
-  pub salvage-19 : m.kept ≡ 0 → salvage_of xs book_room_lem list_room_lem ≡ refusing 19
+  pub salvage-19 : m.kept ≡ 0 → salvage_of xs book_room_lem list_room_lem ≡ refusing NoFarm
   unfolding salvage_of answering
   salvage-19 z = rw (farm-is, eq-eqb _ _ z)
 
   module _ (n : m.kept ≡ 0 → ⊥) where
-    pub salvage-16 : ltb book_room_lem m.book || ltb (list_room_lem / 9) m.dropped ≡ true → salvage_of xs book_room_lem list_room_lem ≡ refusing 16
+    pub salvage-16 : ltb book_room_lem m.book || ltb (list_room_lem / 9) m.dropped ≡ true → salvage_of xs book_room_lem list_room_lem ≡ refusing NoRoom
     unfolding salvage_of answering
     salvage-16 e = rw (farm-is, ne_eqb _ _ n, room-is, e)
 
@@ -106,7 +108,7 @@ gets xs book list s e =
 
 -- the lengths are those that were found
 pub lengths-are : (f : Found) (m : Sizes) → Measured f m
-    → ◌≡◌ {A = Salvaged} (Saved (record { book = m.book; list = m.dropped * 9 })) (saving (book_of f.kept) (list_of f.dropped)).answer
+    → ◌≡◌ {A = Result Lengths Unsaved} (Ok (record { book = m.book; list = m.dropped * 9 })) (saving (book_of f.kept) (list_of f.dropped)).answer
 lengths-are f m d = rw (d.book, list-is f m d)
 
 -- stores leave a buffer as long as it was

@@ -21,7 +21,7 @@ use Rattle.book.specs.WholeRecords.{records_by, records_of}
 use Rattle.book.proofs.WholeRecords.{records-whole}
 use Rattle.salvage.specs.declared.Reading.{Reading}
 use Rattle.salvage.specs.declared.Lengths.{Lengths}
-use Rattle.salvage.specs.declared.Salvaged.TheVariants.{Saved}
+use Rattle.std.specs.Prelude.{Ok}
 use Rattle.salvage.specs.Salvage.{would_get, one_of, drops, dropped_by, reading_after, start, Found, found, book_of, salvage_of, found_in}
 use Rattle.salvage.specs.Promised.{read_by, unlisted, Under, under_headings, details}
 use Rattle.salvage.proofs.KindRows.{row-eight}
@@ -140,7 +140,7 @@ clean-details rs w =
 
 -- The details of the clean book, each with the last heading before it there, are the details of the damaged book that were read and not listed, each
 -- with the last record of kind byte 2 before it there, byte for byte and in order.
-pub heading-kept : (damaged : List ℕ) (book_room_lem list_room_lem : ℕ) (l : Lengths) → (salvage_of damaged book_room_lem list_room_lem).answer ≡ Saved l
+pub heading-kept : (damaged : List ℕ) (book_room_lem list_room_lem : ℕ) (l : Lengths) → (salvage_of damaged book_room_lem list_room_lem).answer ≡ Ok l
     → details (under_headings [] (records_of (salvage_of damaged book_room_lem list_room_lem).book))
     ≡ details (unlisted (found_in start damaged).dropped 0 (under_headings [] (take (read_by (found_in start damaged)) (records_of damaged))))
 unfolding salvage_of

@@ -4,7 +4,9 @@ use Prim.Native.Nat.{ℕ, suc, ◌+◌, ◌-◌, ◌*◌, ◌^◌, ◌≤◌, �
 use native.Mathlib.Omega.{arith}
 use native.Mathlib.Nat.{zero-add, add-zero}
 use mathlib.Core.Path.{◌≡◌, refl, sym, ap, ◌∙◌}
-use mathlib.Core.Bool.{true, false, ◌&&◌}
+use mathlib.Core.Bool.{Bool, true, false, ◌&&◌}
+use Rattle.std.specs.Prelude.{Option, Some, None}
+use Rattle.base.specs.Choice.{pick}
 use mathlib.Core.List.{List, [], ◌++◌, append-nil, append_assoc}
 use lib.Dec.{ltb, eqb}
 use lib.ListN.{length, get_or, drop, length-append, length-drop}
@@ -24,10 +26,10 @@ use Rattle.book.proofs.Fronts.{meaning}
 use Rattle.salvage.specs.declared.Reading.{Reading}
 use Rattle.salvage.specs.declared.turns.Turn.{Turn}
 use Rattle.salvage.specs.declared.lines.Reported.{Reported}
-use Rattle.salvage.specs.Salvage.{reading_after}
+use Rattle.salvage.specs.Salvage.{dropped_by, reading_after}
 use Rattle.salvage.specs.HowFar.{goes_on_lem}
 use Rattle.salvage.specs.Lines.{dropped_text, heading_text, words_for, line_for, line_of, Telling, stopped, behind, tell_by, Tells, line_most}
-use Rattle.salvage.specs.Inner.{Open, Turned}
+use Rattle.salvage.specs.Inner.{Open, as_told, line_told, Turned}
 use Rattle.salvage.proofs.Fates.{dropped-most}
 use Rattle.salvage.proofs.OneTurn.{goes-whole}
 use Rattle.salvage.proofs.Sentences.{sentence-short}
@@ -56,6 +58,15 @@ line-short s kind code h k c =
     let e2 = length-append (decimal code) (ascii ": " ++ (words ++ ascii "\n")) in
     let e3 = length-append words (ascii "\n") in
     omega (arith, n, d, w, e1, e2, e3))
+
+-- the line, by what the code has of the number
+line-is : (s : Reading) (kind : ℕ) (o : Option ℕ) (c : ℕ) → o ≡ as_told c → line_told s kind o ≡ line_for s kind c
+unfolding line_for
+line-is s kind o c e = rw e (go (eqb c 0))
+  where
+    go : (b : Bool) → line_told s kind (pick b None (Some c)) ≡ pick b [] (dropped_text s.number c (words_for s kind c))
+    go true = refl
+    go false = refl
 
 -- a text that fits is there whole
 whole-put : {xs ys : List ℕ} {at : ℕ} (s : List ℕ) {r : ℕ} → at + length s ≤ length xs → Said xs ys at s r → Put xs ys at s r
@@ -101,15 +112,16 @@ module _ {s : Reading} {xs : List ℕ} {t : Turn} (v : Turned s xs t) where
     four = let m = meaning xs whole (goes-whole s xs (v.on h)).0 in omega (arith, m.1, m.3)
 
     pub tells-one : Open s → s.number < 2 ^ 64 → (out out' : List ℕ) (at last : ℕ) → at + line_most ≤ length out
-        → Said out out' at (line_for s (get_or xs 3 0) t.code) last
+        → Said out out' at (line_told s (get_or xs 3 0) t.code) last
         → Tells (tell_by 1 s xs) out out' at (record { reading = t.next; taken = t.n; written = last; more = true }) × (last ≤ at + line_most)
-    tells-one o n out out' at last room p =
-        let text = line_for s (get_or xs 3 0) t.code in
-        let short = line-short s (get_or xs 3 0) t.code n (omega (arith, n, o.headed))
-        (omega (arith, v.code_is h, dropped-most s (record_at xs))) in
+    tells-one o n out out' at last room p' =
+        let code = dropped_by s (record_at xs) in
+        let text = line_for s (get_or xs 3 0) code in
+        let short = line-short s (get_or xs 3 0) code n (omega (arith, n, o.headed)) (omega (arith, dropped-most s (record_at xs))) in
+        let p = rw (line-is s (get_or xs 3 0) t.code code (v.code_is h)) at p' in
         let put = whole-put text (omega (arith, short, room)) p in
         let k = kind_at xs (goes-whole s xs (v.on h)).0 in
-        let line : text ≡ line_of s (record_at xs) = rw (k, v.code_is h) in (
+        let line : text ≡ line_of s (record_at xs) = rw k in (
           rw (one-is s xs (v.on h)) (record { reading = v.next-is h; taken = v.size h; more = refl; put = rw line at put }),
           omega (arith, put.next, short),
         )

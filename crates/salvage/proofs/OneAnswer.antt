@@ -5,6 +5,8 @@ use Rattle.printing.proofs.Examples.{one-put}
 use Rattle.base.specs.Answers.{AsksNothing, TwoAnswers, OneAnswer, OneAnswerWith}
 use Rattle.salvage.proofs.salvage.Kinds as tool
 use Rattle.salvage.proofs.salvage.Reads as met
+use Rattle.salvage.proofs.Unsaved.number.Kinds as refusal
+use Rattle.salvage.proofs.Unsaved.number.Reads as refusal-contract
 use Rattle.salvage.proofs.Reading.new.Kinds as begun
 use Rattle.salvage.proofs.Reading.new.Reads as begun-contract
 use Rattle.salvage.proofs.how_far.reading_end.Kinds as far
@@ -87,3 +89,10 @@ status-asks-nothing κs args = tt
 -- The status byte.
 pub one-status : OneAnswer digit.ps digit.r digit-contract.Learnt
 one-status κs args f g e e' p q = p ∙ sym q
+
+pub number-asks-nothing : AsksNothing refusal.ps refusal-contract.Asked
+number-asks-nothing κs args = tt
+
+-- The refusal's number.
+pub one-number : OneAnswer refusal.ps refusal.r refusal-contract.Learnt
+one-number κs args f g e e' p q = p ∙ sym q

@@ -6,6 +6,7 @@ use mathlib.Core.List.{List, [], ◌∷◌}
 use mathlib.Core.Bool.{Bool, true, false, ◌&&◌, ◌||◌, not}
 use mathlib.Core.Logic.{⊎_elim}
 use native.Mathlib.Omega.{arith}
+use Rattle.std.specs.Prelude.{Option, Some, None, is_some}
 use borrow.Author.Tests.{eqb-true, eqb-false, ne_eqb}
 use lib.ListN.{drop}
 use lib.Dec.{leb, eqb}
@@ -25,15 +26,43 @@ use Rattle.salvage.specs.declared.turns.Seen.{Seen}
 use Rattle.salvage.specs.declared.turns.Turn.{Turn}
 use Rattle.salvage.specs.Salvage.{Found, nothing, with, drops, dropped_by, ends, reading_after, found, found_in}
 use Rattle.salvage.specs.HowFar.{goes_on_lem, reached, reached_in}
-use Rattle.salvage.specs.Inner.{Open, Sees, Turned}
+use Rattle.salvage.specs.Inner.{Open, as_told, by_told, Sees, Turned}
 use Rattle.salvage.proofs.Fates.{code_is, open_after, records-after}
 
 -- ---- the number and the reading behind a record, as they are computed
 
-pub code-told : (s : Reading) (r : List ℕ) (code kind : ℕ) → kind ≡ kind_byte r → (b : Account) → Open s → b ≡ (judge s.account r).account
-    → code ≡ first (drops b.refusal.code kind s.lost) → code ≡ dropped_by s r
+pub code-told : (s : Reading) (r : List ℕ) (code : Option ℕ) (kind : ℕ) → kind ≡ kind_byte r → (b : Account) → Open s → b ≡ (judge s.account r).account
+    → code ≡ as_told (first (drops b.refusal.code kind s.lost)) → code ≡ as_told (dropped_by s r)
 unfolding dropped_by
 code-told s r code kind k b o t e = e ∙ rw (t, code_is s.account r o.range o.early, k)
+
+-- what the code has of such a number tells as much
+module _ (o : Option ℕ) (c : ℕ) (e : o ≡ as_told c) where
+  pub some-is : is_some o ≡ not (eqb c 0)
+  some-is = rw e (go (eqb c 0))
+    where
+      go : (b : Bool) → is_some (pick b None (Some c)) ≡ not b
+      go true = refl
+      go false = refl
+
+  pub none-is : not (is_some o) ≡ eqb c 0
+  none-is = ap not some-is ∙ twice (eqb c 0)
+    where
+      twice : (b : Bool) → not (not b) ≡ b
+      twice true = refl
+      twice false = refl
+
+  pub by-is : {A : Type 0} (x y : A) → by_told o x y ≡ pick (eqb c 0) x y
+  by-is {A} x y = rw e (go (eqb c 0))
+    where
+      go : (b : Bool) → by_told (pick b None (Some c)) x y ≡ pick b x y
+      go true = refl
+      go false = refl
+
+-- std's test for none, the other way round
+pub turned-round : (b d : Bool) → b ≡ not d → d ≡ not b
+turned-round b true e = rw e
+turned-round b false e = rw e
 
 -- ---- the fold, by what its first record does
 
@@ -133,7 +162,7 @@ module _ (s : Reading) (xs : List ℕ) where
 
 -- the end of the reading, with no bytes
 abbrev pub ended : Reading → Turn
-ended s = record { n = 0; code = 0; next = s }
+ended s = record { n = 0; code = None; next = s }
 
 turned-ended : (s : Reading) (xs : List ℕ) → Open s → goes_on_lem (front xs) s xs ≡ false → Turned s xs (ended s)
 turned-ended s xs o e =
@@ -160,37 +189,40 @@ module _ (s : Reading) (xs : List ℕ) (v : Seen) (o : Open s) (y : Sees s xs v)
   seen h = y.ready.some h
 
   -- whether it ends the reading
-  ends_is : 0 < v.size → ends s (record_at xs) ≡ leb 4095 s.account.records || (eqb v.kind 8 && eqb v.code 0)
-  ends_is h = rw (y.kind h, y.code h, (seen h).1)
+  ends_is : 0 < v.size → ends s (record_at xs) ≡ leb 4095 s.account.records || (eqb v.kind 8 && not (is_some v.code))
+  ends_is h = rw (none-is v.code _ (y.code h), y.kind h, (seen h).1)
 
   -- there is no record, 4,095 are kept, or it is a close that nothing drops
-  pub ends-here : (eqb v.size 0 || leb 4095 s.account.records) || (eqb v.kind 8 && eqb v.code 0) ≡ true → Turned s xs (ended s)
+  pub ends-here : (eqb v.size 0 || leb 4095 s.account.records) || (eqb v.kind 8 && not (is_some v.code)) ≡ true → Turned s xs (ended s)
   ends-here e =
       ⊎_elim
       (λ (h : 0 < v.size).
-      let z : leb 4095 s.account.records || (eqb v.kind 8 && eqb v.code 0) ≡ true = rw (ne_eqb v.size 0 (λ z. omega arith)) at e in
+      let z : leb 4095 s.account.records || (eqb v.kind 8 && not (is_some v.code)) ≡ true = rw (ne_eqb v.size 0 (λ z. omega arith)) at e in
       turned-ended s xs o (whole-stops s xs (seen h).0 (ends_is h ∙ z)))
       (λ (h : v.size ≤ 0). turned-ended s xs o (none-stops s xs (y.ready.none (omega arith))))
       (lt-or-ge 0 v.size)
 
-  module _ (e : (eqb v.size 0 || leb 4095 s.account.records) || (eqb v.kind 8 && eqb v.code 0) ≡ false) where
+  module _ (e : (eqb v.size 0 || leb 4095 s.account.records) || (eqb v.kind 8 && not (is_some v.code)) ≡ false) where
     some : 0 < v.size
     some =
         let a = eqb v.size 0 in
         let b = leb 4095 s.account.records in
-        let z = eqb-false v.size 0 (or_l a b (or_l (a || b) (eqb v.kind 8 && eqb v.code 0) e)) in
+        let z = eqb-false v.size 0 (or_l a b (or_l (a || b) (eqb v.kind 8 && not (is_some v.code)) e)) in
         omega (arith, z)
 
     goes-here : ends s (record_at xs) ≡ false
     goes-here = ends_is some ∙ (rw (ne_eqb v.size 0 (λ z. omega (arith, some))) at e)
 
     -- the reading behind it, field by field
-    pub next-so : (a : Account) (lost : Bool) (heading : ℕ) → a ≡ pick (eqb v.code 0) v.account s.account
-        → lost ≡ pick (eqb v.kind 2) (not (eqb v.code 0)) s.lost → heading ≡ pick (eqb v.kind 2) s.number s.heading
+    pub next-so : (a : Account) (lost : Bool) (heading : ℕ) → a ≡ by_told v.code v.account s.account
+        → lost ≡ pick (eqb v.kind 2) (is_some v.code) s.lost → heading ≡ pick (eqb v.kind 2) s.number s.heading
         → ◌≡◌ {A = Reading} (record { account = a; lost = lost; heading = heading; number = s.number + 1 }) (reading_after s (record_at xs))
     next-so a lost heading p q r =
         let w = (seen some).1 in
-        rw (p, q, r, y.account some, y.kind some, y.code some, w)
+        let k = y.code some in
+        let m = p ∙ by-is v.code _ k v.account s.account in
+        let l = q ∙ ap (λ (b : Bool). pick (eqb v.kind 2) b s.lost) (some-is v.code _ k) in
+        rw (m, l, r, y.account some, y.kind some, w)
 
     -- it goes on behind the record
     pub goes_on : (t : Turn) → t.n ≡ v.size → t.code ≡ v.code → t.next ≡ reading_after s (record_at xs) → Turned s xs t
@@ -198,7 +230,7 @@ module _ (s : Reading) (xs : List ℕ) (v : Seen) (o : Open s) (y : Sees s xs v)
         let w = seen some in
         let m = meaning xs whole w.0 in
         let n : t.n ≡ need xs = is-n ∙ w.1 in
-        let c : t.code ≡ dropped_by s (record_at xs) = is_code ∙ rw w.1 at (y.code some) in
+        let c : t.code ≡ as_told (dropped_by s (record_at xs)) = is_code ∙ rw w.1 at (y.code some) in
         record {
           stops = λ z. absurd (omega (arith, z, is-n, some));
           on = λ h. whole-goes s xs w.0 goes-here;
@@ -209,8 +241,8 @@ module _ (s : Reading) (xs : List ℕ) (v : Seen) (o : Open s) (y : Sees s xs v)
           most = omega (arith, n, m.2);
           ended = λ z. absurd (omega (arith, z, is-n, some));
           first_of = λ z. rw n (records-whole xs w.0);
-          goes = λ z. rw (n, c, is-next) (goes-found s xs (whole-goes s xs w.0 goes-here));
+          goes = λ z. rw (n, is-next) (goes-found s xs (whole-goes s xs w.0 goes-here));
           opened = rw is-next (open_after s (record_at xs) goes-here o);
           number = λ z. rw is-next refl;
-          records = λ z. rw (is-next, c) (records-after s (record_at xs) goes-here);
+          records = λ z. rw is-next (records-after s (record_at xs) goes-here);
         }

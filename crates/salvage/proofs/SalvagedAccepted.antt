@@ -5,6 +5,7 @@ use mathlib.Core.Path.{◌≡◌, refl, sym, ap, ◌∙◌}
 use mathlib.Core.List.{List, [], ◌∷◌, ◌++◌, append_assoc, append-nil}
 use mathlib.Core.Bool.{Bool, true, false, ◌||◌, not}
 use native.Mathlib.Nat.{zero-add}
+use Rattle.std.specs.Prelude.{Ok}
 use native.Mathlib.Omega.{arith}
 use borrow.Author.Tests.{eqb-false}
 use lib.Dec.{ltb}
@@ -25,7 +26,7 @@ use Rattle.book.proofs.RecordRuns.{record-whole}
 use Rattle.book.specs.WholeRecords.{begins_with, records_by, records_of}
 use Rattle.salvage.specs.declared.Reading.{Reading}
 use Rattle.salvage.specs.declared.Lengths.{Lengths}
-use Rattle.salvage.specs.declared.Salvaged.TheVariants.{Saved}
+use Rattle.salvage.specs.declared.Unsaved.TheVariants.{NoFarm, NoRoom}
 use Rattle.salvage.specs.Salvage.{Found, nothing, dropped_by, ends, reading_after, start, found, book_of, list_of, farm_among, refusing, saving}
 use Rattle.salvage.specs.Salvage.{answering, salvage_of}
 use Rattle.salvage.specs.Inner.{Open, book_from}
@@ -111,16 +112,16 @@ clean-done = by-records Closing (λ s rs w o h l. close-done s o (omega arith) h
 -- ---- the promise
 
 -- where it is saved, a farm record is kept, and what is written is what was found
-pub saved-so : (f : Found) (book_room_lem list_room_lem : ℕ) (l : Lengths) → (answering f book_room_lem list_room_lem).answer ≡ Saved l
+pub saved-so : (f : Found) (book_room_lem list_room_lem : ℕ) (l : Lengths) → (answering f book_room_lem list_room_lem).answer ≡ Ok l
     → (farm_among f.kept ≡ true) × (answering f book_room_lem list_room_lem ≡ saving (book_of f.kept) (list_of f.dropped))
 unfolding answering
 saved-so f book_room_lem list_room_lem l =
     go (farm_among f.kept) refl (ltb book_room_lem (length (book_of f.kept)) || ltb list_room_lem (length (list_of f.dropped)))
   where
     go : (b : Bool) → farm_among f.kept ≡ b → (b' : Bool)
-        → (pick (not b) (refusing 19) (pick b' (refusing 16) (saving (book_of f.kept) (list_of f.dropped)))).answer ≡ Saved l
+        → (pick (not b) (refusing NoFarm) (pick b' (refusing NoRoom) (saving (book_of f.kept) (list_of f.dropped)))).answer ≡ Ok l
         → (b ≡ true)
-        × (pick (not b) (refusing 19) (pick b' (refusing 16) (saving (book_of f.kept) (list_of f.dropped)))
+        × (pick (not b) (refusing NoFarm) (pick b' (refusing NoRoom) (saving (book_of f.kept) (list_of f.dropped)))
         ≡ saving (book_of f.kept) (list_of f.dropped))
     go true e true x = let z : ◌≡◌ {A = ℕ} 0 1 = cc in absurd (omega arith)
     go true e false x = (refl, refl)
@@ -132,7 +133,7 @@ some-kept rs e =
     omega (arith, n)
 
 -- Whatever the damaged bytes are: where they are saved, rule 2 closes the clean book, holds nothing and leaves nothing.
-pub salvaged-accepted : (damaged : List ℕ) (book_room_lem list_room_lem : ℕ) (l : Lengths) → (salvage_of damaged book_room_lem list_room_lem).answer ≡ Saved l
+pub salvaged-accepted : (damaged : List ℕ) (book_room_lem list_room_lem : ℕ) (l : Lengths) → (salvage_of damaged book_room_lem list_room_lem).answer ≡ Ok l
     → ((run no_record_yet (salvage_of damaged book_room_lem list_room_lem).book).state.account.stage ≡ 2)
     × ((run no_record_yet (salvage_of damaged book_room_lem list_room_lem).book).state.count ≡ 0)
     × ((run no_record_yet (salvage_of damaged book_room_lem list_room_lem).book).left ≡ [])

@@ -16,6 +16,7 @@ use Rattle.book.specs.Front.{front}
 use Rattle.book.specs.WholeRecords.{records_by, records_of}
 use Rattle.book.specs.State.{no_record_yet}
 use Rattle.book.specs.Run.{book_by, book, run}
+use Rattle.salvage.specs.declared.Unsaved.TheVariants.{NoFarm, NoRoom}
 use Rattle.salvage.specs.Salvage.{dropped_by, found, list_of, farm_among, refusing, saving, answering, salvage_of}
 use Rattle.salvage.specs.declared.how_far.Ending.TheVariants.{AtEnd, AtClose, NoLength, NotWhole}
 use Rattle.salvage.specs.HowFar.{reached, end_of}
@@ -82,13 +83,13 @@ unfolding records_of records_by front val_at under_headings details sort_of
 detail-kept = refl
 
 -- a byte less of room
-pub damaged-16 : (salvage_of damaged 63 36 ≡ refusing 16) × (salvage_of damaged 64 35 ≡ refusing 16)
+pub damaged-16 : (salvage_of damaged 63 36 ≡ refusing NoRoom) × (salvage_of damaged 64 35 ≡ refusing NoRoom)
 unfolding salvage_of answering found records_of records_by front val_at dropped_by first judge accepted sort_of table size values_at first_bad in_place_lem
     list_of farm_among be bytes_of record_bytes
 damaged-16 = (refl, refl)
 
 -- no farm record, and no room either
-pub no-farm-19 : salvage_of (joined (heading 1 ∷ close 1 ∷ [])) 0 0 ≡ refusing 19
+pub no-farm-19 : salvage_of (joined (heading 1 ∷ close 1 ∷ [])) 0 0 ≡ refusing NoFarm
 unfolding salvage_of answering found records_of records_by front val_at dropped_by first judge accepted sort_of table size values_at first_bad in_place_lem
     farm_among
 no-farm-19 = refl

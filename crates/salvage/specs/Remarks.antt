@@ -1,16 +1,17 @@
 -- What a person is told of a salvage after the lines of the dropped records (specs/Lines), on standard error: where the reading ended, unless all was
 -- read, then "K kept, D dropped", K without the close; or "refused 19" alone. And the byte of the exit status.
 -- Assumes nothing.
-use Rattle.std.specs.Prelude.{ℕ, ◌-◌, ◌/◌, List, [], ◌++◌, Bool, ◌&&◌, length, ltb}
+use Rattle.std.specs.Prelude.{ℕ, ◌-◌, ◌/◌, List, [], ◌++◌, Bool, ◌&&◌, Result, Ok, Err, length, ltb}
 use Rattle.base.specs.Choice.{pick}
 use Rattle.codec.specs.Codec.{val_at}
 use Rattle.printing.specs.Ascii.{ascii}
 use Rattle.printing.specs.Decimal.{decimal}
-use Rattle.salvage.specs.declared.Salvaged.{Salvaged}
-use Rattle.salvage.specs.declared.Salvaged.TheVariants.{Saved, Refused}
+use Rattle.salvage.specs.declared.Lengths.{Lengths}
+use Rattle.salvage.specs.declared.Unsaved.{Unsaved}
 use Rattle.salvage.specs.declared.how_far.Ending.{Ending}
 use Rattle.salvage.specs.declared.how_far.Ending.TheVariants.{AtEnd, AtClose, Full, NoLength, NotWhole}
 use Rattle.salvage.specs.declared.how_far.ReadingEnd.{ReadingEnd}
+use Rattle.salvage.specs.Salvage.{number_of}
 use Rattle.salvage.specs.HowFar.{all_read_lem}
 
 -- why the reading ended
@@ -42,9 +43,9 @@ abbrev pub refused_text : ℕ → List ℕ
 refused_text number = ascii "refused " ++ (decimal number ++ ascii "\n")
 
 -- the last words, of the answer, the end of the reading and the clean book
-abbrev pub end_text : Salvaged → ReadingEnd → List ℕ → List ℕ
-end_text (Saved l) e book = reading_text e ++ saved_text (kept_in book) (l.list / 9)
-end_text (Refused number) e book = refused_text number
+abbrev pub end_text : Result Lengths Unsaved → ReadingEnd → List ℕ → List ℕ
+end_text (Ok l) e book = reading_text e ++ saved_text (kept_in book) (l.list / 9)
+end_text (Err why) e book = refused_text (number_of why)
 
 -- a book that is longer than the program has room for
 abbrev pub too_long_text : List ℕ

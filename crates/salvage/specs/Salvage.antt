@@ -1,7 +1,7 @@
 -- Document 02, W5: "Make a salvage tool that writes a clean book and a list of what was dropped". It is one fold over the whole records of the
 -- damaged bytes, with the account of the kept ones; what a record would get is the reader's own list of refusals.
 -- Assumes nothing.
-use Rattle.std.specs.Prelude.{ℕ, ◌+◌, ◌≤◌, List, [], ◌∷◌, ◌++◌, Bool, false, ◌&&◌, ◌||◌, not, length, drop, ltb, leb, eqb}
+use Rattle.std.specs.Prelude.{ℕ, ◌+◌, ◌≤◌, List, [], ◌∷◌, ◌++◌, Bool, false, ◌&&◌, ◌||◌, not, Result, Ok, Err, length, drop, ltb, leb, eqb}
 use Rattle.base.specs.Choice.{pick}
 use Rattle.codec.specs.Codec.{be, record_bytes}
 use Rattle.account.specs.declared.Account.{Account}
@@ -11,8 +11,9 @@ use Rattle.account.specs.Judge.{kind_byte, first, refusals, judge}
 use Rattle.account.specs.Line.{joined}
 use Rattle.book.specs.WholeRecords.{records_of}
 use Rattle.salvage.specs.declared.Reading.{Reading}
-use Rattle.salvage.specs.declared.Salvaged.{Salvaged}
-use Rattle.salvage.specs.declared.Salvaged.TheVariants.{Saved, Refused}
+use Rattle.salvage.specs.declared.Lengths.{Lengths}
+use Rattle.salvage.specs.declared.Unsaved.{Unsaved}
+use Rattle.salvage.specs.declared.Unsaved.TheVariants.{NoFarm, NoRoom}
 
 -- ---- what becomes of one record
 
@@ -110,30 +111,35 @@ unfoldable pub farm_among : List (List ℕ) → Bool
 farm_among [] = false
 farm_among (r ∷ rs) = eqb (kind_byte r) 1 || farm_among rs
 
+-- "19, no farm record among those kept; 16, no room for book or list"
+abbrev pub number_of : Unsaved → ℕ
+number_of NoFarm = 19
+number_of NoRoom = 16
+
 -- this paper's number and values for each answer: 0 and both lengths, or the number of the refusal
-abbrev pub numbers : Salvaged → List ℕ
-numbers (Saved l) = 0 ∷ l.book ∷ l.list ∷ []
-numbers (Refused number) = number ∷ []
+abbrev pub numbers : Result Lengths Unsaved → List ℕ
+numbers (Ok l) = 0 ∷ l.book ∷ l.list ∷ []
+numbers (Err why) = number_of why ∷ []
 
 -- what the tool gives: its answer, the bytes of the clean book and those of the list
 pub record Salvage : Type 0 where
-  pub answer : Salvaged
+  pub answer : Result Lengths Unsaved
   pub book : List ℕ
   pub list : List ℕ
 
 -- "Both write nothing."
-abbrev pub refusing : ℕ → Salvage
-refusing number = record { answer = Refused number; book = []; list = [] }
+abbrev pub refusing : Unsaved → Salvage
+refusing why = record { answer = Err why; book = []; list = [] }
 
 -- saved, with both lengths
 abbrev pub saving : List ℕ → List ℕ → Salvage
-saving book list = record { answer = Saved (record { book = length book; list = length list }); book = book; list = list }
+saving book list = record { answer = Ok (record { book = length book; list = length list }); book = book; list = list }
 
 -- "Refusals: 19, no farm record among those kept; 16, no room for book or list, tried last."
 unfoldable pub answering : Found → ℕ → ℕ → Salvage
 answering f book_room_lem list_room_lem =
-    pick (not (farm_among f.kept)) (refusing 19)
-    (pick (ltb book_room_lem (length (book_of f.kept)) || ltb list_room_lem (length (list_of f.dropped))) (refusing 16)
+    pick (not (farm_among f.kept)) (refusing NoFarm)
+    (pick (ltb book_room_lem (length (book_of f.kept)) || ltb list_room_lem (length (list_of f.dropped))) (refusing NoRoom)
     (saving (book_of f.kept) (list_of f.dropped)))
 
 -- the salvage of the damaged bytes, for two buffers of so much room
@@ -145,7 +151,7 @@ abbrev pub saved_in : List ℕ → List ℕ → List ℕ
 saved_in bytes buffer = bytes ++ drop (length bytes) buffer
 
 -- what a caller gets who lends a buffer for the book and one for the list: the answer, and either buffer afterwards
-abbrev pub answer_for : List ℕ → List ℕ → List ℕ → Salvaged
+abbrev pub answer_for : List ℕ → List ℕ → List ℕ → Result Lengths Unsaved
 answer_for damaged book list = (salvage_of damaged (length book) (length list)).answer
 
 abbrev pub book_after : List ℕ → List ℕ → List ℕ → List ℕ
@@ -155,6 +161,6 @@ abbrev pub list_after : List ℕ → List ℕ → List ℕ → List ℕ
 list_after damaged book list = saved_in (salvage_of damaged (length book) (length list)).list list
 
 -- what is written lies inside buffers of so many bytes
-abbrev pub Inside : Salvaged → ℕ → ℕ → Type 0
-Inside (Saved l) book_room_lem list_room_lem = (l.book ≤ book_room_lem) × (l.list ≤ list_room_lem)
-Inside (Refused number) book_room_lem list_room_lem = Unit {0}
+abbrev pub Inside : Result Lengths Unsaved → ℕ → ℕ → Type 0
+Inside (Ok l) book_room_lem list_room_lem = (l.book ≤ book_room_lem) × (l.list ≤ list_room_lem)
+Inside (Err why) book_room_lem list_room_lem = Unit {0}

@@ -44,6 +44,7 @@ fn reach(damaged: &[u8]) -> Reached
 {
     let mut s = Reading::new();
     let mut at = 0;
+    // A cursor and no count: each record has a length of its own.
     while at < damaged.len() {
         let rest = rest_of(damaged, at);
         let t = s.turn(rest);
@@ -78,7 +79,7 @@ impl Reading {
         ensures upper_bound { result ≤ length xs.now }
     {
         let v = self.see(xs);
-        if (v.kind == CLOSE as u8) & (v.code == 0) {
+        if (v.kind == CLOSE as u8) & v.code.is_none() {
             return v.size;
         }
         0

@@ -9,7 +9,7 @@ mod passes;
 mod turns;
 
 ghost use Rattle.std.specs.Prelude.{◌≡◌, length};
-ghost use Rattle.salvage.specs.Salvage.{start, answer_for, book_after, list_after, Inside};
+ghost use Rattle.salvage.specs.Salvage.{start, number_of, answer_for, book_after, list_after, Inside};
 
 use crate::passes::{measure, write};
 use account::Account;
@@ -45,15 +45,27 @@ pub struct Lengths {
     pub list: usize,
 }
 
-// The answer: saved, or refused by 19 or 16.
+// Why nothing is saved: no farm record is among those kept, or the book or the list has no room.
 #[derive(Clone, Copy)]
-pub enum Salvaged {
-    Saved(Lengths),
-    Refused(u8),
+pub enum Unsaved {
+    NoFarm,
+    NoRoom,
+}
+
+impl Unsaved {
+    // The refusal's number.
+    pub fn number(self) -> u8
+        ensures { result ≡ number_of self }
+    {
+        match self {
+            Unsaved::NoFarm => 19,
+            Unsaved::NoRoom => 16,
+        }
+    }
 }
 
 // The clean book goes to the start of book and the list to the start of list, or neither does: both lengths are known before a byte is written.
-pub fn salvage(damaged: &[u8], book: &mut [u8], list: &mut [u8]) -> Salvaged
+pub fn salvage(damaged: &[u8], book: &mut [u8], list: &mut [u8]) -> Result<Lengths, Unsaved>
     ensures answer { result ≡ answer_for damaged.now book.old list.old }
     ensures clean { book.new ≡ book_after damaged.now book.old list.old }
     ensures dropped { list.new ≡ list_after damaged.now book.old list.old }
@@ -61,13 +73,13 @@ pub fn salvage(damaged: &[u8], book: &mut [u8], list: &mut [u8]) -> Salvaged
 {
     let m = measure(damaged);
     if m.kept == 0 {
-        return Salvaged::Refused(19);
+        return Err(Unsaved::NoFarm);
     }
     if (book.len() < m.book) | (list.len() / 9 < m.dropped) {
-        return Salvaged::Refused(16);
+        return Err(Unsaved::NoRoom);
     }
     write(damaged, book, list);
-    Salvaged::Saved(Lengths {
+    Ok(Lengths {
         book: m.book,
         list: m.dropped * 9,
     })

@@ -1,8 +1,8 @@
 // The line of each record that was dropped: a damaged book is gone through once more, as many records at a time as a buffer has room for.
 ghost use Rattle.std.specs.Prelude.{◌≡◌, ◌+◌, ◌/◌, ◌≤◌, ◌<◌, length};
 ghost use Rattle.printing.specs.Said.{Said};
-ghost use Rattle.salvage.specs.Lines.{dropped_text, heading_text, words_for, line_for, tell_by, usable, told_by, Tells, line_most};
-ghost use Rattle.salvage.specs.Inner.{Open};
+ghost use Rattle.salvage.specs.Lines.{dropped_text, heading_text, words_for, tell_by, usable, told_by, Tells, line_most};
+ghost use Rattle.salvage.specs.Inner.{Open, line_told};
 
 use crate::Reading;
 use account::sort::is_of_group;
@@ -43,21 +43,23 @@ impl Reading {
         say_sentence(out, at, code as u64)
     }
 
-    // Its line; nothing with code 0.
-    fn say_line(self, out: &mut [u8], at: usize, kind: u8, code: u8) -> usize
+    // Its line, where that number drops it; nothing where it is kept.
+    fn say_line(self, out: &mut [u8], at: usize, kind: u8, dropped_by: Option<u8>) -> usize
         requires { at ≤ length out.old }
-        ensures { Said out.old out.new at (line_for self kind code) result }
+        ensures { Said out.old out.new at (line_told self kind dropped_by) result }
     {
-        if code == 0 {
-            return at;
+        match dropped_by {
+            None => at,
+            Some(code) => {
+                let word = say(out, at, b"record ");
+                let which = say_number(out, word, self.number);
+                let dropped = say(out, which, b": dropped ");
+                let why = say_number(out, dropped, code as u64);
+                let colon = say(out, why, b": ");
+                let words = self.say_words(out, colon, kind, code);
+                say(out, words, b"\n")
+            }
         }
-        let word = say(out, at, b"record ");
-        let which = say_number(out, word, self.number);
-        let dropped = say(out, which, b": dropped ");
-        let why = say_number(out, dropped, code as u64);
-        let colon = say(out, why, b": ");
-        let words = self.say_words(out, colon, kind, code);
-        say(out, words, b"\n")
     }
 
     // The line of the record at the front of xs, from index at on.
@@ -96,8 +98,8 @@ fn report_some(from: Reading, xs: &[u8], out: &mut [u8]) -> Reported
     let mut s = from;
     let mut at = 0;
     let mut end = 0;
-    let mut left = out.len() / LINE_MOST;
-    while left > 0 {
+    let most = out.len() / LINE_MOST;
+    for told in 0..most {
         let t = s.report_next(rest_of(xs, at), out, end);
         s = t.reading;
         at += t.taken;
@@ -110,7 +112,6 @@ fn report_some(from: Reading, xs: &[u8], out: &mut [u8]) -> Reported
                 more: false,
             };
         }
-        left -= 1;
     }
     Reported {
         reading: s,

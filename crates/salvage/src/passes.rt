@@ -25,6 +25,7 @@ pub(crate) fn measure(damaged: &[u8]) -> Sizes
     let mut at = 0;
     let mut book = 6;
     let mut dropped = 0;
+    // A cursor and no count: each record has a length of its own.
     while at < damaged.len() {
         let rest = rest_of(damaged, at);
         let t = s.turn(rest);
@@ -72,6 +73,7 @@ pub(crate) fn write(damaged: &[u8], book: &mut [u8], list: &mut [u8])
     let mut at = 0;
     let mut w = 0;
     let mut v = 0;
+    // A cursor and no count: each record has a length of its own.
     while at < damaged.len() {
         let rest = rest_of(damaged, at);
         let t = s.turn(rest);

@@ -4,8 +4,8 @@ ghost use Rattle.printing.specs.Said.{Said};
 ghost use Rattle.salvage.specs.Remarks.{ending_text, place_text, unread_text, reading_text};
 ghost use Rattle.salvage.specs.Remarks.{kept_in, saved_text, refused_text, end_text, too_long_text, status_byte};
 
-use crate::Salvaged;
 use crate::how_far::{Ending, ReadingEnd};
+use crate::{Lengths, Unsaved};
 use codec::numbers::be16;
 use printing::{say, say_number};
 
@@ -86,15 +86,20 @@ fn say_refused(out: &mut [u8], number: u64) -> usize
 }
 
 // The last words, of the answer, the end of the reading and the clean book, from the start of out.
-pub fn say_end(out: &mut [u8], answer: Salvaged, end: ReadingEnd, book: &[u8]) -> usize
+pub fn say_end(
+    out: &mut [u8],
+    answer: Result<Lengths, Unsaved>,
+    end: ReadingEnd,
+    book: &[u8],
+) -> usize
     ensures { Said out.old out.new 0 (end_text answer end book.now) result }
 {
     match answer {
-        Salvaged::Saved(l) => {
+        Ok(l) => {
             let at = say_reading(out, end);
             say_saved(out, at, kept_in(book), (l.list / 9) as u64)
         }
-        Salvaged::Refused(number) => say_refused(out, number as u64),
+        Err(why) => say_refused(out, why.number() as u64),
     }
 }
 

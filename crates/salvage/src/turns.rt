@@ -1,10 +1,10 @@
 // One record of a damaged book: it is kept, it is dropped, or the reading ends before it.
-ghost use Rattle.std.specs.Prelude.{◌≡◌, not, ◌<◌, eqb};
+ghost use Rattle.std.specs.Prelude.{◌≡◌, ◌<◌, None, is_some, eqb};
 ghost use Rattle.base.specs.Choice.{pick};
 ghost use Rattle.account.specs.Sorts.{is_of_group};
 ghost use Rattle.account.specs.Judge.{first};
 ghost use Rattle.salvage.specs.Salvage.{drops};
-ghost use Rattle.salvage.specs.Inner.{Open, Sees, Turned};
+ghost use Rattle.salvage.specs.Inner.{Open, as_told, Sees, Turned};
 
 use crate::Reading;
 use account::Account;
@@ -16,46 +16,46 @@ use walk::next_alone;
 // So many kept records end the reading: with its close a clean book has as many as a book can have.
 pub(crate) const KEPT_MOST: u16 = 4095;
 
-// The record at the front of some bytes: its size, 0 where no whole one is there, its kind byte, the number that drops it (0 where none does), and
-// the account with it.
+// The record at the front of some bytes: its size, 0 where no whole one is there, its kind byte, the number that drops it, if one does, and the
+// account with it.
 #[derive(Clone, Copy)]
 pub(crate) struct Seen {
     pub size: usize,
     pub kind: u8,
-    pub code: u8,
+    pub code: Option<u8>,
     pub account: Account,
 }
 
-// What becomes of one record: its bytes, the number that drops it (0 where it is kept), and the reading behind it. No bytes: the reading ends.
+// What becomes of one record: its bytes, the number that drops it, if one does, and the reading behind it. No bytes: the reading ends.
 #[derive(Clone, Copy)]
 pub(crate) struct Turn {
     pub n: usize,
-    pub code: u8,
+    pub code: Option<u8>,
     pub next: Reading,
 }
 
-// The number that drops a record of a kind byte that would get a code; 0 where it is not dropped.
-fn dropped_by(code: u8, kind: u8, lost: bool) -> u8
-    ensures { result ≡ first (drops code kind lost) }
+// The number that drops a record of a kind byte that would get a code.
+fn dropped_by(code: u8, kind: u8, lost: bool) -> Option<u8>
+    ensures { result ≡ as_told (first (drops code kind lost)) }
 {
     if (2 <= code) & (code <= 4) {
-        return code;
+        return Some(code);
     }
     if lost & is_of_group(kind as u64) {
-        return 6;
+        return Some(6);
     }
     if (6 <= code) & (code <= 11) {
-        return code;
+        return Some(code);
     }
-    0
+    None
 }
 
 // Whether the last record of kind byte 2 was dropped, once a record has got that number.
-fn lost_by(kind: u8, code: u8, lost: bool) -> bool
-    ensures { result ≡ pick (eqb kind 2) (not (eqb code 0)) lost }
+fn lost_by(kind: u8, code: Option<u8>, lost: bool) -> bool
+    ensures { result ≡ pick (eqb kind 2) (is_some code) lost }
 {
     if kind == HEADING as u8 {
-        code != 0
+        code.is_some()
     } else {
         lost
     }
@@ -85,7 +85,7 @@ impl Reading {
             return Seen {
                 size: 0,
                 kind: 0,
-                code: 0,
+                code: None,
                 account: a,
             };
         }
@@ -103,11 +103,11 @@ impl Reading {
 
     // The reading ends.
     fn ended(self) -> Turn
-        ensures { result ≡ record { n = 0; code = 0; next = self } }
+        ensures { result ≡ record { n = 0; code = None; next = self } }
     {
         Turn {
             n: 0,
-            code: 0,
+            code: None,
             next: self,
         }
     }
@@ -121,33 +121,33 @@ impl Reading {
         let v = self.see(xs);
         let kind = v.kind;
         let code = v.code;
-        if (v.size == 0) | (KEPT_MOST <= a.records) | ((kind == CLOSE as u8) & (code == 0)) {
+        if (v.size == 0) | (KEPT_MOST <= a.records) | ((kind == CLOSE as u8) & code.is_none()) {
             return self.ended();
         }
         let lost = lost_by(kind, code, self.lost);
         let heading = heading_by(kind, self.number, self.heading);
         let number = self.number + 1;
         let kept = v.account;
-        if code == 0 {
-            return Turn {
+        match code {
+            None => Turn {
                 n: v.size,
-                code: 0,
+                code,
                 next: Reading {
                     account: kept,
-                    lost: lost,
-                    heading: heading,
-                    number: number,
+                    lost,
+                    heading,
+                    number,
                 },
-            };
-        }
-        Turn {
-            n: v.size,
-            code: code,
-            next: Reading {
-                account: a,
-                lost: lost,
-                heading: heading,
-                number: number,
+            },
+            Some(_) => Turn {
+                n: v.size,
+                code,
+                next: Reading {
+                    account: a,
+                    lost,
+                    heading,
+                    number,
+                },
             },
         }
     }

@@ -8,7 +8,7 @@ use names::hints::{look, say_hint};
 use program::{System, report, send};
 use salvage::how_far::{ReadingEnd, reading_end};
 use salvage::lines::report_lines;
-use salvage::{Reading, Salvaged, remarks};
+use salvage::{Lengths, Reading, Unsaved, remarks};
 use std::fs::OpenOptions;
 use std::io::{Error, Write};
 use std::rt::Files;
@@ -73,6 +73,7 @@ fn count_rest(rt: &impl System, from: ReadingEnd) -> Rest {
     let mut end = from;
     let mut stdin = rt.input();
     let mut r = program::Reading::new();
+    // By the turns of the reading, which end with the input: no count of this loop.
     while r.turns > 0 {
         r = r.next(rt, &mut stdin, b"standard input", &mut part);
         end = end.followed(r.len);
@@ -118,12 +119,10 @@ fn turn(rt: &impl System, mut w: Work, damaged: &[u8], text: &mut [u8]) -> Work 
 // Each turn takes a record, so that there are fewer of them than bytes.
 fn run(rt: &impl System, from: Work, damaged: &[u8], text: &mut [u8]) -> Work {
     let mut w = from;
-    let mut turns: usize = 131100;
-    while turns > 0 {
+    for _ in 0..LOOKED {
         if !w.more {
             return w;
         }
-        turns -= 1;
         w = turn(rt, w, damaged, text);
     }
     w
@@ -144,7 +143,12 @@ fn tell_lines(rt: &impl System, damaged: &[u8]) -> bool {
 }
 
 // The last words.
-fn tell_end(rt: &impl System, answer: Salvaged, end: ReadingEnd, book: &[u8]) -> bool {
+fn tell_end(
+    rt: &impl System,
+    answer: Result<Lengths, Unsaved>,
+    end: ReadingEnd,
+    book: &[u8],
+) -> bool {
     let mut text = [0u8; 512];
     let n = remarks::say_end(&mut text, answer, end, book);
     report(rt, &text[..n])
@@ -178,7 +182,7 @@ fn give_list(rt: &(impl System + Files), list: &[u8]) -> bool {
 // Where the list or the clean book can't go out, nothing more is printed.
 fn give(
     rt: &(impl System + Files),
-    answer: Salvaged,
+    lengths: Lengths,
     rest: Rest,
     damaged: &[u8],
     book: &[u8],
@@ -193,7 +197,7 @@ fn give(
         return unsaved();
     }
     let lines = tell_lines(rt, damaged);
-    let last = tell_end(rt, answer, end, book);
+    let last = tell_end(rt, Ok(lengths), end, book);
     Done {
         saved: true,
         read: read,
@@ -219,12 +223,12 @@ fn save(rt: &(impl System + Files), damaged: &[u8]) -> Done {
     let mut list = list_buffer();
     let answer = salvage::salvage(damaged, &mut book, &mut list);
     match answer {
-        Salvaged::Saved(l) => {
+        Ok(l) => {
             let rest = rest_after(rt, end, damaged.len());
-            give(rt, answer, rest, damaged, &book[..l.book], &list[..l.list])
+            give(rt, l, rest, damaged, &book[..l.book], &list[..l.list])
         }
-        Salvaged::Refused(number) => {
-            tell_end(rt, answer, end, b"");
+        Err(why) => {
+            tell_end(rt, Err(why), end, b"");
             unsaved()
         }
     }

@@ -91,10 +91,7 @@ fn put_answer(out: &mut [u8], at: usize, answer: Answer) -> usize {
 
 // The bytes written, where there are 1 to 200 of them.
 pub(crate) fn put_lines(out: &mut [u8], at: usize, lines: &[u8]) -> usize {
-    if lines.len() == 0 {
-        return put(out, at, b'-');
-    }
-    if 200 < lines.len() {
+    if lines.is_empty() | (200 < lines.len()) {
         return put(out, at, b'-');
     }
     put_bytes(out, at, lines)
@@ -122,11 +119,7 @@ fn call(state: State, src: &[u8], room: &mut [u8], out: &mut [u8], at: usize) ->
 }
 
 pub(crate) fn fill(room: &mut [u8]) {
-    let mut i = 0;
-    while i < room.len() {
-        room[i] = 165;
-        i += 1;
-    }
+    room.fill(165);
 }
 
 // Writes the answers out where they begin to fill the buffer; how many bytes are left in it.
@@ -143,7 +136,7 @@ pub(crate) fn flushed(rt: &impl Print, out: &[u8], w: usize) -> usize {
 pub(crate) fn least(a: u64, b: usize) -> usize
     ensures { result ≤ b }
 {
-    if a < b as u64 { a as usize } else { b }
+    a.min(b as u64) as usize
 }
 
 // One call as the line has it from at on: how many bytes of the rest it offers, and the room of its line buffer.
@@ -188,9 +181,7 @@ fn calls(
     let mut next = count.next;
     let mut end = w;
     let mut i = 0;
-    let mut left = count.value;
-    while left > 0 {
-        left -= 1;
+    for _ in 0..count.value {
         let s = step(state, line, next, &input[i..], room, out, end);
         state = s.state;
         next = s.next;

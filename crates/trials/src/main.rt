@@ -20,12 +20,6 @@ struct Held {
     answers: usize,
 }
 
-#[derive(Clone, Copy)]
-struct Turned {
-    held: Held,
-    more: bool,
-}
-
 // Room for the longest case: 40,000 bytes as digits, and 255 calls.
 fn line_buffer() -> [u8; 98304]
     ensures { 98304 ≡ length result }
@@ -42,19 +36,15 @@ fn replay(
     out: &mut [u8],
     w: usize,
 ) -> usize {
-    if line.len() == 0 {
+    if line.is_empty() {
         return w;
     }
-    if line[0] == b'S' {
-        return slips::replay(line, 2, out, w);
+    match line[0] {
+        b'S' => slips::replay(line, 2, out, w),
+        b'W' => written::replay(rt, line, 2, room, out, w),
+        b'D' => saved::replay(rt, line, 2, input, room, out, w),
+        _ => books::replay(rt, line, 2, input, room, out, w),
     }
-    if line[0] == b'W' {
-        return written::replay(rt, line, 2, room, out, w);
-    }
-    if line[0] == b'D' {
-        return saved::replay(rt, line, 2, input, room, out, w);
-    }
-    books::replay(rt, line, 2, input, room, out, w)
 }
 
 // One byte more of the cases; a line feed ends one.
@@ -98,15 +88,13 @@ fn take_part(
     out: &mut [u8],
 ) -> Held {
     let mut held = h;
-    let mut i = 0;
-    while i < part.len() {
-        held = take(rt, line, held, part[i], input, room, out);
-        i += 1;
+    for b in part {
+        held = take(rt, line, held, *b, input, room, out);
     }
     held
 }
 
-// Reads once. At the end of the input, or where a read fails, there is no more.
+// Reads once: what is held then. None at the end of the input, or where a read fails.
 fn turn<R: Print, I: Read>(
     rt: &R,
     from: &mut I,
@@ -115,20 +103,16 @@ fn turn<R: Print, I: Read>(
     input: &mut [u8],
     room: &mut [u8],
     out: &mut [u8],
-) -> Turned {
+) -> Option<Held> {
     let mut part = io::large_buffer();
     let n = from.read(&mut part).unwrap_or(0);
     if n == 0 {
-        return Turned {
-            held: h,
-            more: false,
-        };
+        return None;
     }
-    let held = take_part(rt, &part[..n], line, h, input, room, out);
-    Turned { held, more: true }
+    Some(take_part(rt, &part[..n], line, h, input, room, out))
 }
 
-// Nothing says that the input ends: the turns count down from a number that no run uses up.
+// Nothing says that the input ends: the turns count up to a number that no run reaches.
 fn run<R: Print, I: Read>(
     rt: &R,
     from: &mut I,
@@ -141,13 +125,10 @@ fn run<R: Print, I: Read>(
         line: 0,
         answers: 0,
     };
-    let mut turns = u64::MAX;
-    while turns > 0 {
-        turns -= 1;
-        let done = turn(rt, from, line, held, input, room, out);
-        held = done.held;
-        if !done.more {
-            return held;
+    for _ in 0..u64::MAX {
+        match turn(rt, from, line, held, input, room, out) {
+            Some(next) => held = next,
+            None => return held,
         }
     }
     held

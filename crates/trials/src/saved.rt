@@ -4,35 +4,41 @@ ghost use Rattle.std.specs.Prelude.{◌≤◌};
 use crate::books::{fill, flushed, least, put_lines};
 use crate::shown::{put, put_checksum, put_words};
 use crate::words::{read_bytes, read_numbers};
-use salvage::Salvaged;
+use salvage::{Lengths, Unsaved};
 
 // The number that refuses it, and both lengths; zeros where there are none.
-fn put_answer(out: &mut [u8], at: usize, answer: Salvaged) -> usize {
+fn put_answer(out: &mut [u8], at: usize, answer: Result<Lengths, Unsaved>) -> usize {
     match answer {
-        Salvaged::Saved(l) => put_words(out, at, &[0, l.book as u64, l.list as u64]),
-        Salvaged::Refused(number) => put_words(out, at, &[number as u64, 0, 0]),
+        Ok(l) => put_words(out, at, &[0, l.book as u64, l.list as u64]),
+        Err(why) => put_words(out, at, &[why.number() as u64, 0, 0]),
     }
 }
 
 // How many bytes of the list are written.
-fn listed(answer: Salvaged, most: usize) -> usize
+fn listed(answer: Result<Lengths, Unsaved>, most: usize) -> usize
     ensures { result ≤ most }
 {
     match answer {
-        Salvaged::Saved(l) => least(l.list as u64, most),
-        Salvaged::Refused(number) => 0,
+        Ok(l) => l.list.min(most),
+        Err(_) => 0,
     }
 }
 
 // One salvage, both buffers filled before it.
-fn filled(damaged: &[u8], book: &mut [u8], list: &mut [u8]) -> Salvaged {
+fn filled(damaged: &[u8], book: &mut [u8], list: &mut [u8]) -> Result<Lengths, Unsaved> {
     fill(book);
     fill(list);
     salvage::salvage(damaged, book, list)
 }
 
 // The line of answer: the answer, a checksum of each buffer, and the list.
-fn put_saved(out: &mut [u8], at: usize, answer: Salvaged, book: &[u8], list: &[u8]) -> usize {
+fn put_saved(
+    out: &mut [u8],
+    at: usize,
+    answer: Result<Lengths, Unsaved>,
+    book: &[u8],
+    list: &[u8],
+) -> usize {
     let n = listed(answer, list.len());
     let head = put_answer(out, at, answer);
     let first = put_checksum(out, head, book);

@@ -20,6 +20,7 @@ fn power(v: u64) -> u64
     ensures { 0 < result }
 {
     let mut p = 1152921504606846976;
+    // Down the powers of 16: no count.
     while v < p {
         if p < 16 {
             return 1;
@@ -32,6 +33,7 @@ fn power(v: u64) -> u64
 pub(crate) fn put_number(out: &mut [u8], at: usize, v: u64) -> usize {
     let mut end = at;
     let mut p = power(v);
+    // The same.
     while p > 0 {
         end = put(out, end, hex(v / p % 16));
         p = p / 16;
@@ -53,12 +55,10 @@ fn wide(b: u8) -> u64
 
 pub(crate) fn put_bytes(out: &mut [u8], at: usize, s: &[u8]) -> usize {
     let mut end = at;
-    let mut i = 0;
-    while i < s.len() {
-        let b = wide(s[i]);
-        end = put(out, end, hex(b / 16));
-        end = put(out, end, hex(b % 16));
-        i += 1;
+    for b in s {
+        let digits = wide(*b);
+        end = put(out, end, hex(digits / 16));
+        end = put(out, end, hex(digits % 16));
     }
     end
 }
@@ -66,10 +66,8 @@ pub(crate) fn put_bytes(out: &mut [u8], at: usize, s: &[u8]) -> usize {
 // Numbers, each with a space behind it.
 pub(crate) fn put_words(out: &mut [u8], at: usize, values: &[u64]) -> usize {
     let mut end = at;
-    let mut i = 0;
-    while i < values.len() {
-        end = put_word(out, end, values[i]);
-        i += 1;
+    for v in values {
+        end = put_word(out, end, *v);
     }
     end
 }
@@ -84,11 +82,9 @@ struct Sums {
 fn checksum(s: &[u8]) -> Sums {
     let mut a = 0;
     let mut b = 0;
-    let mut i = 0;
-    while i < s.len() {
-        a = (a + wide(s[i]) + 1) % 65521;
+    for byte in s {
+        a = (a + wide(*byte) + 1) % 65521;
         b = (b + a) % 65521;
-        i += 1;
     }
     Sums { a, b }
 }

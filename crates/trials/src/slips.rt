@@ -31,13 +31,11 @@ fn put_spaced(out: &mut [u8], at: usize, x: f64) -> usize {
 }
 
 fn change_of(kind: u64, x: f64) -> Change {
-    if kind == 1 {
-        return Change::Feed(x);
+    match kind {
+        1 => Change::Feed(x),
+        2 => Change::Ym(x),
+        _ => Change::Head(x),
     }
-    if kind == 2 {
-        return Change::Ym(x);
-    }
-    Change::Head(x)
 }
 
 fn put_ration(out: &mut [u8], at: usize, r: Ration) -> usize {

@@ -2,8 +2,6 @@
 // them is compared with the second program's answers.
 ghost use Rattle.std.specs.Prelude.{◌≡◌, ◌≤◌, length};
 
-use base::least;
-
 // Bytes read, and where the next word begins.
 #[derive(Clone, Copy)]
 pub(crate) struct Bytes {
@@ -21,25 +19,20 @@ pub(crate) struct Number {
 fn digit(b: u8) -> u64
     ensures { result ≤ 15 }
 {
-    if b < 48 {
-        return 0;
+    match b {
+        b'0'..=b'9' => (b - b'0') as u64,
+        b'a'..=b'f' => (b - b'a' + 10) as u64,
+        _ => 0,
     }
-    if b <= 57 {
-        return (b - 48) as u64;
-    }
-    if b < 97 {
-        return 0;
-    }
-    if b <= 102 {
-        return (b - 87) as u64;
-    }
-    0
 }
 
 fn nibble(line: &[u8], i: usize) -> u64
     ensures { result ≤ 15 }
 {
-    if i < line.len() { digit(line[i]) } else { 0 }
+    match line.get(i) {
+        Some(b) => digit(*b),
+        None => 0,
+    }
 }
 
 fn pair(high: u64, low: u64) -> u8
@@ -52,14 +45,12 @@ fn pair(high: u64, low: u64) -> u8
 fn end_of(line: &[u8], at: usize) -> usize
     ensures { at ≤ result }
 {
-    let mut i = at;
-    while i < line.len() {
+    for i in at..line.len() {
         if line[i] == b' ' {
             return i;
         }
-        i += 1;
     }
-    i
+    at.max(line.len())
 }
 
 // Past the space behind a word.
@@ -70,10 +61,8 @@ fn past(line: &[u8], end: usize) -> usize {
 pub(crate) fn read_number(line: &[u8], at: usize) -> Number {
     let end = end_of(line, at);
     let mut value = 0;
-    let mut i = at;
-    while i < end {
+    for i in at..end {
         value = value % 1152921504606846976 * 16 + nibble(line, i);
-        i += 1;
     }
     let next = past(line, end);
     Number { value, next }
@@ -82,12 +71,10 @@ pub(crate) fn read_number(line: &[u8], at: usize) -> Number {
 // As many numbers as the slice has places; where the next word begins.
 pub(crate) fn read_numbers(line: &[u8], at: usize, into: &mut [u64]) -> usize {
     let mut next = at;
-    let mut k = 0;
-    while k < into.len() {
+    for place in into.iter_mut() {
         let n = read_number(line, next);
-        into[k] = n.value;
+        *place = n.value;
         next = n.next;
-        k += 1;
     }
     next
 }
@@ -96,13 +83,11 @@ pub(crate) fn read_bytes(line: &[u8], at: usize, into: &mut [u8]) -> Bytes
     ensures { result.n ≤ length into.old }
 {
     let end = end_of(line, at);
-    let n = least((end - at) / 2, into.len());
-    let mut k = 0;
-    while k < n {
+    let n = ((end - at) / 2).min(into.len());
+    for k in 0..n {
         let high = nibble(line, at + 2 * k);
         let low = nibble(line, at + 2 * k + 1);
         into[k] = pair(high, low);
-        k += 1;
     }
     let next = past(line, end);
     Bytes { n, next }

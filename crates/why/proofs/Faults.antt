@@ -3,7 +3,7 @@
 use Prim.Native.Nat.{ℕ, ◌+◌, ◌≤◌, ◌<◌}
 use mathlib.Core.Path.{◌≡◌, refl, sym, ap, ◌∙◌}
 use mathlib.Core.List.{List, [], ◌∷◌}
-use mathlib.Core.Bool.{Bool, true, false, ◌&&◌, ◌||◌, not}
+use mathlib.Core.Bool.{Bool, true, false, ◌&&◌}
 use mathlib.Core.Logic.{◌⊎◌, inl, inr}
 use native.Mathlib.Omega.{arith}
 use borrow.Author.Tests.{leb-true, eqb-true, eqb-false, eq-eqb, ne_eqb}
@@ -21,12 +21,12 @@ use Rattle.account.specs.Sorts.{sort_of}
 use Rattle.account.specs.Account.{refused}
 use Rattle.account.specs.Judge.{WholeRecord, version_of, kind_byte, record_row, values_of, first, refusals, NotRefused, Step, accepted, judge}
 use Rattle.account.specs.Told.{TellsIn}
-use Rattle.account.specs.Compared.{bad_field, shares_of, parts_of, grazed_with}
+use Rattle.account.specs.Compared.{bad_field}
 use Rattle.account.proofs.Told.{tells-fit, lines-short}
 use Rattle.codec.proofs.EachKind.{row-least, row-most, row-of-kind}
 use Rattle.account.proofs.Sorts.{by-sort}
 use Rattle.account.proofs.Refusals.{none-refuses, refused-by, number-most, judged-passes}
-use Rattle.why.specs.Inner.{Sized, Parted, Faulty}
+use Rattle.why.specs.Inner.{Sized, Faulty}
 
 -- the number of the first refusal
 abbrev pub number_of : Account → List ℕ → ℕ
@@ -146,21 +146,6 @@ module _ {a : Account} {r : List ℕ} {code field : ℕ} (f : Faulty a r code fi
   pub in-range : 8 ≤ code → (i : ℕ) → i < length (fields (record_row r))
       → Within (get_or (fields (record_row r)) i (0, 0, 0)) (get_or (values_of r) (0 + i) 0)
   in-range h = ranges (values_of r) (fields (record_row r)) 0 (eqb-true _ _ (not-false _ (f.broken.values.in_range.0 (omega arith))))
-
-  -- 10 is of kind 4, 5 or 10
-  pub of_parts : code ≡ 10 → Parted (record_row r)
-  of_parts e = go (eqb (record_row r) 4) (eqb (record_row r) 5) (eqb (record_row r) 10) refl refl refl (f.broken.values.together.1 (sym e))
-    where
-      v : List ℕ
-      v = values_of r
-
-      go : (x y z : Bool) → eqb (record_row r) 4 ≡ x → eqb (record_row r) 5 ≡ y → eqb (record_row r) 10 ≡ z
-          → pick x (not (eqb (shares_of v) 10000)) (pick y (ltb 1000 (parts_of v)) false) || (z && ltb 10000 (grazed_with a.used.grazed v)) ≡ true
-          → Parted (record_row r)
-      go true y z p q s t = inl (eqb-true _ _ p)
-      go false true z p q s t = inr (inl (eqb-true _ _ q))
-      go false false true p q s t = inr (inr (eqb-true _ _ s))
-      go false false false p q s t = no_bool t
 
   -- 9 is of kind 3, 4 or 5
   pub of-days : code ≡ 9 → (record_row r ≡ 3) ⊎ ((record_row r ≡ 4) ⊎ (record_row r ≡ 5))

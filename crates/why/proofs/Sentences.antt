@@ -5,6 +5,7 @@ use mathlib.Core.Path.{◌≡◌, refl}
 use mathlib.Core.List.{List, [], ◌∷◌, ◌++◌}
 use mathlib.Core.Bool.{true, false}
 use lib.ListN.{replicate}
+use Rattle.std.specs.Prelude.{Some}
 use Rattle.base.specs.Bytes.{index_of, index_after}
 use Rattle.typed_words.specs.Words.{nth_part}
 use Rattle.printing.specs.Ascii.{ascii}
@@ -26,9 +27,7 @@ because code field kind group value limit =
       kind = kind;
       row = kind;
       group = group;
-      some = true;
-      value = value;
-      limit = limit;
+      compares = Some (record { value = value; limit = limit });
     }
 
 -- a value with its unit

@@ -3,7 +3,7 @@
 -- next length isn't known yet."
 -- Assumes nothing.
 use Prim.Native.Nat.{ℕ, ◌+◌, ◌-◌, ◌≤◌, ◌<◌}
-use mathlib.Core.Path.{◌≡◌, refl, sym, ap, ◌∙◌}
+use mathlib.Core.Path.{◌≡◌, refl, sym, subst, ap, ◌∙◌}
 use mathlib.Core.List.{List, ◌∷◌, ◌++◌}
 use mathlib.Core.Bool.{Bool, true, false, ◌||◌}
 use mathlib.Core.Logic.{◌⊎◌, inl, inr, ⊎_elim}
@@ -17,8 +17,8 @@ use Rattle.base.proofs.Tests.{of-choice, or_cases}
 use Rattle.codec.specs.Codec.{val_at}
 use Rattle.account.specs.declared.Account.{Account}
 use Rattle.account.specs.Account.{no_record, refused}
-use Rattle.account.specs.Judge.{RefusedBy, judge}
-use Rattle.account.specs.Compared.{compared, ComparesWrongly}
+use Rattle.account.specs.Judge.{kind_byte, record_row, values_of, RefusedBy, judge}
+use Rattle.account.specs.Compared.{Compared, values_compared, compared, ComparesWrongly}
 use Rattle.account.proofs.Keeps.{stage-most, in-range-judge, in-range-none}
 use Rattle.account.proofs.Compares.{compares-wrongly, length-beyond}
 use Rattle.book.specs.declared.State.{State}
@@ -33,8 +33,8 @@ use Rattle.book.proofs.RecordRuns.{record-in, record-whole}
 use Rattle.why.specs.declared.Reason.{Reason}
 use Rattle.why.specs.declared.Verdict.{Verdict}
 use Rattle.why.specs.declared.Verdict.TheVariants.{Accepted, Missing, NextLength, Refused}
-use Rattle.why.specs.Why.{reason, reason_of, unfinished_by, accepted_by, why_by, why_of}
-use Rattle.why.specs.Promised.{bytes_told, account_before, numbers_told, BrokenRecord, Truth, begun}
+use Rattle.why.specs.Why.{told, reason, reason_of, unfinished_by, accepted_by, why_by, why_of}
+use Rattle.why.specs.Promised.{bytes_told, account_before, as_compared, numbers_told, BrokenRecord, Truth, begun}
 use Rattle.why.specs.Promised.{MissingExact, AfterClose, IsAccepted, Unfinished}
 use Rattle.why.specs.Inner.{unread, ended}
 use Rattle.why.proofs.Faults.{faulty, refused-is}
@@ -171,6 +171,26 @@ off-length n e =
 told-bytes : (w : Reason) (xs : List ℕ) (at n : ℕ) → w.first ≡ at → w.last + 1 ≡ at + n → bytes_told w xs ≡ take n (drop at xs)
 told-bytes w xs at n p q = let e : w.last + 1 - w.first ≡ n = omega (arith, p, q) in rw (e, p)
 
+-- what the code has of it is all that is compared
+abbrev IsKept : Compared → Type 0
+IsKept x = as_compared (told x) ≡ x
+
+kept-pick : (b : Bool) {x y : Compared} → IsKept x → IsKept y → IsKept (pick b x y)
+kept-pick true p q = p
+kept-pick false p q = q
+
+kept-values : (c : ℕ) (a : Account) (row : ℕ) (v : List ℕ) → IsKept (values_compared c a row v)
+unfolding values_compared
+kept-values c a row v =
+    kept-pick (eqb c 7) refl (kept-pick (eqb c 8) refl (kept-pick (eqb c 9) refl
+    (kept-pick (eqb c 10) (kept-pick (eqb row 4) refl (kept-pick (eqb row 5) refl refl)) (kept-pick (eqb c 12) refl refl))))
+
+kept : (c : ℕ) (a : Account) (r : List ℕ) → IsKept (compared c a r)
+unfolding compared
+kept c a r =
+    kept-pick (eqb c 1) refl (kept-pick (eqb c 2) (kept-pick (eqb (kind_byte r) 1) refl refl) (kept-pick (eqb c 3) refl
+    (kept-pick (eqb c 4) refl (kept-values c a (record_row r) (values_of r)))))
+
 broken-record : (w : Reason) (xs : List ℕ) (a : Account) (r : List ℕ) → bytes_told w xs ≡ r → account_before w xs ≡ a
     → drop w.number (records_of xs) ≡ r ∷ records_of (drop (w.last + 1) xs) → (judge a r).account ≡ refused a w.code w.field
     → RefusedBy w.code a r → ComparesWrongly w.code a r (numbers_told w) → BrokenRecord w xs
@@ -200,7 +220,8 @@ module _ {xs : List ℕ} {a : Account} {at : ℕ} (w : Way xs a at) where
         other = λ e.
             broken-record z xs a r (told-bytes z xs at n refl d) w.account
             (next-record w n f k ∙ ap (λ (m : ℕ). r ∷ records_of (drop m xs)) (sym d))
-            (refused-is a r w.early s) g.broken (compares-wrongly code a r g.broken);
+            (refused-is a r w.early s) g.broken
+            (subst (λ (x : Compared). ComparesWrongly code a r x) (sym (kept code a r)) (compares-wrongly code a r g.broken));
       }
 
   -- a length that no record has

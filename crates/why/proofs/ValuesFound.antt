@@ -1,49 +1,30 @@
 -- The values of a record, and what is compared of them, as the code finds them.
 -- Assumes nothing.
 use Prim.Native.Nat.{ℕ, ◌+◌, ◌-◌, ◌≤◌, ◌<◌}
-use mathlib.Core.Path.{◌≡◌, refl, sym, ap, ◌∙◌}
+use mathlib.Core.Path.{◌≡◌, refl, sym, ◌∙◌}
 use mathlib.Core.List.{List}
-use mathlib.Core.Bool.{true, false, ◌||◌}
+use mathlib.Core.Bool.{true, false}
 use mathlib.Core.Logic.{inl, inr, ⊎_elim}
 use native.Mathlib.Omega.{arith}
-use borrow.Author.Tests.{eq-eqb, ne_eqb, lt-ltb, le-ltb, ltb-false}
-use lib.Dec.{ltb}
+use Rattle.std.specs.Prelude.{Option}
+use borrow.Author.Tests.{eq-eqb, ne_eqb, lt-ltb, le-ltb}
 use lib.ListN.{length, get_or, take, get_or-eq_default}
 use lib.Seq.{length-take-le}
-use Rattle.base.proofs.Tests.{lt-or-ge, or_r}
-use Rattle.codec.specs.Table.{table, fields, size, length_of, last_kind, last_row}
-use Rattle.codec.specs.Codec.{val_at, values_at, in_twelve}
+use Rattle.base.proofs.Tests.{lt-or-ge}
+use Rattle.codec.specs.Table.{table, fields, length_of, last_kind}
+use Rattle.codec.specs.Codec.{val_at}
 use Rattle.codec.proofs.BigEndian.{one_byte}
 use Rattle.codec.proofs.Within.{ranges}
-use Rattle.codec.proofs.Values.{values_length}
-use Rattle.codec.proofs.Rows.{fields-few}
-use Rattle.by_row.proofs.Columns.{twelve-at}
 use Rattle.account.specs.declared.Account.{Account}
 use Rattle.account.specs.Judge.{version_of, kind_byte, record_row, values_of}
 use Rattle.account.specs.Compared.{no_numbers, numbers, outside, bad_field, range_of, value_at, days_with, values_compared, compared}
 use Rattle.book.specs.Front.{unfinished, bad_length, whole, front, bad}
 use Rattle.book.proofs.Fronts.{length-take-two}
 use Rattle.why.specs.declared.Reason.{Reason}
-use Rattle.why.specs.declared.compared.Numbers.{Numbers}
-use Rattle.why.specs.Why.{reason}
+use Rattle.why.specs.declared.Numbers.{Numbers}
+use Rattle.why.specs.Why.{told, reason}
 use Rattle.why.specs.declared.Verdict.TheVariants.{Missing, NextLength, Refused}
-use Rattle.why.specs.Inner.{told, Sized, Parted, parts_told, version_told, unread}
-
--- ---- one value of a record
-
-module _ (r : List ℕ) {row : ℕ} (f : row ≡ record_row r) where
-  -- its values are there
-  pub values-there : Sized r → (row ≤ last_row) × (4 + size (fields row) ≤ length r)
-  values-there s = rw f (s.most, omega (arith, s.long))
-
-  -- the value i of them, in twelve places, or behind them
-  pub value-is : (i : ℕ) {v : List ℕ} → v ≡ in_twelve (values_at (fields row) r 4) → get_or v i 0 ≡ get_or (values_of r) i 0
-  value-is i e =
-      ap (λ (l : List ℕ). get_or l i 0) e ∙ twelve-at (values_at (fields row) r 4) i ∙ ap (λ (k : ℕ). get_or (values_at (fields k) r 4) i 0) f
-
-  pub no_value : (i : ℕ) → 12 ≤ i → 0 ≡ get_or (values_of r) i 0
-  no_value i h =
-      sym (get_or-eq_default (values_of r) 0 (omega (arith, values_length (fields (record_row r)) r 4, fields-few (record_row r))))
+use Rattle.why.specs.Inner.{Parted, parts_told, version_told, unread}
 
 -- ---- shares and parts
 
@@ -61,17 +42,6 @@ module _ {k : ℕ} (v : List ℕ) where
   unfolding table
   fraction-small e b = (ranges v (fields 10) 0 (rw e at b) 3 (omega arith)).below
 
-  module _ (g : ℕ) {n : Numbers} where
-    pub shares-told : {x y z : ℕ} → k ≡ 4 → x ≡ get_or v 6 0 → y ≡ get_or v 7 0 → z ≡ get_or v 8 0 → n ≡ told (numbers (x + y + z) 10000)
-        → n ≡ parts_told g k v
-    shares-told e p q s t = t ∙ rw (p, q, s, eq-eqb _ _ e) refl
-
-    pub parts-told : {x y : ℕ} → (k ≡ 4 → ⊥) → k ≡ 5 → x ≡ get_or v 8 0 → y ≡ get_or v 10 0 → n ≡ told (numbers (x + y) 1000) → n ≡ parts_told g k v
-    parts-told e f p q t = t ∙ rw (p, q, ne_eqb _ _ e, eq-eqb _ _ f) refl
-
-    pub fractions-told : {x : ℕ} → (k ≡ 4 → ⊥) → (k ≡ 5 → ⊥) → x ≡ get_or v 3 0 → n ≡ told (numbers (g + x) 10000) → n ≡ parts_told g k v
-    fractions-told e f p t = t ∙ rw (p, ne_eqb _ _ e, ne_eqb _ _ f) refl
-
 -- the last of the three kinds
 pub last-part : {k : ℕ} → Parted k → (k ≡ 4 → ⊥) → (k ≡ 5 → ⊥) → k ≡ 10
 last-part (inl e) m n = absurd (m e)
@@ -80,7 +50,7 @@ last-part (inr (inr e)) m n = e
 
 -- ---- what is compared of the values, by the number
 
-module _ (a : Account) (k : ℕ) (v : List ℕ) {c : ℕ} {n : Numbers} where
+module _ (a : Account) (k : ℕ) (v : List ℕ) {c : ℕ} {n : Option Numbers} where
   pub by-seven : {p : ℕ} → c ≡ 7 → p ≡ bad_field k v → n ≡ told (outside (range_of k p).1 (range_of k p).2 (value_at v p))
       → n ≡ told (values_compared c a k v)
   unfolding values_compared
@@ -108,14 +78,14 @@ module _ (a : Account) (k : ℕ) (v : List ℕ) {c : ℕ} {n : Numbers} where
 
 -- ---- and of the record
 
-module _ (r : List ℕ) {x : ℕ} (p : x ≡ val_at r 2 1) {n : Numbers} where
+module _ (r : List ℕ) {x : ℕ} (p : x ≡ val_at r 2 1) {n : Option Numbers} where
   pub farm-version : kind_byte r ≡ 1 → n ≡ told (outside 1 2 x) → n ≡ version_told r
   farm-version k t = t ∙ rw (p, sym (one_byte r 2 (version_of r) refl), eq-eqb _ _ k) refl
 
   pub other-version : (kind_byte r ≡ 1 → ⊥) → n ≡ told (numbers x 1) → n ≡ version_told r
   other-version k t = t ∙ rw (p, sym (one_byte r 2 (version_of r) refl), ne_eqb _ _ k) refl
 
-module _ (a : Account) (r : List ℕ) {c : ℕ} {n : Numbers} where
+module _ (a : Account) (r : List ℕ) {c : ℕ} {n : Option Numbers} where
   pub by_two : c ≡ 2 → n ≡ version_told r → n ≡ told (compared c a r)
   unfolding compared
   by_two e t = t ∙ rw e refl
@@ -139,7 +109,7 @@ past-four h p q s = omega (arith, p, q, s)
 
 -- ---- a length that no record has
 
-pub broken-told : (a : Account) (at : ℕ) (rest : List ℕ) {x : ℕ} {n : Numbers} → 2 ≤ length rest → x ≡ val_at rest 0 2 → n ≡ told (outside 4 26 x)
+pub broken-told : (a : Account) (at : ℕ) (rest : List ℕ) {x : ℕ} {n : Option Numbers} → 2 ≤ length rest → x ≡ val_at rest 0 2 → n ≡ told (outside 4 26 x)
     → ◌≡◌ {A = Reason} (record {
       code = 1;
       number = a.records;
@@ -149,9 +119,7 @@ pub broken-told : (a : Account) (at : ℕ) (rest : List ℕ) {x : ℕ} {n : Numb
       kind = 0;
       row = 0;
       group = a.heading.group;
-      some = n.some;
-      value = n.value;
-      limit = n.limit;
+      compares = n;
     })
     (reason 1 a.records 0 at a (take 2 rest))
 unfolding compared
@@ -162,9 +130,6 @@ broken-told a at rest h p t =
     rw (l, y, z, length-take-two rest 2 (omega arith), t, p) refl
 
 -- ---- no whole record
-
-pub good-small : (n : ℕ) → ltb n 4 || ltb 26 n ≡ false → n ≤ 26
-good-small n e = ltb-false _ _ (or_r (ltb n 4) (ltb 26 n) e)
 
 module _ (rest : List ℕ) where
   pub front-short : length rest < 2 → front rest ≡ unfinished

@@ -4,6 +4,7 @@ use Prim.Native.Nat.{ℕ, ◌+◌}
 use mathlib.Core.Path.{◌≡◌, refl}
 use mathlib.Core.List.{List, [], ◌∷◌, ◌++◌}
 use mathlib.Core.Bool.{true, false}
+use Rattle.std.specs.Prelude.{Some, None}
 use Rattle.codec.specs.Table.{table, size}
 use Rattle.codec.specs.Codec.{val_at, values_at, first_bad}
 use Rattle.grams.specs.Cattle.{below_zero}
@@ -65,9 +66,7 @@ told_of code number from to field kind row group value limit =
       kind = kind;
       row = row;
       group = group;
-      some = true;
-      value = value;
-      limit = limit;
+      compares = Some (record { value = value; limit = limit });
     })
 
 -- the same, the kind being the row: before any heading, and after that of group 12
@@ -169,7 +168,7 @@ broken-12 = refl
 
 -- no numbers: out of its place
 pub broken-6 : why_of (joined (farm ∷ ration 31 ∷ []))
-    ≡ Refused (record { code = 6; number = 1; first = 11; last = 22; field = 0; kind = 3; row = 3; group = 0; some = false; value = 0; limit = 0 })
+    ≡ Refused (record { code = 6; number = 1; first = 11; last = 22; field = 0; kind = 3; row = 3; group = 0; compares = None })
 unfolding why_of why_by run book book_by front val_at first judge accepted sort_of table size values_at first_bad in_place_lem records_of records_by
     compared values_compared
 broken-6 = refl
@@ -191,7 +190,7 @@ unfolding why_of why_by run book book_by front val_at first judge accepted sort_
 broken-10-grazed = refl
 
 pub broken-11 : why_of (headed (cattle 1 1 ∷ []))
-    ≡ Refused (record { code = 11; number = 2; first = 20; last = 41; field = 0; kind = 4; row = 4; group = 12; some = false; value = 0; limit = 0 })
+    ≡ Refused (record { code = 11; number = 2; first = 20; last = 41; field = 0; kind = 4; row = 4; group = 12; compares = None })
 unfolding why_of why_by run book book_by front val_at first judge accepted sort_of table size values_at first_bad in_place_lem records_of records_by
     compared values_compared below_zero
 broken-11 = refl

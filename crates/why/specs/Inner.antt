@@ -1,21 +1,17 @@
 -- For the contracts of the inner functions of src/compared, lib and field_values, in parts. A reader of the promises can pass this file over: no
 -- public contract cites it.
 -- Assumes nothing.
-use Rattle.std.specs.Prelude.{ℕ, ◌+◌, ◌≤◌, ◌≡◌, List, ◌⊎◌, length, take, ltb, eqb}
+use Rattle.std.specs.Prelude.{ℕ, ◌+◌, ◌≤◌, ◌≡◌, List, ◌⊎◌, Option, length, take, ltb, eqb}
 use Rattle.base.specs.Choice.{pick}
 use Rattle.codec.specs.Table.{last_row, length_of}
 use Rattle.account.specs.declared.Account.{Account}
 use Rattle.account.specs.Judge.{WholeRecord, version_of, kind_byte, record_row, values_of, RefusedBy}
-use Rattle.account.specs.Compared.{Compared, numbers, outside, bad_field, shares_of, parts_of, grazed_with}
+use Rattle.account.specs.Compared.{numbers, outside, bad_field, shares_of, parts_of, grazed_with}
 use Rattle.book.specs.Front.{Front, unfinished, bad_length, whole}
 use Rattle.why.specs.declared.Verdict.{Verdict}
 use Rattle.why.specs.declared.Verdict.TheVariants.{Accepted, NextLength, Refused}
-use Rattle.why.specs.declared.compared.Numbers.{Numbers}
-use Rattle.why.specs.Why.{reason, unfinished_by}
-
--- what is compared, as the code has it
-abbrev pub told : Compared → Numbers
-told x = record { some = x.some; value = x.value; limit = x.limit }
+use Rattle.why.specs.declared.Numbers.{Numbers}
+use Rattle.why.specs.Why.{told, reason, unfinished_by}
 
 -- r is a record of a row of the table, with the length of its row
 pub record Sized (r : List ℕ) : Type 0 where
@@ -28,11 +24,11 @@ abbrev pub Parted : ℕ → Type 0
 Parted k = (k ≡ 4) ⊎ ((k ≡ 5) ⊎ (k ≡ 10))
 
 -- what is compared of them, with the fraction grazed before
-abbrev pub parts_told : ℕ → ℕ → List ℕ → Numbers
+abbrev pub parts_told : ℕ → ℕ → List ℕ → Option Numbers
 parts_told g k v = told (pick (eqb k 4) (numbers (shares_of v) 10000) (pick (eqb k 5) (numbers (parts_of v) 1000) (numbers (grazed_with g v) 10000)))
 
 -- what is compared of a version: that of a farm record is 1 or 2, any other is 1
-abbrev pub version_told : List ℕ → Numbers
+abbrev pub version_told : List ℕ → Option Numbers
 version_told r = told (pick (eqb (kind_byte r) 1) (outside 1 2 (version_of r)) (numbers (version_of r) 1))
 
 -- the whole record r is refused by the number code, with that field

@@ -1,18 +1,19 @@
 -- Document 02, W6: "It is proved to speak the truth: the rule named is broken in that record, every rule tried earlier holds there, and all records
 -- before it are accepted." The words of these promises.
 -- Assumes nothing.
-use Rattle.std.specs.Prelude.{ℕ, ◌+◌, ◌-◌, ◌<◌, ◌≡◌, List, [], ◌∷◌, ◌++◌, Bool, length, take, drop, ltb}
+use Rattle.std.specs.Prelude.{ℕ, ◌+◌, ◌-◌, ◌<◌, ◌≡◌, List, [], ◌∷◌, ◌++◌, Bool, Option, Some, None, length, take, drop, ltb}
 use Rattle.codec.specs.Table.{length_most_lem}
 use Rattle.codec.specs.Codec.{val_at}
 use Rattle.account.specs.declared.Account.{Account}
 use Rattle.account.specs.Account.{no_record, refused}
 use Rattle.account.specs.Judge.{NotRefused, RefusedBy, judge}
 use Rattle.account.specs.Line.{joined}
-use Rattle.account.specs.Compared.{Compared, BeyondEnd, ComparesWrongly}
+use Rattle.account.specs.Compared.{Compared, no_numbers, numbers, BeyondEnd, ComparesWrongly}
 use Rattle.book.specs.Front.{unfinished, whole, front}
 use Rattle.book.specs.WholeRecords.{records_of}
 use Rattle.book.specs.State.{held_of, no_record_yet}
 use Rattle.book.specs.Run.{run}
+use Rattle.why.specs.declared.Numbers.{Numbers}
 use Rattle.why.specs.declared.Reason.{Reason}
 use Rattle.why.specs.declared.Verdict.{Verdict}
 use Rattle.why.specs.declared.Verdict.TheVariants.{Accepted, Missing, NextLength, Refused}
@@ -38,14 +39,19 @@ records_before w xs = take w.number (records_of xs)
 abbrev pub account_before : Reason → List ℕ → Account
 account_before w xs = behind no_record (records_before w xs)
 
+-- two numbers that are compared, or none
+abbrev pub as_compared : Option Numbers → Compared
+as_compared (Some n) = numbers n.value n.limit
+as_compared None = no_numbers
+
 abbrev pub numbers_told : Reason → Compared
-numbers_told w = record { some = w.some; value = w.value; limit = w.limit }
+numbers_told w = as_compared w.compares
 
 -- refused by 1: the two bytes of a length that no record has
 pub record BrokenLength (w : Reason) (xs : List ℕ) : Type 0 where
   pub field : w.field ≡ 0
   pub last : w.last ≡ w.first + 1
-  pub value : w.value ≡ val_at (bytes_told w xs) 0 2
+  pub value : (numbers_told w).value ≡ val_at (bytes_told w xs) 0 2
   pub beyond : BeyondEnd 4 length_most_lem (numbers_told w)
 
 -- refused by another: a whole record, which breaks the rule named and none that is tried before it

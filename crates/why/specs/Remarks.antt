@@ -1,6 +1,6 @@
 -- What is told of a book: a line for machines, and one for people with the names of records and fields. And the byte of the exit status.
 -- Assumes nothing.
-use Rattle.std.specs.Prelude.{ℕ, ◌-◌, List, [], ◌++◌, Bool, true, false, ◌&&◌, ◌||◌, not, ltb, eqb}
+use Rattle.std.specs.Prelude.{ℕ, ◌-◌, List, [], ◌++◌, Option, Some, None, Bool, true, false, ◌&&◌, ◌||◌, not, ltb, eqb}
 use Rattle.base.specs.Choice.{pick}
 use Rattle.codec.specs.Table.{is_kind, last_row}
 use Rattle.account.specs.Sorts.{is_of_group}
@@ -8,6 +8,7 @@ use Rattle.printing.specs.Ascii.{ascii}
 use Rattle.printing.specs.Decimal.{decimal, pointed}
 use Rattle.typed_words.specs.Words.{nth_part}
 use Rattle.names.specs.Names.{kind_name, field_name, decimals_at, unit_text, sentence}
+use Rattle.why.specs.declared.Numbers.{Numbers}
 use Rattle.why.specs.declared.Reason.{Reason}
 use Rattle.why.specs.declared.Verdict.{Verdict}
 use Rattle.why.specs.declared.Verdict.TheVariants.{Accepted, Missing, NextLength, Refused}
@@ -21,14 +22,15 @@ place_text number first last =
 abbrev pub position_text : ℕ → List ℕ
 position_text field = pick (eqb field 0) [] (ascii " field " ++ decimal field)
 
-abbrev pub numbers_text : Bool → ℕ → ℕ → List ℕ
-numbers_text some value limit = pick some (ascii " value " ++ (decimal value ++ (ascii " limit " ++ decimal limit))) []
+abbrev pub numbers_text : Option Numbers → List ℕ
+numbers_text (Some n) = ascii " value " ++ (decimal n.value ++ (ascii " limit " ++ decimal n.limit))
+numbers_text None = []
 
 unfoldable pub refused_text : Reason → List ℕ
 refused_text w =
     ascii "refused "
     ++ (decimal w.code
-    ++ (place_text w.number w.first w.last ++ (position_text w.field ++ (numbers_text w.some w.value w.limit ++ ascii "\n"))))
+    ++ (place_text w.number w.first w.last ++ (position_text w.field ++ (numbers_text w.compares ++ ascii "\n"))))
 
 unfoldable pub missing_text : ℕ → List ℕ
 missing_text n = ascii "unfinished: " ++ (decimal n ++ ascii " bytes missing\n")
@@ -93,17 +95,21 @@ relation_text code kind value limit =
     (pick (exactly code kind) []
     (pick (ltb value limit) (ascii "at least ") (ascii "at most ")))
 
-unfoldable pub compared_text : Reason → List ℕ
-compared_text w =
+unfoldable pub compared_text : Reason → Numbers → List ℕ
+compared_text w n =
     let i = measured_by w.code w.row w.field in
     subject_text w.code w.row w.field
     ++ (ascii " is "
-    ++ (measured_text w.row i w.value
-    ++ (ascii "; it must be " ++ (relation_text w.code w.kind w.value w.limit ++ amount_text w.row i w.limit))))
+    ++ (measured_text w.row i n.value
+    ++ (ascii "; it must be " ++ (relation_text w.code w.kind n.value n.limit ++ amount_text w.row i n.limit))))
 
 -- the rule's sentence where no numbers are compared
+abbrev pub fault_by : Reason → Option Numbers → List ℕ
+fault_by w (Some n) = compared_text w n
+fault_by w None = ascii " " ++ sentence w.code
+
 abbrev pub fault_text : Reason → List ℕ
-fault_text w = pick w.some (compared_text w) (ascii " " ++ sentence w.code)
+fault_text w = fault_by w w.compares
 
 unfoldable pub reason_text : Reason → List ℕ
 reason_text w = where_text w.number w.kind w.group ++ (ascii ":" ++ (fault_text w ++ ascii "\n"))

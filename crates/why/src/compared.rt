@@ -2,9 +2,11 @@
 ghost use Rattle.std.specs.Prelude.{◌≡◌, ◌≤◌, length};
 ghost use Rattle.codec.specs.Table.{length_of, last_row};
 ghost use Rattle.account.specs.Judge.{record_row, values_of};
-ghost use Rattle.account.specs.Compared.{no_numbers, numbers, outside, bad_field, range_of, value_at, days_with, values_compared, compared};
-ghost use Rattle.why.specs.Inner.{told, Sized, Parted, parts_told, version_told, Faulty};
+ghost use Rattle.account.specs.Compared.{numbers, outside, bad_field, range_of, value_at, days_with, values_compared, compared};
+ghost use Rattle.why.specs.Why.{told};
+ghost use Rattle.why.specs.Inner.{Sized, Parted, parts_told, version_told, Faulty};
 
+use crate::Numbers;
 use crate::field_values::value_at;
 use account::{Account, Used};
 use by_row::table::{highest, lowest, row_of};
@@ -12,36 +14,14 @@ use codec::LAST_KIND;
 use codec::kinds::{CATTLE, ENTERIC, FARM, PIG, bytes_of};
 use codec::numbers::{be8, be16};
 
-// The two numbers that are compared, where there are any.
-#[derive(Clone, Copy)]
-pub(crate) struct Numbers {
-    pub some: bool,
-    pub value: u64,
-    pub limit: u64,
-}
-
-fn none() -> Numbers
-    ensures { result ≡ told no_numbers }
-{
-    Numbers {
-        some: false,
-        value: 0,
-        limit: 0,
-    }
-}
-
-fn both(value: u64, limit: u64) -> Numbers
+fn both(value: u64, limit: u64) -> Option<Numbers>
     ensures { result ≡ told (numbers value limit) }
 {
-    Numbers {
-        some: true,
-        value: value,
-        limit: limit,
-    }
+    Some(Numbers { value, limit })
 }
 
 // A value outside of lowest to highest, and the end that it crossed.
-pub(crate) fn outside(lowest: u64, highest: u64, value: u64) -> Numbers
+pub(crate) fn outside(lowest: u64, highest: u64, value: u64) -> Option<Numbers>
     ensures { result ≡ told (outside lowest highest value) }
 {
     if value < lowest {
@@ -51,7 +31,7 @@ pub(crate) fn outside(lowest: u64, highest: u64, value: u64) -> Numbers
 }
 
 // The version, which is 1 or 2 of a farm record and 1 of any other.
-fn version(r: &[u8]) -> Numbers
+fn version(r: &[u8]) -> Option<Numbers>
     requires { 4 ≤ length r.now }
     ensures { result ≡ version_told r.now }
 {
@@ -71,7 +51,7 @@ fn length_of(row: u8) -> u64
 }
 
 // The value of the field at that position, and the end of its range that it crossed.
-fn out_of_range(r: &[u8], row: u8, position: u8) -> Numbers
+fn out_of_range(r: &[u8], row: u8, position: u8) -> Option<Numbers>
     requires { Sized r.now × (row ≡ record_row r.now) × (1 ≤ position) × (position ≤ 12) }
     ensures { result ≡ told (outside (range_of row position).1 (range_of row position).2 (value_at (values_of r.now) position)) }
 {
@@ -95,7 +75,7 @@ fn days_with(used: Used, kind: u8, more: u64) -> u64
 }
 
 // A cattle record's shares together, a pig record's parts, or the grazed fractions with this record's.
-fn together(grazed: u32, r: &[u8], kind: u8) -> Numbers
+fn together(grazed: u32, r: &[u8], kind: u8) -> Option<Numbers>
     requires { Sized r.now × (kind ≡ record_row r.now) × (bad_field kind (values_of r.now) ≡ 0) × Parted kind }
     ensures { result ≡ parts_told grazed kind (values_of r.now) }
 {
@@ -112,7 +92,7 @@ fn together(grazed: u32, r: &[u8], kind: u8) -> Numbers
 }
 
 // The numbers from 5 on: what is compared of the values.
-fn of_values(a: Account, r: &[u8], code: u8, field: u8) -> Numbers
+fn of_values(a: Account, r: &[u8], code: u8, field: u8) -> Option<Numbers>
     requires { Faulty a r.now code field × (5 ≤ code) }
     ensures { result ≡ told (values_compared code a (record_row r.now) (values_of r.now)) }
 {
@@ -126,12 +106,12 @@ fn of_values(a: Account, r: &[u8], code: u8, field: u8) -> Numbers
         9 => both(days_with(used, row, first), 366),
         10 => together(used.grazed, r, row),
         12 => both(first, a.records as u64),
-        _ => none(),
+        _ => None,
     }
 }
 
 // What the number that refuses the record r compares.
-pub(crate) fn compared(a: Account, r: &[u8], code: u8, field: u8) -> Numbers
+pub(crate) fn compared(a: Account, r: &[u8], code: u8, field: u8) -> Option<Numbers>
     requires { Faulty a r.now code field }
     ensures { result ≡ told (compared code a r.now) }
 {

@@ -21,9 +21,16 @@ use codec::LENGTH_MOST;
 use codec::numbers::be16;
 use walk::next_alone;
 
+// The two numbers that a rule compares.
+#[derive(Clone, Copy)]
+pub struct Numbers {
+    pub value: u64,
+    pub limit: u64,
+}
+
 // Why a record is refused: the rule's number, the record's number and its first and last byte, all from 0; the field from 1, with 7 alone; the kind
-// byte; the row of the table by which its fields are named; the group of the heading before it, 0 where there is none; and the value and the limit,
-// where there are any.
+// byte; the row of the table by which its fields are named; the group of the heading before it, 0 where there is none; and what the rule compares,
+// where it compares numbers.
 #[derive(Clone, Copy)]
 pub struct Reason {
     pub code: u8,
@@ -34,16 +41,14 @@ pub struct Reason {
     pub kind: u8,
     pub row: u8,
     pub group: u16,
-    pub some: bool,
-    pub value: u64,
-    pub limit: u64,
+    pub compares: Option<Numbers>,
 }
 
-// What there is to say of a book. An accepted one has its first byte after the close at that place, and the bool says whether there is one. An
-// unfinished one lacks so many bytes of its last record, or the next record's length is not there yet.
+// What there is to say of a book. An accepted one has its first byte after the close at end, if there are more bytes. An unfinished one lacks so
+// many bytes of its last record, or the next record's length is not there yet.
 #[derive(Clone, Copy)]
 pub enum Verdict {
-    Accepted(usize, bool),
+    Accepted { end: usize, more: bool },
     Missing(usize),
     NextLength,
     Refused(Reason),
@@ -66,9 +71,7 @@ fn broken_length(a: Account, at: usize, rest: &[u8]) -> Reason
         kind: 0,
         row: 0,
         group: heading.group,
-        some: numbers.some,
-        value: numbers.value,
-        limit: numbers.limit,
+        compares: numbers,
     }
 }
 
@@ -105,9 +108,7 @@ fn broken(a: Account, at: usize, r: &[u8], code: u8, field: u8) -> Reason
         kind: r[3],
         row: row,
         group: heading.group,
-        some: numbers.some,
-        value: numbers.value,
-        limit: numbers.limit,
+        compares: numbers,
     }
 }
 
@@ -119,7 +120,8 @@ fn ended(a: Account, at: usize, r: &[u8], next: Account, many: usize) -> Verdict
 {
     if next.stage == 2 {
         let end = at + r.len();
-        return Verdict::Accepted(end, end < many);
+        let more = end < many;
+        return Verdict::Accepted { end, more };
     }
     let f = next.refusal;
     Verdict::Refused(broken(a, at, r, f.code, f.field))
@@ -131,6 +133,7 @@ pub fn why(book: &[u8]) -> Verdict
 {
     let mut a = Account::new();
     let mut at = 0;
+    // A cursor and no count: each record has a length of its own.
     while at < book.len() {
         let rest = rest_of(book, at);
         let t = next_alone(a, rest);

@@ -7,7 +7,7 @@ ghost use Rattle.why.specs.Remarks.{measured_text, exactly, relation_text, compa
 ghost use Rattle.why.specs.Remarks.{closed_text, people_text};
 ghost use Rattle.why.specs.Remarks.{is_accepted, status_byte};
 
-use crate::{Reason, Verdict};
+use crate::{Numbers, Reason, Verdict};
 use account::sort::is_of_group;
 use codec::LAST_KIND;
 use codec::kinds::{CATTLE, FARM, GRAZING, PIG};
@@ -38,17 +38,19 @@ fn say_position(out: &mut [u8], at: usize, field: u64) -> usize
     say_number(out, a, field)
 }
 
-fn say_numbers(out: &mut [u8], at: usize, some: bool, value: u64, limit: u64) -> usize
+fn say_numbers(out: &mut [u8], at: usize, compares: Option<Numbers>) -> usize
     requires { at ≤ length out.old }
-    ensures { Said out.old out.new at (numbers_text some value limit) result }
+    ensures { Said out.old out.new at (numbers_text compares) result }
 {
-    if !some {
-        return at;
+    match compares {
+        None => at,
+        Some(n) => {
+            let a = say(out, at, b" value ");
+            let b = say_number(out, a, n.value);
+            let c = say(out, b, b" limit ");
+            say_number(out, c, n.limit)
+        }
     }
-    let a = say(out, at, b" value ");
-    let b = say_number(out, a, value);
-    let c = say(out, b, b" limit ");
-    say_number(out, c, limit)
 }
 
 fn say_refused(out: &mut [u8], w: Reason) -> usize
@@ -58,7 +60,7 @@ fn say_refused(out: &mut [u8], w: Reason) -> usize
     let b = say_number(out, a, w.code as u64);
     let c = say_place(out, b, w.number as u64, w.first as u64, w.last as u64);
     let d = say_position(out, c, w.field as u64);
-    let e = say_numbers(out, d, w.some, w.value, w.limit);
+    let e = say_numbers(out, d, w.compares);
     say(out, e, b"\n")
 }
 
@@ -75,7 +77,7 @@ pub fn say_first(out: &mut [u8], v: Verdict) -> usize
     ensures { Said out.old out.new 0 (machine_text v) result }
 {
     match v {
-        Verdict::Accepted(end, more) => say(out, 0, b"accepted\n"),
+        Verdict::Accepted { end, more } => say(out, 0, b"accepted\n"),
         Verdict::Missing(n) => say_missing(out, n as u64),
         Verdict::NextLength => say(out, 0, b"unfinished: the next length is not known\n"),
         Verdict::Refused(w) => say_refused(out, w),
@@ -228,28 +230,30 @@ fn say_measured(out: &mut [u8], at: usize, row: u64, i: usize, v: u64) -> usize
     say_unit(out, a, row, i)
 }
 
-fn say_compared(out: &mut [u8], at: usize, w: Reason) -> usize
+fn say_compared(out: &mut [u8], at: usize, w: Reason, n: Numbers) -> usize
     requires { at ≤ length out.old }
-    ensures { Said out.old out.new at (compared_text w) result }
+    ensures { Said out.old out.new at (compared_text w n) result }
 {
     let i = measured(w.code as u64, w.row as u64, w.field as usize);
     let a = say_subject(out, at, w.code as u64, w.row as u64, w.field as usize);
     let b = say(out, a, b" is ");
-    let c = say_measured(out, b, w.row as u64, i, w.value);
+    let c = say_measured(out, b, w.row as u64, i, n.value);
     let d = say(out, c, b"; it must be ");
-    let e = say_relation(out, d, w.code as u64, w.kind as u64, w.value, w.limit);
-    say_amount(out, e, w.row as u64, i, w.limit)
+    let e = say_relation(out, d, w.code as u64, w.kind as u64, n.value, n.limit);
+    say_amount(out, e, w.row as u64, i, n.limit)
 }
 
 fn say_fault(out: &mut [u8], at: usize, w: Reason) -> usize
     requires { at ≤ length out.old }
     ensures { Said out.old out.new at (fault_text w) result }
 {
-    if w.some {
-        return say_compared(out, at, w);
+    match w.compares {
+        Some(n) => say_compared(out, at, w, n),
+        None => {
+            let a = say(out, at, b" ");
+            say_sentence(out, a, w.code as u64)
+        }
     }
-    let a = say(out, at, b" ");
-    say_sentence(out, a, w.code as u64)
 }
 
 fn say_reason(out: &mut [u8], w: Reason) -> usize
@@ -298,7 +302,7 @@ pub fn say_second(out: &mut [u8], v: Verdict) -> usize
     ensures { Said out.old out.new 0 (people_text v) result }
 {
     match v {
-        Verdict::Accepted(end, more) => say_closed(out, end as u64, more),
+        Verdict::Accepted { end, more } => say_closed(out, end as u64, more),
         Verdict::Missing(n) => say_lack(out, n as u64),
         Verdict::NextLength => say(
             out,
@@ -313,7 +317,7 @@ pub fn accepted(v: Verdict) -> bool
     ensures { result ≡ is_accepted v }
 {
     match v {
-        Verdict::Accepted(end, more) => true,
+        Verdict::Accepted { end, more } => true,
         Verdict::Missing(n) => false,
         Verdict::NextLength => false,
         Verdict::Refused(w) => false,

@@ -1,5 +1,5 @@
 use mathlib.Core.Path.{◌∙◌}
-use native.Mathlib.Omega.{arith}
+use Rattle.salvage.specs.declared.Unsaved.TheVariants.{NoFarm, NoRoom}
 use Rattle.salvage.specs.Salvage.{start, found_in, book_of, list_of, refusing, saving}
 use Rattle.salvage.proofs.Answers.{salvage-19, salvage-16, salvage-saved, list-is, rooms, laid_so, gets, lengths-are, still-long}
 use Rattle.salvage.proofs.salvage.Goals as goal
@@ -7,24 +7,17 @@ use Rattle.salvage.proofs.salvage.Goals as goal
 pub returns-then-m-eq0 : goal.returns-then-m-eq0
 returns-then-m-eq0 c = let m = c in
     let a = m.args in
-    let g = gets a.damaged.now a.book.now a.list.now (refusing 19) (salvage-19 _ _ _ _ m.measure-m.ensures c.if-m-eq0.true) in record { answer = g.0; clean = g.1.0; dropped = g.1.1; inside = tt }
+    let g = gets a.damaged.now a.book.now a.list.now (refusing NoFarm) (salvage-19 _ _ _ _ m.measure-m.ensures c.if-m-eq0.true) in record { answer = g.0; clean = g.1.0; dropped = g.1.1; inside = tt }
 
 pub returns-then-book-m : goal.returns-then-book-m
 returns-then-book-m c = let i = c in
     let m = i in
     let a = m.args in
     let short = salvage-16 _ _ _ _ m.measure-m.ensures i.if-m-eq0.false c.if-book-m.true in
-    let g = gets a.damaged.now a.book.now a.list.now (refusing 16) short in record { answer = g.0; clean = g.1.0; dropped = g.1.1; inside = tt }
+    let g = gets a.damaged.now a.book.now a.list.now (refusing NoRoom) short in record { answer = g.0; clean = g.1.0; dropped = g.1.1; inside = tt }
 
 pub write-requires : goal.write-requires
 write-requires c = let m = rooms _ _ _ _ c.measure-m.ensures c.if-book-m.false in record { damaged_in_bounds = m.0; damaged_in_bounds_2 = m.1 }
-
-pub overflow_mul-result : goal.overflow_mul-result
-overflow_mul-result c = let e = c in
-    let d = e.measure-m.ensures in
-    let r = (rooms _ _ _ _ d e.if-book-m.false).1 in
-    let l = list-is _ _ d in
-    omega (arith, r, l, e.well_formed)
 
 pub returns : goal.returns
 returns c = let e = c in

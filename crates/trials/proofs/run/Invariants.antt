@@ -2,10 +2,7 @@ use lib.ListN.{length}
 use mathlib.Core.Path.{◌≡◌}
 use Rattle.trials.proofs.run.Given as goal
 
-abbrev pub invariant-loop-turns : goal.invariant-loop-turns
-invariant-loop-turns g l =
+abbrev pub invariant-loop : goal.invariant-loop
+invariant-loop g l =
     (length l.line ≡ length l.initial.line) × (length l.input ≡ length l.initial.input)
     × (length l.room ≡ length l.initial.room) × (length l.out ≡ length l.initial.out)
-
-abbrev pub decreases-loop-turns : goal.decreases-loop-turns
-decreases-loop-turns g l = l.turns

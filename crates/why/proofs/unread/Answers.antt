@@ -1,6 +1,6 @@
 use mathlib.Core.Path.{sym, ◌∙◌}
 use native.Mathlib.Omega.{arith}
-use Rattle.why.proofs.ValuesFound.{says-short, says-bad, says-missing, front-begun, good-small}
+use Rattle.why.proofs.ValuesFound.{says-short, says-bad, says-missing, front-begun}
 use Rattle.why.proofs.unread.Goals as goal
 
 pub returns-then-rest-lt2 : goal.returns-then-rest-lt2
@@ -10,9 +10,6 @@ pub returns-then-bad_length : goal.returns-then-bad_length
 returns-then-bad_length c = let b = c in
     says-bad _ _ _ b.if-rest-lt2.false (rw b.be16-n.ensures at (sym b.bad_length.ensures ∙ c.if-bad_length.true))
     c.broken_length.ensures
-
-pub overflow_add-result : goal.overflow_add-result
-overflow_add-result c = let b = c in omega (arith, good-small b.be16-n.result (sym b.bad_length.ensures ∙ c.if-bad_length.false))
 
 pub overflow_sub-result : goal.overflow_sub-result
 overflow_sub-result c = let b = c in

@@ -12,17 +12,11 @@ use Rattle.book.proofs.RecordRuns.{record-whole}
 use Rattle.walk.proofs.Walks.{Stands, stands, none-whole}
 use Rattle.why.specs.Inner.{unread}
 use Rattle.why.proofs.Faults.{faulty-told}
-use Rattle.why.proofs.Ways.{way-none, inside, some_bytes, way_next, ended-next, stage-next, why-unread, why-none}
+use Rattle.why.proofs.Ways.{way-none, way_next, ended-next, stage-next, why-unread, why-none}
 use Rattle.why.proofs.why.Goals as goal
 
 pub loop-at-init : goal.loop-at-init
 loop-at-init c = rw c.new-a.ensures (way-none _)
-
-pub rest_of-rest-requires : goal.rest_of-rest-requires
-rest_of-rest-requires c = c.loop-at.invariant.within
-
-pub next_alone-t-requires : goal.next_alone-t-requires
-next_alone-t-requires c = c.loop-at.invariant.range
 
 pub unread-requires : goal.unread-requires
 unread-requires c =
@@ -40,9 +34,6 @@ returns-then-n-eq0 c =
     c.unread.ensures
     ∙ ap (λ (z : List ℕ). unread (front z) l.a l.at z) left_is
     ∙ why-unread l.invariant (front (drop c.loop-at.at c.args.book.now)) refl (none-whole _ _ _ next-is c.if-n-eq0.true l.invariant.early)
-
-pub first_of-r-requires : goal.first_of-r-requires
-first_of-r-requires c = c.next_alone-t.ensures.inside.0
 
 pub ended-requires : goal.ended-requires
 ended-requires c =
@@ -76,21 +67,6 @@ returns-then-next-ge2 c =
     let bytes-are : c.first_of-r.result.now ≡ take c.next_alone-t.result.size (drop c.loop-at.at c.args.book.now) =
     c.first_of-r.ensures ∙ ap (λ (l : List ℕ). take c.next_alone-t.result.size l) left_is in
     c.ended.ensures ∙ ended-next c.loop-at.invariant _ s.front s.size s.account bytes-are c.if-next-ge2.true
-
-pub overflow_add-at : goal.overflow_add-at
-overflow_add-at c =
-    let left_is : c.rest_of-rest.result.now ≡ drop c.loop-at.at c.args.book.now = c.rest_of-rest.ensures in
-    let next-is : c.next_alone-t.result ≡ next_of c.loop-at.a (drop c.loop-at.at c.args.book.now) = rw left_is at c.next_alone-t.ensures.result in
-    let s : Stands c.loop-at.a (drop c.loop-at.at c.args.book.now) c.next_alone-t.result = stands _ _ _ next-is c.if-n-eq0.false in
-    omega (arith, inside c.loop-at.invariant _ s.front s.size, c.well_formed)
-
-pub loop-at-smaller : goal.loop-at-smaller
-loop-at-smaller c =
-    let left_is : c.rest_of-rest.result.now ≡ drop c.loop-at.at c.args.book.now = c.rest_of-rest.ensures in
-    let next-is : c.next_alone-t.result ≡ next_of c.loop-at.a (drop c.loop-at.at c.args.book.now) = rw left_is at c.next_alone-t.ensures.result in
-    let s : Stands c.loop-at.a (drop c.loop-at.at c.args.book.now) c.next_alone-t.result = stands _ _ _ next-is c.if-n-eq0.false in
-    let l = c.loop-at in
-    omega (arith, inside l.invariant _ s.front s.size, some_bytes l.invariant _ s.front s.size)
 
 pub loop-at-preserved : goal.loop-at-preserved
 loop-at-preserved c =

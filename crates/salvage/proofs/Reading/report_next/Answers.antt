@@ -3,18 +3,12 @@ use native.Mathlib.Omega.{arith}
 use Rattle.salvage.proofs.LineSteps.{tells_none, tells-one, four}
 use Rattle.salvage.proofs.Reading.report_next.Goals as goal
 
-pub turn-t-requires : goal.turn-t-requires
-turn-t-requires c = let p = c.requires in (p.0, omega (arith, p.1))
-
 pub returns-then-t-eq0 : goal.returns-then-t-eq0
 returns-then-t-eq0 c = let t = c in
     let s = t in record { tells = tells_none t.turn-t.ensures c.if-t-eq0.true _ _ (omega (arith, s.requires.2)); written_bound = (omega arith, omega arith, s.requires.0); number_bound = omega arith }
 
 pub bounds-xs-3 : goal.bounds-xs-3
 bounds-xs-3 c = let e = c in four e.turn-t.ensures (omega (arith, e.if-t-eq0.false))
-
-pub say_line-end-requires : goal.say_line-end-requires
-say_line-end-requires c = omega (arith, c.requires.2)
 
 pub returns : goal.returns
 returns c = let e = c in

@@ -9,9 +9,6 @@ use Rattle.walk.proofs.Walks.{Stands, stands, next-ready}
 use Rattle.salvage.proofs.OneTurn.{code-told}
 use Rattle.salvage.proofs.Reading.see.Goals as goal
 
-pub next_alone-t-requires : goal.next_alone-t-requires
-next_alone-t-requires c = c.requires.range
-
 pub returns-then-n-eq0 : goal.returns-then-n-eq0
 returns-then-n-eq0 c = let n = c in
     let s = c in
@@ -22,9 +19,6 @@ returns-then-n-eq0 c = let n = c in
       code = λ h. absurd (omega arith);
       account = λ h. absurd (omega arith);
     }
-
-pub first_of-r-requires : goal.first_of-r-requires
-first_of-r-requires c = c.next_alone-t.ensures.inside.0
 
 pub bounds-r-3 : goal.bounds-r-3
 bounds-r-3 c =

@@ -2,40 +2,13 @@ use Prim.Native.Nat.{◌+◌, ◌<◌}
 use native.Mathlib.Omega.{arith}
 use lib.ListN.{drop}
 use Rattle.salvage.specs.Inner.{Turned}
-use Rattle.salvage.proofs.AfterEnd.{Going, going-none, going_on, going-ends, left-stops}
+use Rattle.salvage.proofs.AfterEnd.{Going, going_on, going-ends, left-stops}
 use Rattle.salvage.proofs.how_far.reach.Goals as goal
-
-pub loop-at-init : goal.loop-at-init
-loop-at-init c = rw c.new-s.ensures (going-none _)
-
-pub rest_of-rest-requires : goal.rest_of-rest-requires
-rest_of-rest-requires c = c.loop-at.invariant.within
-
-pub turn-t-requires : goal.turn-t-requires
-turn-t-requires c = let l = c.loop-at.invariant in (l.opened, omega (arith, l.numbered, c.loop-at-test.true, c.well_formed))
 
 pub returns-then-t-eq0 : goal.returns-then-t-eq0
 returns-then-t-eq0 c =
     let turned : Turned c.loop-at.s (drop c.loop-at.at c.args.damaged.now) c.turn-t.result = rw c.rest_of-rest.ensures at c.turn-t.ensures in
     let t = c in going-ends _ _ t.loop-at.invariant ((turned).stops c.if-t-eq0.true)
-
-pub overflow_add-at : goal.overflow_add-at
-overflow_add-at c =
-    let turned : Turned c.loop-at.s (drop c.loop-at.at c.args.damaged.now) c.turn-t.result = rw c.rest_of-rest.ensures at c.turn-t.ensures in
-    let some : 0 < c.turn-t.result.n = omega (arith, c.if-t-eq0.false) in
-    let on : let t = c in
-    let l = t.loop-at in
-    Going t.args.damaged.now t.turn-t.result.next (l.at + t.turn-t.result.n) = let t = c in going_on _ _ (turned) (some) t.loop-at.invariant in
-    let m = on in omega (arith, m.within, c.well_formed)
-
-pub loop-at-smaller : goal.loop-at-smaller
-loop-at-smaller c =
-    let turned : Turned c.loop-at.s (drop c.loop-at.at c.args.damaged.now) c.turn-t.result = rw c.rest_of-rest.ensures at c.turn-t.ensures in
-    let some : 0 < c.turn-t.result.n = omega (arith, c.if-t-eq0.false) in
-    let on : let t = c in
-    let l = t.loop-at in
-    Going t.args.damaged.now t.turn-t.result.next (l.at + t.turn-t.result.n) = let t = c in going_on _ _ (turned) (some) t.loop-at.invariant in
-    let m = on in omega (arith, m.within, some)
 
 pub loop-at-preserved : goal.loop-at-preserved
 loop-at-preserved c =

@@ -1,15 +1,10 @@
 -- A reading of no book has no more records. Assumes nothing.
 use mathlib.Core.Path.{sym, refl, ◌∙◌}
 use native.Mathlib.Omega.{arith}
-use borrow.Author.Rules.{rules}
 use Rattle.printing.proofs.Puts.{none}
 use Rattle.salvage.specs.Lines.{told_by}
 use Rattle.salvage.proofs.LinesInParts.{usable-open, usable-numbers}
 use Rattle.salvage.proofs.lines.report_lines.Goals as goal
-
-pub is_usable-requires : goal.is_usable-requires
-unfolding told_by
-is_usable-requires c = tt
 
 pub returns-then-not-is_usable : goal.returns-then-not-is_usable
 unfolding told_by
@@ -21,10 +16,6 @@ report_some-requires c = let i = c in
     let u = sym i.is_usable.ensures ∙ i.if-not-is_usable.false in
     let s = c in
     (usable-open s.args.from s.args.xs.now u, usable-numbers s.args.from s.args.xs.now u)
-
-pub shape_of-out : goal.shape_of-out
-unfolding told_by
-shape_of-out c = search rules
 
 pub returns : goal.returns
 unfolding told_by

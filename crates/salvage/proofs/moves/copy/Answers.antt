@@ -1,30 +1,15 @@
--- The invariant: copying what is left makes of the buffer what is wanted.
-use mathlib.Core.Path.{refl, sym, ap, ◌∙◌}
+use Prim.Native.Nat.{◌+◌, ◌-◌}
+use mathlib.Core.Path.{◌≡◌, refl, sym, ◌∙◌}
 use native.Mathlib.Omega.{arith}
-use lib.ListN.{take, length-set}
-use lib.Seq.{sets, length-take-le, get_or-take}
-use Rattle.codec.proofs.Stores.{copied-one, copied_all}
+use lib.ListN.{length, take}
+use lib.Seq.{sets-eq, length-take-le, take_all}
+use Rattle.std.proofs.lemmas.Slice.{put_mid-paste}
 use Rattle.salvage.proofs.moves.copy.Goals as goal
 
-pub loop-j-init : goal.loop-j-init
-loop-j-init c = (omega arith, refl, ap (λ k. sets c.args.out.now k (take c.args.n c.args.src.now)) (omega arith))
-
-pub loop-j-preserved : goal.loop-j-preserved
-loop-j-preserved c = let l = c.loop-j in
-    let a = c.args in (
-      omega arith,
-      simp length-set l.invariant.1,
-      (rw (get_or-take a.n a.src.now l.j 0 c.loop-j-test.true)
-          at (copied-one (take a.n a.src.now) l.out a.at l.j
-          (rw (length-take-le a.n a.src.now c.requires.0) c.loop-j-test.true)))
-          ∙ l.invariant.2,
-    )
-
-pub shape_of-out : goal.shape_of-out
-shape_of-out c = c.loop-j.invariant.1
-
 pub returns : goal.returns
-returns c = let l = c.loop-j in
-    let a = c.args in
-    sym (copied_all (take a.n a.src.now) l.out a.at l.j
-    (rw (length-take-le a.n a.src.now c.requires.0) (omega arith))) ∙ l.invariant.2
+returns c = let a = c.args in
+    let new = take a.n a.src.now in
+    let long : length new ≡ a.n = length-take-le a.n a.src.now c.requires.0 in
+    let put = put_mid-paste a.at (a.at + a.n - a.at) a.out.now _ new (length new) c.copy_from_slice.ensures.after (omega (arith, long)) refl in
+    let laid = rw (take_all (length new) new (omega arith)) at put in
+    laid ∙ sym (sets-eq new a.out.now a.at (omega (arith, long, c.requires.1)))

@@ -1,30 +1,22 @@
-use Prim.Native.Nat.{ℕ, ◌+◌, ◌≤◌}
-use mathlib.Core.Path.{◌≡◌, sym, ◌∙◌}
-use native.Mathlib.Omega.{arith}
-use borrow.Author.Tests.{eq-eqb, ne_eqb}
+use Prim.Native.Nat.{ℕ}
+use mathlib.Core.Path.{◌≡◌, refl, sym, ◌∙◌}
 use lib.ListN.{length}
+use native.Mathlib.Omega.{arith}
 use Rattle.codec.specs.Codec.{be}
 use Rattle.codec.proofs.Stores.{put_then}
-use Rattle.salvage.specs.Inner.{note_of}
+use Rattle.salvage.specs.Salvage.{entry_bytes}
 use Rattle.salvage.proofs.moves.note.Goals as goal
 
-nine : (code number : ℕ) → (code ≡ 0 → ⊥) → length (note_of code number) ≡ 9
+nine : (code number : ℕ) → length (entry_bytes (record { number = number; code = code })) ≡ 9
 unfolding be
-nine code number n = rw (ne_eqb _ _ n)
-
-pub returns-then-code-eq0 : goal.returns-then-code-eq0
-returns-then-code-eq0 c = let e = eq-eqb _ _ c.if-code-eq0.true in record { bytes = rw e; count = rw e }
+nine code number = refl
 
 pub put8-requires : goal.put8-requires
-put8-requires c =
-    let room : c.args.at + 9 ≤ length c.args.list.now = let s = c in omega (arith, nine _ s.args.number c.if-code-eq0.false, s.requires) in
-    omega (arith, room)
+put8-requires c = omega (arith, nine c.in-Some.why c.args.number, rw c.in-Some.is at c.requires)
 
 pub put1-requires : goal.put1-requires
-put1-requires c =
-    let room : c.args.at + 9 ≤ length c.args.list.now = let s = c in omega (arith, nine _ s.args.number c.if-code-eq0.false, s.requires) in
-    omega (arith, room)
+put1-requires c = omega (arith, nine c.in-Some.why c.args.number, rw c.in-Some.is at c.requires)
 
-pub returns : goal.returns
-returns c = let n = c.if-code-eq0.false in
-    let p = c in record { bytes = rw (ne_eqb _ _ n) (c.put1.ensures ∙ rw p.put8.ensures (put_then 8 _ _ _ _)); count = sym (nine _ _ n) }
+pub returns-in-Some : goal.returns-in-Some
+returns-in-Some c =
+    rw c.in-Some.is (record { bytes = c.put1.ensures ∙ rw c.put8.ensures (put_then 8 _ _ _ _); count = sym (nine c.in-Some.why c.args.number) })

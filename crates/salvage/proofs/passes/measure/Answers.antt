@@ -2,71 +2,13 @@ use Prim.Native.Nat.{◌+◌, ◌<◌}
 use native.Mathlib.Omega.{arith}
 use lib.ListN.{drop}
 use Rattle.salvage.specs.Inner.{Turned}
-use Rattle.salvage.proofs.OnePass.{Measuring, measuring-none, measuring-on, measured, nothing_left}
+use Rattle.salvage.proofs.OnePass.{Measuring, measuring-on, measured, nothing_left}
 use Rattle.salvage.proofs.passes.measure.Goals as goal
-
-pub loop-at-init : goal.loop-at-init
-loop-at-init c = rw c.new-s.ensures (measuring-none _)
-
-pub rest_of-rest-requires : goal.rest_of-rest-requires
-rest_of-rest-requires c = c.loop-at.invariant.within
-
-pub turn-t-requires : goal.turn-t-requires
-turn-t-requires c = let l = c.loop-at.invariant in
-    (l.opened, omega (arith, l.numbered, c.loop-at-test.true, c.well_formed))
 
 pub returns-then-t-eq0 : goal.returns-then-t-eq0
 returns-then-t-eq0 c =
     let turned : Turned c.loop-at.s (drop c.loop-at.at c.args.damaged.now) c.turn-t.result = rw c.rest_of-rest.ensures at c.turn-t.ensures in
     let t = c in measured t.loop-at.invariant ((turned).ended c.if-t-eq0.true)
-
-pub overflow_add-book : goal.overflow_add-book
-overflow_add-book c =
-    let turned : Turned c.loop-at.s (drop c.loop-at.at c.args.damaged.now) c.turn-t.result = rw c.rest_of-rest.ensures at c.turn-t.ensures in
-    let some : 0 < c.turn-t.result.n = omega (arith, c.if-t-eq0.false) in
-    let e = c in
-    let t = e in
-    let m = measuring-on _ _ (turned) (some) t.loop-at.invariant in
-    omega (arith, m.short, m.opened.range.started.counted.records-most, c.by_code-book.ensures)
-
-pub overflow_add-dropped : goal.overflow_add-dropped
-overflow_add-dropped c =
-    let turned : Turned c.loop-at.s (drop c.loop-at.at c.args.damaged.now) c.turn-t.result = rw c.rest_of-rest.ensures at c.turn-t.ensures in
-    let some : 0 < c.turn-t.result.n = omega (arith, c.if-t-eq0.false) in
-    let on : let e = c in
-    let t = e in
-    let l = t.loop-at in
-    Measuring t.args.damaged.now t.turn-t.result.next (l.at + t.turn-t.result.n) (l.book + c.by_code-book.result)
-    (l.dropped + c.by_code-dropped.result) = let e = c in
-    let t = e in
-    rw (c.by_code-book.ensures, c.by_code-dropped.ensures) (measuring-on _ _ (turned) (some) t.loop-at.invariant) in
-    let m = on in omega (arith, m.few, m.within, c.well_formed)
-
-pub overflow_add-at : goal.overflow_add-at
-overflow_add-at c =
-    let turned : Turned c.loop-at.s (drop c.loop-at.at c.args.damaged.now) c.turn-t.result = rw c.rest_of-rest.ensures at c.turn-t.ensures in
-    let some : 0 < c.turn-t.result.n = omega (arith, c.if-t-eq0.false) in
-    let on : let e = c in
-    let t = e in
-    let l = t.loop-at in
-    Measuring t.args.damaged.now t.turn-t.result.next (l.at + t.turn-t.result.n) (l.book + c.by_code-book.result)
-    (l.dropped + c.by_code-dropped.result) = let e = c in
-    let t = e in
-    rw (c.by_code-book.ensures, c.by_code-dropped.ensures) (measuring-on _ _ (turned) (some) t.loop-at.invariant) in
-    let m = on in omega (arith, m.within, c.well_formed)
-
-pub loop-at-smaller : goal.loop-at-smaller
-loop-at-smaller c =
-    let turned : Turned c.loop-at.s (drop c.loop-at.at c.args.damaged.now) c.turn-t.result = rw c.rest_of-rest.ensures at c.turn-t.ensures in
-    let some : 0 < c.turn-t.result.n = omega (arith, c.if-t-eq0.false) in
-    let on : let e = c in
-    let t = e in
-    let l = t.loop-at in
-    Measuring t.args.damaged.now t.turn-t.result.next (l.at + t.turn-t.result.n) (l.book + c.by_code-book.result)
-    (l.dropped + c.by_code-dropped.result) = let e = c in
-    let t = e in
-    rw (c.by_code-book.ensures, c.by_code-dropped.ensures) (measuring-on _ _ (turned) (some) t.loop-at.invariant) in
-    let m = on in omega (arith, m.within, some)
 
 pub loop-at-preserved : goal.loop-at-preserved
 loop-at-preserved c =

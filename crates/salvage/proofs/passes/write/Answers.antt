@@ -1,21 +1,10 @@
 use Prim.Native.Nat.{◌+◌, ◌<◌}
 use native.Mathlib.Omega.{arith}
 use lib.ListN.{drop}
-use lib.Dec.{eqb}
 use Rattle.salvage.specs.Inner.{Turned}
-use Rattle.salvage.proofs.OnePass.{Writing, writing-none, writing-on, record-room, note-room, close-room, book-written, book-length}
-use Rattle.salvage.proofs.OnePass.{list_written, nothing_left, pick-most}
+use Rattle.salvage.proofs.OnePass.{Writing, writing-on, record-room, note-room, close-room, book-written}
+use Rattle.salvage.proofs.OnePass.{list_written, nothing_left, told-most}
 use Rattle.salvage.proofs.passes.write.Goals as goal
-
-pub loop-at-init : goal.loop-at-init
-loop-at-init c = let p = c.requires in rw c.new-s.ensures (writing-none _ _ _ p.damaged_in_bounds p.damaged_in_bounds_2)
-
-pub rest_of-rest-requires : goal.rest_of-rest-requires
-rest_of-rest-requires c = c.loop-at.invariant.within
-
-pub turn-t-requires : goal.turn-t-requires
-turn-t-requires c = let l = c.loop-at.invariant in
-    (l.opened, omega (arith, l.numbered, c.loop-at-test.true, c.well_formed))
 
 pub close-requires : goal.close-requires
 close-requires c =
@@ -23,16 +12,6 @@ close-requires c =
     let t = c in
     let l = t.loop-at.invariant in
     (l.opened, close-room l ((turned).ended c.if-t-eq0.true))
-
-pub shape_of-book-then-t-eq0 : goal.shape_of-book-then-t-eq0
-shape_of-book-then-t-eq0 c =
-    let turned : Turned c.loop-at.s (drop c.loop-at.at c.args.damaged.now) c.turn-t.result = rw c.rest_of-rest.ensures at c.turn-t.ensures in
-    let t = c in
-    let e = (turned).ended c.if-t-eq0.true in
-    book-length t.loop-at.invariant e c.close.ensures
-
-pub shape_of-list-then-t-eq0 : goal.shape_of-list-then-t-eq0
-shape_of-list-then-t-eq0 c = c.loop-at.invariant.listed.long
 
 pub returns-then-t-eq0 : goal.returns-then-t-eq0
 returns-then-t-eq0 c =
@@ -48,7 +27,7 @@ copy-requires c =
     let b = c in
     let t = b in
     let k = t.turn-t.result in (
-      rw (b.by_code-k.ensures, t.rest_of-rest.ensures) (omega (arith, pick-most (eqb k.code 0) k.n, (turned).inside)),
+      rw (b.by_code-k.ensures, t.rest_of-rest.ensures) (omega (arith, told-most k.code k.n, (turned).inside)),
       rw b.by_code-k.ensures (record-room t.loop-at.invariant (turned) (some)),
     )
 
@@ -75,51 +54,6 @@ overflow_add-v c =
     (rw t.rest_of-rest.ensures at c.copy.ensures) c.note-v.ensures.bytes c.note-v.ensures.count in
     let m = on in omega (arith, m.listed.room, c.well_formed)
 
-pub overflow_add-w : goal.overflow_add-w
-overflow_add-w c =
-    let turned : Turned c.loop-at.s (drop c.loop-at.at c.args.damaged.now) c.turn-t.result = rw c.rest_of-rest.ensures at c.turn-t.ensures in
-    let some : 0 < c.turn-t.result.n = omega (arith, c.if-t-eq0.false) in
-    let on : let b = c in
-    let t = b in
-    let l = t.loop-at in
-    let a = t.args in
-    Writing a.damaged.now a.book.now a.list.now c.copy.new.out c.note-v.new.list
-    t.turn-t.result.next (l.at + t.turn-t.result.n) (l.w + b.by_code-k.result) (l.v + c.note-v.result) = let b = c in
-    let t = b in
-    writing-on t.loop-at.invariant (turned) (some) b.by_code-k.ensures
-    (rw t.rest_of-rest.ensures at c.copy.ensures) c.note-v.ensures.bytes c.note-v.ensures.count in
-    let m = on in omega (arith, m.clean.room, c.well_formed)
-
-pub overflow_add-at : goal.overflow_add-at
-overflow_add-at c =
-    let turned : Turned c.loop-at.s (drop c.loop-at.at c.args.damaged.now) c.turn-t.result = rw c.rest_of-rest.ensures at c.turn-t.ensures in
-    let some : 0 < c.turn-t.result.n = omega (arith, c.if-t-eq0.false) in
-    let on : let b = c in
-    let t = b in
-    let l = t.loop-at in
-    let a = t.args in
-    Writing a.damaged.now a.book.now a.list.now c.copy.new.out c.note-v.new.list
-    t.turn-t.result.next (l.at + t.turn-t.result.n) (l.w + b.by_code-k.result) (l.v + c.note-v.result) = let b = c in
-    let t = b in
-    writing-on t.loop-at.invariant (turned) (some) b.by_code-k.ensures
-    (rw t.rest_of-rest.ensures at c.copy.ensures) c.note-v.ensures.bytes c.note-v.ensures.count in
-    let n = c in let m = on in omega (arith, m.within, c.well_formed)
-
-pub loop-at-smaller : goal.loop-at-smaller
-loop-at-smaller c =
-    let turned : Turned c.loop-at.s (drop c.loop-at.at c.args.damaged.now) c.turn-t.result = rw c.rest_of-rest.ensures at c.turn-t.ensures in
-    let some : 0 < c.turn-t.result.n = omega (arith, c.if-t-eq0.false) in
-    let on : let b = c in
-    let t = b in
-    let l = t.loop-at in
-    let a = t.args in
-    Writing a.damaged.now a.book.now a.list.now c.copy.new.out c.note-v.new.list
-    t.turn-t.result.next (l.at + t.turn-t.result.n) (l.w + b.by_code-k.result) (l.v + c.note-v.result) = let b = c in
-    let t = b in
-    writing-on t.loop-at.invariant (turned) (some) b.by_code-k.ensures
-    (rw t.rest_of-rest.ensures at c.copy.ensures) c.note-v.ensures.bytes c.note-v.ensures.count in
-    let n = c in let m = on in omega (arith, m.within, some)
-
 pub loop-at-preserved : goal.loop-at-preserved
 loop-at-preserved c =
     let turned : Turned c.loop-at.s (drop c.loop-at.at c.args.damaged.now) c.turn-t.result = rw c.rest_of-rest.ensures at c.turn-t.ensures in
@@ -138,14 +72,6 @@ loop-at-preserved c =
 pub close-requires-2 : goal.close-requires-2
 close-requires-2 c = let l = c.loop-at in
     (l.invariant.opened, close-room l.invariant (nothing_left l.s _ l.at c.loop-at-test.false))
-
-pub shape_of-book : goal.shape_of-book
-shape_of-book c = let l = c.loop-at in
-    let e = nothing_left l.s _ l.at c.loop-at-test.false in
-    book-length l.invariant e c.close-2.ensures
-
-pub shape_of-list : goal.shape_of-list
-shape_of-list c = c.loop-at.invariant.listed.long
 
 pub returns : goal.returns
 returns c = let l = c.loop-at in

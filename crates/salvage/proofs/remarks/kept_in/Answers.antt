@@ -1,4 +1,3 @@
-use native.Mathlib.Omega.{arith}
 use borrow.Author.Tests.{lt-ltb, le-ltb}
 use Rattle.salvage.specs.Remarks.{kept_in}
 use Rattle.salvage.proofs.remarks.kept_in.Goals as goal
@@ -6,14 +5,6 @@ use Rattle.salvage.proofs.remarks.kept_in.Goals as goal
 pub returns-then-book-lt2 : goal.returns-then-book-lt2
 unfolding kept_in
 returns-then-book-lt2 c = rw (lt-ltb _ _ c.if-book-lt2.true)
-
-pub overflow_sub-book : goal.overflow_sub-book
-unfolding kept_in
-overflow_sub-book c = omega (arith, c.if-book-lt2.false)
-
-pub be16-requires : goal.be16-requires
-unfolding kept_in
-be16-requires c = omega (arith, c.if-book-lt2.false)
 
 pub returns : goal.returns
 unfolding kept_in

@@ -1,10 +1,6 @@
-use native.Mathlib.Omega.{arith}
-use borrow.Author.Tests.{eq-eqb, ne_eqb}
-use Rattle.printing.proofs.Sayings.{◌⟫◌, said-none}
+use borrow.Author.Tests.{ne_eqb}
+use Rattle.printing.proofs.Sayings.{◌⟫◌}
 use Rattle.salvage.proofs.remarks.say_reading.Goals as goal
-
-pub returns-then-end-eq0 : goal.returns-then-end-eq0
-returns-then-end-eq0 c = rw (eq-eqb _ _ c.if-end-eq0.true) (said-none (omega arith))
 
 pub returns : goal.returns
 returns c = let p3 = c in

@@ -1,36 +1,7 @@
-use native.Mathlib.Omega.{arith}
 use mathlib.Core.Path.{◌≡◌}
 use borrow.Author.Rules.{rules}
-use Rattle.codec.proofs.EachKind.{row-least, row-most}
-use Rattle.why.proofs.Faults.{row_in}
 use Rattle.why.proofs.ValuesFound.{by_two, by_three, by-four, by_values, past-four}
 use Rattle.why.proofs.compared.compared.Goals as goal
-
-pub version-requires : goal.version-requires
-version-requires c = let w = c.requires.whole in omega (arith, w.long, w.low)
-
-pub be8-requires : goal.be8-requires
-be8-requires c = let w = c.requires.whole in omega (arith, w.long, w.low)
-
-pub be16-requires : goal.be16-requires
-be16-requires c = let w = c.requires.whole in omega (arith, w.long, w.low)
-
-pub bounds-r-2 : goal.bounds-r-2
-bounds-r-2 c = let w = c.requires.whole in omega (arith, w.long, w.low)
-
-pub bounds-r-3 : goal.bounds-r-3
-bounds-r-3 c = let w = c.requires.whole in omega (arith, w.long, w.low)
-
-pub length_of-requires : goal.length_of-requires
-length_of-requires c = let k = row_in c.requires (omega (arith, c.in-4.is)) in
-    rw c.row_of.ensures (row-least _ k, row-most _ k)
-
-pub of_values-requires : goal.of_values-requires
-of_values-requires c =
-    let n2 : c.args.code ≡ 2 → ⊥ = search rules in
-    let n3 : c.args.code ≡ 3 → ⊥ = search rules in
-    let n4 : c.args.code ≡ 4 → ⊥ = search rules in
-    (c.requires, past-four c.requires.some n2 n3 n4)
 
 pub returns-in-2 : goal.returns-in-2
 returns-in-2 c = by_two _ _ c.in-2.is c.version.ensures

@@ -1,20 +1,9 @@
 use mathlib.Core.Path.{◌≡◌, refl}
 use native.Mathlib.Omega.{arith}
-use borrow.Author.Tests.{eqb-true}
 use borrow.Author.Rules.{rules}
-use Rattle.base.proofs.Tests.{not-false}
-use Rattle.why.proofs.Faults.{sized, position-is, of_parts, days-small}
+use Rattle.why.proofs.Faults.{sized, position-is, days-small}
 use Rattle.why.proofs.ValuesFound.{by-seven, by-eight, by-nine, by_ten, by-twelve, by-other}
 use Rattle.why.proofs.compared.of_values.Goals as goal
-
-pub bounds-r-2 : goal.bounds-r-2
-bounds-r-2 c = let w = c.requires.0.whole in omega (arith, w.long, w.low)
-
-pub bounds-r-3 : goal.bounds-r-3
-bounds-r-3 c = let w = c.requires.0.whole in omega (arith, w.long, w.low)
-
-pub value_at-first-requires : goal.value_at-first-requires
-value_at-first-requires c = let p = c.requires in (sized p.0 p.1, c.row_of-row.ensures)
 
 pub out_of_range-requires : goal.out_of_range-requires
 out_of_range-requires c = let p = c.requires in
@@ -23,12 +12,6 @@ out_of_range-requires c = let p = c.requires in
 
 pub days_with-requires : goal.days_with-requires
 days_with-requires c = let p = c.requires in omega (arith, c.value_at-first.ensures, days-small p.0 c.in-9.is)
-
-pub together-requires : goal.together-requires
-together-requires c = let p = c.requires in
-    let k = c.in-10.is in
-    rw (c.row_of-row.ensures)
-    (sized p.0 p.1, refl, eqb-true _ _ (not-false _ (p.0.broken.values.in_range.0 (omega arith))), of_parts p.0 k)
 
 pub returns-in-7 : goal.returns-in-7
 returns-in-7 c = let p = c.requires in
@@ -53,4 +36,4 @@ returns-in_default c =
     let n9 : c.args.code ≡ 9 → ⊥ = search rules in
     let n10 : c.args.code ≡ 10 → ⊥ = search rules in
     let n12 : c.args.code ≡ 12 → ⊥ = search rules in
-    by-other _ _ _ n7 n8 n9 n10 n12 c.none.ensures
+    by-other _ _ _ n7 n8 n9 n10 n12 refl

@@ -1,8 +1,5 @@
-use Rattle.printing.proofs.Sayings.{◌⟫◌, said-none}
+use Rattle.printing.proofs.Sayings.{◌⟫◌}
 use Rattle.why.proofs.remarks.say_after.Goals as goal
-
-pub returns-then-not-more : goal.returns-then-not-more
-returns-then-not-more c = rw (c.if-not-more.true) (said-none c.requires)
 
 pub returns : goal.returns
 returns c = let start = c in rw

@@ -1,4 +1,4 @@
-use Rattle.printing.proofs.Sayings.{◌⟫◌, said-none}
+use Rattle.printing.proofs.Sayings.{◌⟫◌}
 use Rattle.why.proofs.remarks.say_group.Goals as goal
 
 pub returns-then-is_of_group-group : goal.returns-then-is_of_group-group
@@ -8,6 +8,3 @@ returns-then-is_of_group-group c = rw (
 ) (
     c.say-a.ensures
     ⟫ c.say_number.ensures)
-
-pub returns : goal.returns
-returns c = rw (← c.is_of_group.ensures, c.if-is_of_group-group.false) (said-none c.requires)

@@ -1,4 +1,4 @@
-use Rattle.printing.proofs.Sayings.{◌⟫◌, said-none}
+use Rattle.printing.proofs.Sayings.{◌⟫◌}
 use Rattle.why.proofs.remarks.say_name.Goals as goal
 
 pub returns-then-kind : goal.returns-then-kind
@@ -7,6 +7,3 @@ returns-then-kind c = rw c.if-kind.true (
     ⟫ c.say_kind-b.ensures
     ⟫ c.say_group-c.ensures
     ⟫ c.say.ensures)
-
-pub returns : goal.returns
-returns c = rw c.if-kind.false (said-none c.requires)

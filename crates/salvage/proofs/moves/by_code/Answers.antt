@@ -1,8 +1,0 @@
-use borrow.Author.Tests.{eq-eqb, ne_eqb}
-use Rattle.salvage.proofs.moves.by_code.Goals as goal
-
-pub returns-then-code-eq0 : goal.returns-then-code-eq0
-returns-then-code-eq0 c = rw (eq-eqb _ _ c.if-code-eq0.true)
-
-pub returns-else-code-eq0 : goal.returns-else-code-eq0
-returns-else-code-eq0 c = rw (ne_eqb _ _ c.if-code-eq0.false)
