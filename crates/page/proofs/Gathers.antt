@@ -43,14 +43,6 @@ sums-rise a r =
 pub rise-next : (a : Account) (xs : List ℕ) (t : Next) → Stands a xs t → SumsRise a.sums t.account.sums
 rise-next a xs t s = subst (λ (x : Account). SumsRise a.sums x.sums) (sym s.account) (sums-rise a (take t.size xs))
 
-pub sum-with : {s : Sum} {f g : Figures} → SumIn s f → SumsRise f g → SumIn (with_record s f g) g
-sum-with i r =
-    record { ch4 = omega (arith, i.ch4, r.ch4); n2o = omega (arith, i.n2o, r.n2o); grazing = omega (arith, i.grazing, r.grazing) }
-
-pub sum-stays : {s : Sum} {f g : Figures} → SumIn s f → SumsRise f g → SumIn s g
-sum-stays i r =
-    record { ch4 = omega (arith, i.ch4, r.ch4); n2o = omega (arith, i.n2o, r.n2o); grazing = omega (arith, i.grazing, r.grazing) }
-
 -- ---- a book in the middle
 
 pub record Gathering (book : List ℕ) (kind : ℕ) (a : Account) (s : Sum) (at : ℕ) : Type 0 where

@@ -1,7 +1,7 @@
+mod Steps
 pub mod Texts
 pub mod Overs
 pub mod Gathers
-mod Knowns
 pub mod Pages
 pub mod Promises
 pub mod OneAnswer

@@ -47,7 +47,7 @@ page-not-closed xs e =
 pub page-no-figures : (s t : Survey) (refused : Bool) → SameBook s t
     → (before_text s refused ≡ before_text t refused) × (after_text s refused ≡ after_text t refused)
 unfolding before_text after_text head_text name_text title_text
-page-no-figures s t refused b = rw (b.closed, b.known, b.farm, b.year, b.records) (refl, refl)
+page-no-figures s t refused b = rw (b.closed, b.name, b.records) (refl, refl)
 
 -- ---- the groups
 

@@ -1,6 +1,6 @@
 -- The figures of the member's page, all of them functions of a book's accepted records and of the accounts that stand between them.
 -- Assumes nothing.
-use Rattle.std.specs.Prelude.{ℕ, ◌+◌, ◌-◌, ◌≤◌, Bool, true, false, not, ◌&&◌, ◌||◌, List, length, ◌==◌, nat_le, slice_index}
+use Rattle.std.specs.Prelude.{ℕ, ◌+◌, ◌-◌, ◌≤◌, Bool, true, false, not, ◌&&◌, ◌||◌, List, length, ◌==◌, nat_le, slice_index, Option, Some, None}
 use Rattle.base.specs.Choice.{pick}
 use Rattle.codec.specs.Table.{fields}
 use Rattle.codec.specs.Codec.{values_at}
@@ -13,6 +13,7 @@ use Rattle.account.specs.Account.{no_record, factors_of}
 use Rattle.account.specs.Judge.{kind_byte, judge}
 use Rattle.account.specs.Line.{co2e_in}
 use Rattle.page.specs.declared.Group.{Group}
+use Rattle.page.specs.declared.Named.{Named}
 use Rattle.page.specs.declared.Scale.{Scale}
 use Rattle.page.specs.declared.Source.{Source}
 use Rattle.page.specs.declared.Sources.{Sources}
@@ -112,15 +113,17 @@ farm_values xs = values_at (fields 1) xs 4
 abbrev pub farm_known : Account → List ℕ → Bool
 farm_known a xs = not (a.records == 0) && nat_le 11 (length xs)
 
+-- the farm's number and year, where they are known
+abbrev pub name_of : Account → List ℕ → Option Named
+name_of a xs = pick (farm_known a xs) (Some (record { farm = slice_index (farm_values xs) 0; year = slice_index (farm_values xs) 1 })) None
+
 -- of the account a that stands after the accepted records, with the farm's number and year and the sources
-abbrev pub survey_with : Account → Bool → ℕ → ℕ → Sources → Survey
-survey_with a known farm year sources =
+abbrev pub survey_with : Account → Option Named → Sources → Survey
+survey_with a name sources =
     let f = a.sums in
     record {
       closed = (a.stage == 2);
-      known = known;
-      farm = farm;
-      year = year;
+      name = name;
       records = a.records;
       a = a.farm.ch4;
       b = a.farm.n2o;
@@ -137,17 +140,11 @@ survey_with a known farm year sources =
       sources = sources;
     }
 
-abbrev pub number_of : Bool → List ℕ → ℕ
-number_of known xs = pick known (slice_index (farm_values xs) 0) 0
-
-abbrev pub year_of : Bool → List ℕ → ℕ
-year_of known xs = pick known (slice_index (farm_values xs) 1) 0
-
 -- all figures of a book's page but those of its groups
 unfoldable pub survey_of : List ℕ → Survey
 survey_of xs =
     let a = last_of xs in
-    survey_with a (farm_known a xs) (number_of (farm_known a xs) xs) (year_of (farm_known a xs) xs) (sources_of xs)
+    survey_with a (name_of a xs) (sources_of xs)
 
 -- the farm has a row of its own where a record of energy, soil or tillage is in the book
 abbrev pub of_farm : Survey → Bool

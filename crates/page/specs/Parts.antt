@@ -1,7 +1,7 @@
 -- The member's page, part by part, from top to bottom: head, total, groups, sources, gases, notes and foot; and the page of a book that is not
 -- closed.
 -- Assumes nothing.
-use Rattle.std.specs.Prelude.{ℕ, Bool, false, List, [], ◌++◌, ◌==◌}
+use Rattle.std.specs.Prelude.{ℕ, Bool, false, List, [], ◌++◌, ◌==◌, Option, Some, None}
 use Rattle.base.specs.Choice.{pick}
 use Rattle.printing.specs.Ascii.{ascii}
 use Rattle.printing.specs.Decimal.{decimal}
@@ -9,6 +9,7 @@ use Rattle.typed_words.specs.Words.{nth_part}
 use Rattle.names.specs.Names.{class_name}
 use Rattle.grams.specs.Round.{round_div}
 use Rattle.page.specs.declared.Group.{Group}
+use Rattle.page.specs.declared.Named.{Named}
 use Rattle.page.specs.declared.Scale.{Scale}
 use Rattle.page.specs.declared.Source.{Source}
 use Rattle.page.specs.declared.Sources.{Sources}
@@ -21,8 +22,12 @@ use Rattle.page.specs.Figures.{of_farm, group_scale, source_scale}
 -- ---- the head
 
 -- the farm and the year, where the farm record was accepted
+abbrev pub named_text : Option Named → List ℕ
+named_text None = ascii "No farm"
+named_text (Some name) = ascii "Farm " ++ (decimal name.farm ++ (ascii ", " ++ decimal name.year))
+
 unfoldable pub name_text : Survey → List ℕ
-name_text s = pick s.known (ascii "Farm " ++ (decimal s.farm ++ (ascii ", " ++ decimal s.year))) (ascii "No farm")
+name_text s = named_text s.name
 
 -- what it is
 unfoldable pub title_text : Bool → List ℕ

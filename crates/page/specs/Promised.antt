@@ -31,7 +31,5 @@ subtotal_of g =
 -- two surveys of books with the same farm, year and count of records, both closed or both not; all figures may differ
 pub record SameBook (s t : Survey) : Type 0 where
   pub closed : s.closed ≡ t.closed
-  pub known : s.known ≡ t.known
-  pub farm : s.farm ≡ t.farm
-  pub year : s.year ≡ t.year
+  pub name : s.name ≡ t.name
   pub records : s.records ≡ t.records

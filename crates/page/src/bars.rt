@@ -1,87 +1,37 @@
 // The cascade: steps of CO2e, counted from 2^63 on, and the bars between them.
-ghost use Rattle.std.specs.Prelude.{◌≡◌, ◌-◌, ◌<◌, ◌≤◌, length};
+ghost use Rattle.std.specs.Prelude.{◌≡◌, ◌<◌, ◌≤◌, length};
 ghost use Rattle.printing.specs.Said.{Said};
-ghost use Rattle.page.specs.Bars.{plus8, minus8, no_step, lesser, greater, unit_of, scale_of, place_of, rect_text, mark_text, bar_text};
+ghost use Rattle.page.specs.Bars.{unit_of, scale_of, place_of, rect_text, mark_text, bar_text};
 ghost use Rattle.page.specs.Figures.{of_farm, group_scale};
 
 use crate::{Scale, Survey};
 use printing::{say, say_number};
 
 // The step before any row.
-pub(crate) fn lowest_step() -> u64
-    ensures { result ≡ no_step }
-{
-    9223372036854775808
-}
-
-// Words added, in two's complement.
-pub(crate) fn plus8(a: u64, b: u64) -> u64
-    ensures { result ≡ plus8 a b }
-{
-    std::num::wrapping_add_u64(a, b)
-}
-
-// A word taken away.
-pub(crate) fn minus8(a: u64, b: u64) -> u64
-    ensures { result ≡ minus8 a b }
-{
-    if a < b {
-        return u64::MAX - b + a + 1;
-    }
-    a - b
-}
-
-fn lesser(a: u64, b: u64) -> u64
-    ensures { result ≡ lesser a b }
-{
-    if a < b { a } else { b }
-}
-
-// How far apart two numbers are.
-fn apart(a: u64, b: u64) -> u64
-    ensures { result ≡ greater a b - lesser a b }
-{
-    if a < b { b - a } else { a - b }
-}
-
-fn greater(a: u64, b: u64) -> u64
-    ensures { result ≡ greater a b }
-{
-    if a < b { b } else { a }
-}
-
-// a less b, 0 where b is above it.
-pub(crate) fn less(a: u64, b: u64) -> u64
-    ensures { result ≡ a - b }
-{
-    if a < b { 0 } else { a - b }
-}
+pub(crate) const LOWEST_STEP: u64 = 9223372036854775808;
 
 // A thousandth of the way, rounded up, and at least 1.
 fn unit(way: u64) -> u64
     ensures { (result ≡ unit_of way) × (0 < result) }
 {
-    if way == 0 {
-        return 1;
-    }
-    (way - 1) / 1000 + 1
+    way.div_ceil(1000).max(1)
 }
 
 // The scale of a cascade that rises to a peak and then goes to its end.
 pub(crate) fn scale(peak: u64, end: u64) -> Scale
     ensures { (result ≡ scale_of peak end) × (0 < result.unit) }
 {
-    let lo = lesser(lowest_step(), end);
-    let hi = greater(peak, end);
-    let unit = unit(less(hi, lo));
-    Scale { lo: lo, unit: unit }
+    let lo = LOWEST_STEP.min(end);
+    let hi = peak.max(end);
+    let unit = unit(hi.saturating_sub(lo));
+    Scale { lo, unit }
 }
 
 // The scale of the groups.
 pub(crate) fn group_scale(s: Survey) -> Scale
     ensures { (result ≡ group_scale s) × (0 < result.unit) }
 {
-    scale(s.groups, plus8(s.groups, s.co2))
+    scale(s.groups, s.groups.wrapping_add(s.co2))
 }
 
 // Whether a record is the farm's.
@@ -97,7 +47,7 @@ fn place(sc: Scale, step: u64) -> u64
     requires { 0 < sc.unit }
     ensures { result ≡ place_of sc step }
 {
-    less(step, sc.lo) / sc.unit
+    step.saturating_sub(sc.lo) / sc.unit
 }
 
 // From the smaller to the greater of two places; hollow where CO2 is taken up.
@@ -107,15 +57,15 @@ fn say_rect(out: &mut [u8], at: usize, up: bool, p: u64, q: u64) -> usize
 {
     if up {
         let first = say(out, at, b" class=\"up\" x=\"");
-        let second = say_number(out, first, lesser(p, q));
+        let second = say_number(out, first, p.min(q));
         let third = say(out, second, b"\" y=\"1\" width=\"");
-        let fourth = say_number(out, third, apart(p, q));
+        let fourth = say_number(out, third, p.abs_diff(q));
         return say(out, fourth, b"\" height=\"6\"");
     }
     let first = say(out, at, b" x=\"");
-    let second = say_number(out, first, lesser(p, q));
+    let second = say_number(out, first, p.min(q));
     let third = say(out, second, b"\" y=\"0\" width=\"");
-    let fourth = say_number(out, third, apart(p, q));
+    let fourth = say_number(out, third, p.abs_diff(q));
     say(out, fourth, b"\" height=\"8\"")
 }
 
@@ -124,11 +74,10 @@ fn say_mark(out: &mut [u8], at: usize, sc: Scale) -> usize
     requires { (at ≤ length out.old) × (0 < sc.unit) }
     ensures { Said out.old out.new at (mark_text sc) result }
 {
-    let zero = lowest_step();
-    if zero <= sc.lo {
+    if LOWEST_STEP <= sc.lo {
         return at;
     }
-    let z = place(sc, zero);
+    let z = place(sc, LOWEST_STEP);
     let first = say(out, at, b"<line class=\"zero\" x1=\"");
     let second = say_number(out, first, z);
     let third = say(out, second, b"\" y1=\"0\" x2=\"");

@@ -13,13 +13,13 @@ pub(crate) fn say_name(out: &mut [u8], at: usize, s: Survey) -> usize
     requires { at ≤ length out.old }
     ensures { Said out.old out.new at (name_text s) result }
 {
-    if !s.known {
+    let Some(name) = s.name else {
         return say(out, at, b"No farm");
-    }
+    };
     let first = say(out, at, b"Farm ");
-    let second = say_number(out, first, s.farm);
+    let second = say_number(out, first, name.farm);
     let third = say(out, second, b", ");
-    say_number(out, third, s.year)
+    say_number(out, third, name.year)
 }
 
 // What it is.

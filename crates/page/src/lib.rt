@@ -18,7 +18,7 @@ ghost use Rattle.account.specs.Range.{AccountInRange};
 ghost use Rattle.page.specs.Figures.{survey_of, group_scale};
 ghost use Rattle.page.specs.Page.{is_refused, first_text, last_text, no_place, row_by, stopped_at, moved_by, place_after, row_at};
 
-use crate::bars::{group_scale, lowest_step};
+use crate::bars::{LOWEST_STEP, group_scale};
 use crate::sums::{group_of, group_step, is_ended, kind_of};
 use account::Account;
 use base::rest_of;
@@ -27,6 +27,7 @@ use walk::next_alone;
 use why::Verdict;
 
 // What the records of a kind add to the sums: whether there is one, grams of each gas, the word of CO2, and CO2e of grazing.
+// `seen` guards no value, so there is no Option: the sums of no records are zero, and page_sums adds them up as they are.
 #[derive(Clone, Copy)]
 pub struct Sum {
     pub seen: bool,
@@ -83,14 +84,19 @@ pub struct Scale {
     pub unit: u64,
 }
 
+// A farm's number and the year of its book.
+#[derive(Clone, Copy)]
+pub struct Named {
+    pub farm: u64,
+    pub year: u64,
+}
+
 // All figures of the page but those of the groups: whether the book is closed; the farm and the year, where they are known; the accepted records; the
 // factors of CH4 and N2O; the total's figures; CO2e of its CH4 and N2O, and of all; the step that the groups come to; the sources.
 #[derive(Clone, Copy)]
 pub struct Survey {
     pub closed: bool,
-    pub known: bool,
-    pub farm: u64,
-    pub year: u64,
+    pub name: Option<Named>,
     pub records: u64,
     pub a: u64,
     pub b: u64,
@@ -108,7 +114,7 @@ pub struct Survey {
 }
 
 // How far the rows of the groups have come: the account after the records so far and the byte after them; the step and grazing's sum at the last
-// heading; and whether there may be more.
+// heading; and whether there may be more. The flag is no Option of the place: `rows_by` and the theorem `page-in-parts` go on from the last one too.
 #[derive(Clone, Copy)]
 pub struct Place {
     pub account: Account,
@@ -136,12 +142,7 @@ pub fn figures(book: &[u8]) -> Survey
 fn refused(v: Verdict) -> bool
     ensures { result ≡ is_refused v }
 {
-    match v {
-        Verdict::Accepted { end, more } => false,
-        Verdict::Missing(n) => false,
-        Verdict::NextLength => false,
-        Verdict::Refused(w) => true,
-    }
+    matches!(v, Verdict::Refused(_))
 }
 
 // The page up to the rows of its groups, or to why there are none, from the start of out.
@@ -171,7 +172,7 @@ pub fn start() -> Place
     Place {
         account: Account::new(),
         at: 0,
-        from: lowest_step(),
+        from: LOWEST_STEP,
         grazed: 0,
         more: true,
     }
@@ -195,15 +196,8 @@ fn say_row(out: &mut [u8], p: Place, kind: u64, s: Survey) -> usize
 fn stopped(p: Place) -> Row
     ensures { (result.place ≡ stopped_at p) × (result.written ≡ 0) }
 {
-    let a = p.account;
     Row {
-        place: Place {
-            account: a,
-            at: p.at,
-            from: p.from,
-            grazed: p.grazed,
-            more: false,
-        },
+        place: Place { more: false, ..p },
         written: 0,
     }
 }
@@ -213,24 +207,19 @@ fn moved(p: Place, kind: u64, after: Account, size: usize) -> Place
     requires { AccountInRange p.account × (p.at + size ≤ 18446744073709551615) }
     ensures { result ≡ moved_by p kind after size }
 {
-    if kind != HEADING {
-        return Place {
-            account: after,
-            at: p.at + size,
-            from: p.from,
-            grazed: p.grazed,
-            more: true,
-        };
-    }
-    let a = p.account;
-    let from = group_step(a);
-    let grazed = a.sums.grazing.grams();
-    Place {
+    let next = Place {
         account: after,
         at: p.at + size,
-        from: from,
-        grazed: grazed,
         more: true,
+        ..p
+    };
+    if kind != HEADING {
+        return next;
+    }
+    Place {
+        from: group_step(p.account),
+        grazed: p.account.sums.grazing.grams(),
+        ..next
     }
 }
 

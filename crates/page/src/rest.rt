@@ -4,7 +4,7 @@ ghost use Rattle.printing.specs.Said.{Said};
 ghost use Rattle.page.specs.Parts.{farm_text, foot_text, groups_foot, counted_text, exact_text, rest_text};
 
 use crate::Survey;
-use crate::bars::{group_scale, of_farm, plus8};
+use crate::bars::{group_scale, of_farm};
 use crate::by_source::say_sources;
 use crate::gases::say_gas_table;
 use crate::head::say_name;
@@ -21,7 +21,7 @@ fn say_farm(out: &mut [u8], at: usize, s: Survey) -> usize
         return at;
     }
     let sc = group_scale(s);
-    let end = plus8(s.groups, s.co2);
+    let end = s.groups.wrapping_add(s.co2);
     let first = say(
         out,
         at,

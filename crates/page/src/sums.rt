@@ -1,16 +1,16 @@
 // What the figures of the page are: sums over the accepted records, by kind, and the figures of a group.
-ghost use Rattle.std.specs.Prelude.{◌≡◌, ◌*◌, ◌^◌, ◌≤◌, length, ◌==◌, slice_index};
+ghost use Rattle.std.specs.Prelude.{◌≡◌, ◌*◌, ◌^◌, ◌≤◌, length, ◌==◌};
 ghost use Rattle.account.specs.Range.{AccountInRange};
 ghost use Rattle.page.specs.Figures.{warmed, group_step, group_of, with_record, sum_of, SumIn, last_of, source_of, sources_of, survey_of};
 ghost use Rattle.base.specs.Choice.{pick};
 ghost use Rattle.grams.specs.Units.{co2_word};
 ghost use Rattle.account.specs.Judge.{kind_byte};
 ghost use Rattle.account.specs.Line.{co2e_in};
-ghost use Rattle.page.specs.Figures.{farm_known, farm_values, SumsRise, source_by, survey_with};
+ghost use Rattle.page.specs.Figures.{name_of, SumsRise, source_by, survey_with};
 ghost use Rattle.page.specs.Page.{ends_group};
 
-use crate::bars::{less, lowest_step, minus8, plus8};
-use crate::{Group, Source, Sources, Sum, Survey};
+use crate::bars::LOWEST_STEP;
+use crate::{Group, Named, Source, Sources, Sum, Survey};
 use account::{Account, Farm, Figures};
 use base::rest_of;
 use codec::kinds::{CATTLE, CLOSE, ENERGY, ENTERIC, GRAZING, HEADING, PIG, SOIL, TILLAGE};
@@ -54,7 +54,7 @@ pub(crate) fn group_step(a: Account) -> u64
     let n2o = f.n2o.grams();
     let grazing = f.grazing.grams();
     let farm = a.farm;
-    plus8(lowest_step(), warmed(farm, f.ch4, n2o, grazing))
+    LOWEST_STEP.wrapping_add(warmed(farm, f.ch4, n2o, grazing))
 }
 
 // Whether a record of the kind ends a group.
@@ -74,22 +74,22 @@ pub(crate) fn group_of(a: Account, from: u64, grazed: u64) -> Group
     let s = a.subtotal;
     let n2o = s.n2o.grams();
     let all = a.sums.grazing.grams();
-    let grazing = less(all, grazed);
+    let grazing = all.saturating_sub(grazed);
     let farm = a.farm;
     let co2e = warmed(farm, s.ch4, n2o, grazing);
     let to = group_step(a);
     Group {
-        group: h.group as u64,
-        class: h.class as u64,
-        head: h.head as u64,
+        group: u64::from(h.group),
+        class: u64::from(h.class),
+        head: u64::from(h.head),
         excreted: s.excreted,
         land: s.land,
         ch4: s.ch4,
-        n2o: n2o,
-        grazing: grazing,
-        co2e: co2e,
-        from: from,
-        to: to,
+        n2o,
+        grazing,
+        co2e,
+        from,
+        to,
     }
 }
 
@@ -98,13 +98,13 @@ fn with_record(s: Sum, f: Figures, g: Figures) -> Sum
     requires { SumIn s f × SumsRise f g }
     ensures { result ≡ with_record s f g }
 {
-    let co2 = minus8(g.co2.word(), f.co2.word());
+    let co2 = g.co2.word().wrapping_sub(f.co2.word());
     Sum {
         seen: true,
-        ch4: s.ch4 + less(g.ch4, f.ch4),
-        n2o: s.n2o + less(g.n2o.grams(), f.n2o.grams()),
-        co2: plus8(s.co2, co2),
-        grazing: s.grazing + less(g.grazing.grams(), f.grazing.grams()),
+        ch4: s.ch4 + (g.ch4 - f.ch4),
+        n2o: s.n2o + (g.n2o.grams() - f.n2o.grams()),
+        co2: s.co2.wrapping_add(co2),
+        grazing: s.grazing + (g.grazing.grams() - f.grazing.grams()),
     }
 }
 
@@ -119,18 +119,12 @@ fn add_kind(s: Sum, f: Figures, g: Figures, found: u64, kind: u64) -> Sum
     s
 }
 
-fn wide(b: u8) -> u64
-    ensures { result ≡ b }
-{
-    b as u64
-}
-
 // The kind of the record at the front.
 pub(crate) fn kind_of(r: &[u8]) -> u64
     requires { 4 ≤ length r.now }
     ensures { result ≡ kind_byte r.now }
 {
-    wide(r[3])
+    u64::from(r[3])
 }
 
 // The account after the accepted records of a book, and what those of a kind add to its sums.
@@ -141,6 +135,7 @@ fn gather(book: &[u8], kind: u64) -> Gathered
     let mut a = Account::new();
     let mut s = NO_SUM;
     let mut at = 0;
+    // A cursor and no count: each record has a length of its own.
     while at < book.len() {
         let rest = rest_of(book, at);
         let t = next_alone(a, rest);
@@ -167,16 +162,16 @@ fn of_kind(book: &[u8], kind: u64, from: u64) -> Source
     let a = g.account;
     let farm = a.farm;
     let gases = warmed(farm, s.ch4, s.n2o, s.grazing);
-    let co2e = plus8(gases, s.co2);
-    let to = plus8(from, co2e);
+    let co2e = gases.wrapping_add(s.co2);
+    let to = from.wrapping_add(co2e);
     Source {
         seen: s.seen,
         ch4: s.ch4,
         n2o: s.n2o,
         co2: s.co2,
-        co2e: co2e,
-        from: from,
-        to: to,
+        co2e,
+        from,
+        to,
     }
 }
 
@@ -184,7 +179,7 @@ fn of_kind(book: &[u8], kind: u64, from: u64) -> Source
 fn all_sources(book: &[u8]) -> Sources
     ensures { result ≡ sources_of book.now }
 {
-    let enteric = of_kind(book, ENTERIC, lowest_step());
+    let enteric = of_kind(book, ENTERIC, LOWEST_STEP);
     let cattle = of_kind(book, CATTLE, enteric.to);
     let pig = of_kind(book, PIG, cattle.to);
     let grazing = of_kind(book, GRAZING, pig.to);
@@ -192,13 +187,13 @@ fn all_sources(book: &[u8]) -> Sources
     let soil = of_kind(book, SOIL, energy.to);
     let tillage = of_kind(book, TILLAGE, soil.to);
     Sources {
-        enteric: enteric,
-        cattle: cattle,
-        pig: pig,
-        grazing: grazing,
-        energy: energy,
-        soil: soil,
-        tillage: tillage,
+        enteric,
+        cattle,
+        pig,
+        grazing,
+        energy,
+        soil,
+        tillage,
     }
 }
 
@@ -219,37 +214,23 @@ fn total(a: Account) -> u64
 }
 
 // The farm's number and year, where they are known.
-#[derive(Clone, Copy)]
-struct Named {
-    known: bool,
-    farm: u64,
-    year: u64,
-}
-
-fn name_of(a: Account, book: &[u8]) -> Named
-    ensures known_value { result.known ≡ farm_known a book.now }
-    ensures farm_value { result.farm ≡ pick (farm_known a book.now) (slice_index (farm_values book.now) 0) 0 }
-    ensures year_value { result.year ≡ pick (farm_known a book.now) (slice_index (farm_values book.now) 1) 0 }
+fn name_of(a: Account, book: &[u8]) -> Option<Named>
+    ensures { result ≡ name_of a book.now }
 {
     if (a.records == 0) | (book.len() < 11) {
-        return Named {
-            known: false,
-            farm: 0,
-            year: 0,
-        };
+        return None;
     }
     let v = values::farm::read(book, 4);
-    Named {
-        known: true,
+    Some(Named {
         farm: v[0],
         year: v[1],
-    }
+    })
 }
 
 // All figures of the page but those of the groups, after the last accepted record.
-fn by_account(a: Account, n: Named, sources: Sources) -> Survey
+fn by_account(a: Account, name: Option<Named>, sources: Sources) -> Survey
     requires { AccountInRange a }
-    ensures { result ≡ survey_with a n.known n.farm n.year sources }
+    ensures { result ≡ survey_with a name sources }
 {
     let f = a.sums;
     let farm = a.farm;
@@ -262,23 +243,21 @@ fn by_account(a: Account, n: Named, sources: Sources) -> Survey
     let total = total(a);
     Survey {
         closed: a.stage == 2,
-        known: n.known,
-        farm: n.farm,
-        year: n.year,
-        records: a.records as u64,
-        a: a.farm.ch4 as u64,
-        b: a.farm.n2o as u64,
+        name,
+        records: u64::from(a.records),
+        a: u64::from(a.farm.ch4),
+        b: u64::from(a.farm.n2o),
         ch4: f.ch4,
-        n2o: n2o,
-        co2: co2,
+        n2o,
+        co2,
         excreted: f.excreted,
         land: f.land,
-        grazing: grazing,
-        methane: methane,
-        oxide: oxide,
-        total: total,
-        groups: groups,
-        sources: sources,
+        grazing,
+        methane,
+        oxide,
+        total,
+        groups,
+        sources,
     }
 }
 

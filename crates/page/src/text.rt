@@ -59,7 +59,7 @@ pub(crate) fn say_kilograms(out: &mut [u8], at: usize, w: u64) -> usize
 {
     if is_below(w) {
         let first = say(out, at, b"\xe2\x88\x92");
-        return say_amount(out, first, u64::MAX - w + 1);
+        return say_amount(out, first, w.wrapping_neg());
     }
     say_amount(out, at, w)
 }

@@ -50,8 +50,7 @@ fn tell_why(rt: &impl System, v: Verdict) -> bool {
 fn tell_rows(rt: &impl System, book: &[u8], s: Survey) -> bool {
     let mut text = [0u8; 4096];
     let mut place = page::start();
-    let mut turns: u64 = 4097;
-    while turns > 0 {
+    for _ in 0..4097 {
         let row = page::next_row(book, place, s, &mut text);
         if !send_whole(rt, &text, row.written) {
             return false;
@@ -60,7 +59,6 @@ fn tell_rows(rt: &impl System, book: &[u8], s: Survey) -> bool {
         if !place.more {
             return true;
         }
-        turns -= 1;
     }
     true
 }

@@ -9,6 +9,7 @@ use native.Mathlib.Nat.{le_refl, le_trans, lt_of_le_of_lt, div-le_self, mul-le-m
 use borrow.Author.Tests.{eqb-false, leb-true}
 use lib.Dec.{T, leb, ltb, eqb, lit≤, lit<}
 use lib.ListN.{length, take, drop, length-append, length-drop}
+use Rattle.std.specs.Prelude.{Option, Some, None, IfSome}
 use Rattle.base.specs.Choice.{pick}
 use Rattle.base.proofs.Tests.{by-test}
 use Rattle.printing.specs.Ascii.{thin_space}
@@ -20,6 +21,7 @@ use Rattle.names.specs.Names.{no_row, table_line, choice_table, choices_of, clas
 use Rattle.grams.proofs.Round.{round-le}
 use Rattle.why.specs.declared.Verdict.{Verdict}
 use Rattle.page.specs.declared.Group.{Group}
+use Rattle.page.specs.declared.Named.{Named}
 use Rattle.page.specs.declared.Scale.{Scale}
 use Rattle.page.specs.declared.Source.{Source}
 use Rattle.page.specs.declared.Survey.{Survey}
@@ -27,13 +29,14 @@ use Rattle.page.specs.Text.{last_three, threes_by, amount_text, below, kilograms
 use Rattle.page.specs.Bars.{plus8, no_step, lesser, greater, place_of, rect_text, mark_text, bar_text}
 use Rattle.page.specs.Style.{type_style, table_style, narrow_style, print_style, style_text}
 use Rattle.page.specs.Figures.{of_farm, group_scale, source_scale}
-use Rattle.page.specs.Parts.{name_text, title_text, head_text, total_text, groups_head, top_text, heading_text, per_head, count_text, figures_text}
+use Rattle.page.specs.Parts.{named_text, name_text, title_text, head_text, total_text, groups_head, top_text, heading_text, per_head, count_text}
+use Rattle.page.specs.Parts.{figures_text}
 use Rattle.page.specs.Parts.{together_text, bars_text, group_text, farm_text, groups_foot, source_table, words_table, source_name, words_text}
 use Rattle.page.specs.Parts.{gases_text, source_text, animals_text, land_text, sources_foot, sources_text, gas_text, factors_text, carbon_text}
 use Rattle.page.specs.Parts.{source_head, gas_table}
 use Rattle.page.specs.Parts.{counted_text, exact_text, foot_text, rest_text, warning_text, advice_text, before_text, after_text}
 use Rattle.page.specs.Page.{is_refused, first_text, last_text}
-use Rattle.page_sums.specs.Buffers.{part_buffer, row_buffer, Word, GroupWords, SourceWords, SurveyWords}
+use Rattle.page_sums.specs.Buffers.{part_buffer, row_buffer, Word, GroupWords, SourceWords, NameWords, SurveyWords}
 
 -- ---- texts one after the other
 
@@ -217,10 +220,14 @@ style-short : Short 7500 style_text
 unfolding style_text type_style table_style narrow_style print_style
 style-short = within 7500 (label-short style_text) tt
 
+named-short : (name : Option Named) → IfSome name (λ (n : Named). NameWords n) → Short 60 (named_text name)
+named-short None w = within 60 (skip 7 none) tt
+named-short (Some n) w = within 60 (skip 5 (number w.farm ⊞ skip 2 (number w.year))) tt
+
 module _ (s : Survey) (w : SurveyWords s) where
   name-short : Short 60 (name_text s)
   unfolding name_text
-  name-short = either s.known (within 60 (skip 5 (number w.farm ⊞ skip 2 (number w.year))) tt) (within 60 (skip 7 none) tt)
+  name-short = named-short s.name w.name
 
   title-short : Short 30 (title_text s.closed)
   unfolding title_text

@@ -1,7 +1,8 @@
 -- What is promised of the pieces in which the page is printed: each is shorter than the buffer that the program has for it, whatever the figures are.
 -- Assumes nothing.
-use Rattle.std.specs.Prelude.{ℕ, ◌^◌, ◌<◌}
+use Rattle.std.specs.Prelude.{ℕ, ◌^◌, ◌<◌, IfSome}
 use Rattle.page.specs.declared.Group.{Group}
+use Rattle.page.specs.declared.Named.{Named}
 use Rattle.page.specs.declared.Source.{Source}
 use Rattle.page.specs.declared.Sources.{Sources}
 use Rattle.page.specs.declared.Survey.{Survey}
@@ -46,9 +47,12 @@ pub record SourcesWords (s : Sources) : Type 0 where
   pub soil : SourceWords s.soil
   pub tillage : SourceWords s.tillage
 
+pub record NameWords (n : Named) : Type 0 where
+  pub farm : Word n.farm
+  pub year : Word n.year
+
 pub record SurveyWords (s : Survey) : Type 0 where
-  pub farm : Word s.farm
-  pub year : Word s.year
+  pub name : IfSome s.name (λ (n : Named). NameWords n)
   pub records : Word s.records
   pub a : Word s.a
   pub b : Word s.b

@@ -1,12 +1,15 @@
 -- The table of many books, as comma-separated text (CRLF after each row, no quotes): the header, a row for each file in the order given, and last the
 -- row `all` with how many are closed and the sums over them.
-use Rattle.std.specs.Prelude.{ℕ, suc, Bool, true, not, ◌&&◌, ◌||◌, List, [], ◌∷◌, ◌++◌, drop, ◌==◌}
+use Rattle.std.specs.Prelude.{ℕ, suc, Bool, not, ◌&&◌, ◌||◌, List, [], ◌∷◌, ◌++◌, drop, ◌==◌}
+use Rattle.std.specs.List.{list_all}
 use Rattle.base.specs.Choice.{pick}
 use Rattle.line_rows.specs.declared.Form.TheVariants.{Sheet}
 use Rattle.line_rows.specs.Rows.{is_signed, column_text, header}
 use Rattle.printing.specs.Ascii.{ascii}
 use Rattle.printing.specs.Decimal.{decimal}
 use Rattle.table.specs.declared.Seen.{Seen}
+use Rattle.table.specs.declared.State.{State}
+use Rattle.table.specs.declared.State.TheVariants.{Unreadable, Unfinished, Closed, Refused}
 use Rattle.table.specs.declared.sums.Sum.{Sum}
 use Rattle.table.specs.declared.sums.Totals.{Totals}
 use Rattle.table.specs.Seen.{is_closed}
@@ -22,14 +25,24 @@ header_text = ascii "file,farm,year,state,records" ++ drop 10 (header Sheet)
 abbrev pub farm_text : Seen → List ℕ
 farm_text s = pick (s.records == 0) (ascii ",,") (ascii "," ++ (decimal s.farm ++ (ascii "," ++ decimal s.year)))
 
+abbrev pub word_of : State → List ℕ
+word_of Unreadable = ascii "unreadable"
+word_of Unfinished = ascii "unfinished"
+word_of Closed = ascii "closed"
+word_of (Refused code) = ascii "refused " ++ decimal code
+
 abbrev pub state_text : Seen → List ℕ
-state_text s =
-    pick s.read (pick (s.stage == 2) (ascii "closed") (pick (s.stage == 3) (ascii "refused " ++ decimal s.code) (ascii "unfinished")))
-    (ascii "unreadable")
+state_text s = word_of s.state
 
 -- the records accepted, where the file could be read
+abbrev pub count_of : State → ℕ → List ℕ
+count_of Unreadable records = []
+count_of Unfinished records = decimal records
+count_of Closed records = decimal records
+count_of (Refused code) records = decimal records
+
 abbrev pub records_text : Seen → List ℕ
-records_text s = pick s.read (decimal s.records) []
+records_text s = count_of s.state s.records
 
 -- the number of a column as a sheet has it, or an empty cell
 abbrev pub cell_text : Bool → ℕ → ℕ → List ℕ
@@ -66,9 +79,8 @@ abbrev pub is_plain : ℕ → Bool
 is_plain b = not ((b == 44 || b == 34) || (b == 13 || b == 10))
 
 -- a name that can stand in a cell
-unfoldable pub is_name : List ℕ → Bool
-is_name [] = true
-is_name (b ∷ s) = is_plain b && is_name s
+abbrev pub is_name : List ℕ → Bool
+is_name name = list_all is_plain name
 
 -- what is said of one that can't
 abbrev pub wrong_name_text : List ℕ → List ℕ

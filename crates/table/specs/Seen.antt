@@ -1,6 +1,6 @@
 -- What the table shows of a book: where it ended, how many records were accepted, its farm record, and its total line.
 -- Assumes nothing.
-use Rattle.std.specs.Prelude.{◌≡◌, ℕ, ◌+◌, Bool, true, false, ◌&&◌, List, [], ◌∷◌, length, replicate, ◌==◌, nat_lt, slice_index}
+use Rattle.std.specs.Prelude.{◌≡◌, ℕ, ◌+◌, Bool, true, false, List, [], ◌∷◌, length, replicate, ◌==◌, nat_lt, slice_index}
 use Rattle.base.specs.Choice.{pick}
 use Rattle.codec.specs.Table.{fields, size}
 use Rattle.codec.specs.Codec.{values_at}
@@ -15,6 +15,8 @@ use Rattle.book.specs.State.{no_record_yet}
 use Rattle.book.specs.Run.{run}
 use Rattle.walk.specs.Walk.{record_at, accepts}
 use Rattle.table.specs.declared.Seen.{Seen}
+use Rattle.table.specs.declared.State.{State}
+use Rattle.table.specs.declared.State.TheVariants.{Unreadable, Unfinished, Closed, Refused}
 
 -- the account that a book comes to: what stands after a close or a refusal changes nothing
 abbrev pub end_of : List ℕ → Account
@@ -25,12 +27,13 @@ abbrev pub farm_values : List ℕ → List ℕ
 farm_values book = pick (nat_lt (length book) (4 + size (fields 1))) (0 ∷ 0 ∷ 0 ∷ []) (values_at (fields 1) book 4)
 
 -- of a book that could be read, by the account a that it comes to: the numbers are those of the total line of that account, kind, group and figures
+abbrev pub state_of : Account → State
+state_of a = pick (a.stage == 2) Closed (pick (a.stage == 3) (Refused a.refusal.code) Unfinished)
+
 abbrev pub seen_by : Account → List ℕ → Seen
 seen_by a book =
     record {
-      read = true;
-      stage = a.stage;
-      code = a.refusal.code;
+      state = state_of a;
       records = a.records;
       farm = slice_index (farm_values book) 0;
       year = slice_index (farm_values book) 1;
@@ -49,8 +52,14 @@ pub record FarmShown (book : List ℕ) : Type 0 where
 
 -- of a file that could not be read
 abbrev pub not_read : Seen
-not_read = record { read = false; stage = 0; code = 0; records = 0; farm = 0; year = 0; numbers = replicate (3 + figure_count) 0 }
+not_read = record { state = Unreadable; records = 0; farm = 0; year = 0; numbers = replicate (3 + figure_count) 0 }
 
 -- a closed book
+abbrev pub ends_closed : State → Bool
+ends_closed Unreadable = false
+ends_closed Unfinished = false
+ends_closed Closed = true
+ends_closed (Refused code) = false
+
 abbrev pub is_closed : Seen → Bool
-is_closed s = s.read && s.stage == 2
+is_closed s = ends_closed s.state

@@ -9,7 +9,7 @@ ghost use Rattle.std.specs.Prelude.{◌≡◌};
 ghost use Rattle.line_rows.specs.Rows.{line_numbers};
 ghost use Rattle.account.specs.Range.{AccountInRange};
 ghost use Rattle.account.specs.Line.{total_of};
-ghost use Rattle.table.specs.Seen.{end_of, farm_values, seen_of, not_read, is_closed};
+ghost use Rattle.table.specs.Seen.{end_of, farm_values, state_of, seen_of, not_read, is_closed};
 
 use account::Account;
 use base::rest_of;
@@ -20,13 +20,20 @@ use walk::next_alone;
 // The bytes of a farm record up to its fields, and those of the fields that it has in version 1 at least.
 const FARM_BYTES: usize = 4 + 7;
 
-// What is seen of a file: whether it could be read; where the book ended, with the refusal's number; the records accepted; farm number and year; and
-// the numbers of its total line, which count where it is closed.
+// Where a book ended: a refusal with its number. Of a file that could not be read nothing else is seen.
+#[derive(Clone, Copy, Debug, PartialEq, Eq)]
+pub enum State {
+    Unreadable,
+    Unfinished,
+    Closed,
+    Refused(u8),
+}
+
+// What is seen of a file: where the book ended; the records accepted; farm number and year; and the numbers of its total line, which count where it is
+// closed. Farm and year are no Option: the theorem `table-farm` speaks of both as numbers, and they are shown where `records` is not 0.
 #[derive(Clone, Copy)]
 pub struct Seen {
-    pub read: bool,
-    pub stage: u8,
-    pub code: u8,
+    pub state: State,
     pub records: u16,
     pub farm: u64,
     pub year: u64,
@@ -40,6 +47,7 @@ fn end_of(book: &[u8]) -> Account
 {
     let mut a = Account::new();
     let mut at = 0;
+    // A cursor and no count: each record has a length of its own.
     while at < book.len() {
         let t = next_alone(a, rest_of(book, at));
         a = t.account;
@@ -49,6 +57,19 @@ fn end_of(book: &[u8]) -> Account
         at += t.size;
     }
     a
+}
+
+// Where an account stands that no record follows.
+fn state_of(a: Account) -> State
+    ensures { result ≡ state_of a }
+{
+    if a.stage == 2 {
+        return State::Closed;
+    }
+    if a.stage == 3 {
+        return State::Refused(a.refusal.code);
+    }
+    State::Unfinished
 }
 
 // The values of the farm record with which a book begins.
@@ -87,15 +108,12 @@ pub fn look(book: &[u8]) -> Seen
     let a = end_of(book);
     let f = farm_values(book);
     let numbers = total_numbers(a);
-    let refusal = a.refusal;
     Seen {
-        read: true,
-        stage: a.stage,
-        code: refusal.code,
+        state: state_of(a),
         records: a.records,
         farm: f[0],
         year: f[1],
-        numbers: numbers,
+        numbers,
     }
 }
 
@@ -104,9 +122,7 @@ pub fn not_read() -> Seen
     ensures { result ≡ not_read }
 {
     Seen {
-        read: false,
-        stage: 0,
-        code: 0,
+        state: State::Unreadable,
         records: 0,
         farm: 0,
         year: 0,
@@ -117,5 +133,5 @@ pub fn not_read() -> Seen
 pub fn is_closed(s: Seen) -> bool
     ensures { result ≡ is_closed s }
 {
-    s.read & (s.stage == 2)
+    matches!(s.state, State::Closed)
 }

@@ -15,14 +15,7 @@ fn is_plain(b: u8) -> bool
 pub fn is_name(name: &[u8]) -> bool
     ensures { result ≡ is_name name.now }
 {
-    let mut i = 0;
-    while i < name.len() {
-        if !is_plain(name[i]) {
-            return false;
-        }
-        i += 1;
-    }
-    true
+    name.iter().all(|b| is_plain(*b))
 }
 
 // What is said of one that can't, from the buffer's start.

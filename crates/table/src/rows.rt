@@ -7,7 +7,7 @@ ghost use Rattle.table.specs.Rows.{figures_text, row_text, last_text};
 ghost use Rattle.table.specs.Sums.{fits};
 
 use crate::sums::{Sum, Totals, fits};
-use crate::{Seen, is_closed};
+use crate::{Seen, State, is_closed};
 use base::{first_of, rest_of};
 use line_bytes::TOTAL_NUMBERS;
 use line_rows::{Form, ROW_MOST, is_signed, put_header};
@@ -44,27 +44,25 @@ fn say_state(out: &mut [u8], at: usize, s: Seen) -> usize
     requires { at ≤ length out.old }
     ensures { Said out.old out.new at (state_text s) result }
 {
-    if !s.read {
-        return say(out, at, b"unreadable");
+    match s.state {
+        State::Unreadable => say(out, at, b"unreadable"),
+        State::Unfinished => say(out, at, b"unfinished"),
+        State::Closed => say(out, at, b"closed"),
+        State::Refused(code) => {
+            let word = say(out, at, b"refused ");
+            say_number(out, word, u64::from(code))
+        }
     }
-    if s.stage == 2 {
-        return say(out, at, b"closed");
-    }
-    if s.stage != 3 {
-        return say(out, at, b"unfinished");
-    }
-    let word = say(out, at, b"refused ");
-    say_number(out, word, s.code as u64)
 }
 
 fn say_records(out: &mut [u8], at: usize, s: Seen) -> usize
     requires { at ≤ length out.old }
     ensures { Said out.old out.new at (records_text s) result }
 {
-    if !s.read {
-        return at;
+    match s.state {
+        State::Unreadable => at,
+        _ => say_number(out, at, u64::from(s.records)),
     }
-    say_number(out, at, s.records as u64)
 }
 
 // The number of a column, as a sheet has it.
@@ -98,10 +96,8 @@ fn say_figures(out: &mut [u8], at: usize, shown: bool, numbers: [u64; TOTAL_NUMB
     ensures { Said out.old out.new at (cells_text shown 2 (drop 2 numbers)) result }
 {
     let mut end = at;
-    let mut k = 2;
-    while k < TOTAL_NUMBERS {
+    for k in 2..TOTAL_NUMBERS {
         end = say_cell(out, end, shown, k, numbers[k]);
-        k += 1;
     }
     end
 }
@@ -120,11 +116,8 @@ fn say_sums(out: &mut [u8], at: usize, sums: [Sum; TOTAL_NUMBERS]) -> usize
     ensures { Said out.old out.new at (sums_text 2 (drop 2 sums)) result }
 {
     let mut end = at;
-    let mut k = 2;
-    while k < TOTAL_NUMBERS {
-        let s = sums[k];
-        end = say_sum(out, end, k, s);
-        k += 1;
+    for k in 2..TOTAL_NUMBERS {
+        end = say_sum(out, end, k, sums[k]);
     }
     end
 }

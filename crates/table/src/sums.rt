@@ -36,9 +36,9 @@ fn count_if(n: u64, more: bool) -> u64
 fn plus(s: Sum, w: u64, signed: bool) -> Sum
     ensures { result ≡ sum_with signed s w }
 {
-    let low = std::num::wrapping_add_u64(s.low, w);
+    let low = s.low.wrapping_add(w);
     Sum {
-        low: low,
+        low,
         ups: count_if(s.ups, low < w),
         downs: count_if(s.downs, signed & (HALF <= w)),
     }
@@ -49,12 +49,10 @@ fn plus_each(from: [Sum; TOTAL_NUMBERS], numbers: [u64; TOTAL_NUMBERS]) -> [Sum;
     ensures { result ≡ sums_with 0 from numbers }
 {
     let mut sums = from;
-    let mut k = 0;
-    while k < TOTAL_NUMBERS {
+    for k in 0..TOTAL_NUMBERS {
         let s = sums[k];
         let next = plus(s, numbers[k], is_signed(k));
         sums[k] = next;
-        k += 1;
     }
     sums
 }

@@ -61,14 +61,7 @@ fn is_named(rt: &impl System, i: usize) -> bool {
 
 // Every file, before anything is printed.
 fn are_named(rt: &impl System, count: usize) -> bool {
-    let mut i = FIRST;
-    while i < count {
-        if !is_named(rt, i) {
-            return false;
-        }
-        i += 1;
-    }
-    true
+    (FIRST..count).all(|i| is_named(rt, i))
 }
 
 // The bytes of a file, up to as many as decide; where it can't be read, that is reported.
@@ -141,13 +134,11 @@ fn turn(rt: &(impl System + Files), w: Work, i: usize, book: &mut [u8]) -> Work 
 // File after file, until a write fails.
 fn run(rt: &(impl System + Files), from: Work, count: usize, book: &mut [u8]) -> Work {
     let mut w = from;
-    let mut i = FIRST;
-    while i < count {
+    for i in FIRST..count {
         if !w.written {
             return w;
         }
         w = turn(rt, w, i, book);
-        i += 1;
     }
     w
 }

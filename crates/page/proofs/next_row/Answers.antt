@@ -1,11 +1,10 @@
 -- Where the place is in the book and a record is accepted there. Assumes nothing.
-use Rattle.std.proofs.Common.{◌≡◌, false, not, ◌||◌, ltb, length, drop, ap, arith}
+use Rattle.std.proofs.Common.{◌≡◌, false, not, ◌||◌, ltb, length, drop, arith}
 use Rattle.printing.proofs.Sayings.{said-none}
 use Rattle.account.specs.Range.{account_in_range}
 use Rattle.account.proofs.Clauses.{in-range-parts}
-use Rattle.walk.specs.declared.Next.{Next}
 use Rattle.walk.specs.Walk.{next_of}
-use Rattle.page.proofs.Pages.{goes-outside, goes_none, goes_some, place-stays, row_stays, place-moves, row-moves, inside-range, inside-bytes}
+use Rattle.page.proofs.Pages.{goes-outside, place-stays, row_stays, inside-range, inside-bytes}
 use Rattle.page.proofs.Pages.{next-stands, next-inside}
 use Rattle.page.proofs.next_row.Goals as goal
 
@@ -17,28 +16,10 @@ returns-then-in_range-book c = let a = c.args in
           (said-none (omega arith));
     }
 
-pub rest_of-rest-requires : goal.rest_of-rest-requires
-rest_of-rest-requires c = inside-bytes c.in_range.result _ _ c.if-in_range-book.false
-
 pub next_alone-t-requires : goal.next_alone-t-requires
 next_alone-t-requires c = let a = c.args in
     in-range-parts _ (inside-range _ a.p.at (length a.book.now) (rw c.in_range.ensures at
     c.if-in_range-book.false))
-
-pub returns-then-t-after : goal.returns-then-t-after
-returns-then-t-after c =
-    let rest-is : c.rest_of-rest.result.now ≡ drop c.args.p.at c.args.book.now = c.rest_of-rest.ensures in
-    let next-is : c.next_alone-t.result ≡ next_of c.args.p.account (drop c.args.p.at c.args.book.now) = rw rest-is at c.next_alone-t.ensures.result in
-    let size_is : c.next_alone-t.result.size ≡ (next_of c.args.p.account (drop c.args.p.at c.args.book.now)).size =
-    ap (λ (t : Next). t.size) next-is in
-    let stage_is : c.next_alone-t.result.account.stage ≡ (next_of c.args.p.account (drop c.args.p.at c.args.book.now)).account.stage =
-    ap (λ (t : Next). t.account.stage) next-is in
-    let a = c.args in
-    let o = goes_none a.p a.book.now _ _ size_is stage_is c.if-t-after.true in record {
-      place_value = place-stays a.p a.book.now o c.stopped-then-t-after.ensures.0;
-      said = rw (c.stopped-then-t-after.ensures.1, row_stays a.p a.book.now _ o)
-          (said-none (omega arith));
-    }
 
 pub kind_of-kind-requires : goal.kind_of-kind-requires
 kind_of-kind-requires c =
@@ -70,22 +51,3 @@ moved-requires c =
         c.well_formed,
       ),
     )
-
-pub returns : goal.returns
-returns c =
-    let rest-is : c.rest_of-rest.result.now ≡ drop c.args.p.at c.args.book.now = c.rest_of-rest.ensures in
-    let next-is : c.next_alone-t.result ≡ next_of c.args.p.account (drop c.args.p.at c.args.book.now) = rw rest-is at c.next_alone-t.ensures.result in
-    let size_is : c.next_alone-t.result.size ≡ (next_of c.args.p.account (drop c.args.p.at c.args.book.now)).size =
-    ap (λ (t : Next). t.size) next-is in
-    let stage_is : c.next_alone-t.result.account.stage ≡ (next_of c.args.p.account (drop c.args.p.at c.args.book.now)).account.stage =
-    ap (λ (t : Next). t.account.stage) next-is in
-    let inside_is : not (account_in_range c.args.p.account) || ltb (length c.args.book.now) c.args.p.at ≡ false =
-    rw c.in_range.ensures at c.if-in_range-book.false in
-    let a = c.args in
-    let k = rw rest-is at c.kind_of-kind.ensures in
-    let o = goes_some a.p a.book.now _ _ size_is stage_is inside_is
-    c.if-t-after.false in
-    record {
-      place_value = place-moves a.p a.book.now _ k o _ next-is c.moved.ensures;
-      said = rw (row-moves a.p a.book.now _ k o _) c.say_row-n.ensures;
-    }

@@ -1,41 +1,17 @@
 -- The walk goes through the book. Assumes nothing.
-use Rattle.std.proofs.Common.{◌≡◌, drop, arith}
+use Rattle.std.proofs.Common.{◌≡◌, drop}
 use Rattle.walk.specs.Walk.{next_of}
-use Rattle.table.proofs.Ends.{going-none, going-all, going_end, going_on, some_bytes}
+use Rattle.table.proofs.Ends.{going-none, going-all, going_end, going_on}
 use Rattle.table.proofs.end_of.Goals as goal
 
 pub loop-at-init : goal.loop-at-init
 loop-at-init c = rw c.new-a.ensures (going-none _)
-
-pub rest_of-requires : goal.rest_of-requires
-rest_of-requires c = c.loop-at.invariant.within
-
-pub next_alone-t-requires : goal.next_alone-t-requires
-next_alone-t-requires c = c.loop-at.invariant.range
 
 pub returns-then-t-eq0 : goal.returns-then-t-eq0
 returns-then-t-eq0 c =
     let next-is : let l = c.loop-at in
     c.next_alone-t.result ≡ next_of l.a (drop l.at c.args.book.now) = rw c.rest_of.ensures at c.next_alone-t.ensures.result in
     let f = c in record { is = going_end f.loop-at.invariant (next-is) c.if-t-eq0.true; range = f.next_alone-t.ensures.inside.1 }
-
-pub overflow_add-at : goal.overflow_add-at
-overflow_add-at c =
-    let next-is : let l = c.loop-at in
-    c.next_alone-t.result ≡ next_of l.a (drop l.at c.args.book.now) = rw c.rest_of.ensures at c.next_alone-t.ensures.result in
-    let f = c in
-    omega (
-      arith,
-      (some_bytes f.loop-at.invariant (next-is) c.if-t-eq0.false).1,
-      f.well_formed,
-    )
-
-pub loop-at-smaller : goal.loop-at-smaller
-loop-at-smaller c =
-    let next-is : let l = c.loop-at in
-    c.next_alone-t.result ≡ next_of l.a (drop l.at c.args.book.now) = rw c.rest_of.ensures at c.next_alone-t.ensures.result in
-    let f = c in
-    omega (arith, some_bytes f.loop-at.invariant (next-is) c.if-t-eq0.false)
 
 pub loop-at-preserved : goal.loop-at-preserved
 loop-at-preserved c =

@@ -5,4 +5,4 @@ use Rattle.table.proofs.look.Goals as goal
 
 pub returns : goal.returns
 unfolding seen_of
-returns c = rw (c.total_numbers-numbers.ensures, c.farm_values-f.ensures, c.end_of-a.ensures.is) refl
+returns c = rw (c.total_numbers-numbers.ensures, c.farm_values-f.ensures, c.state_of.ensures, c.end_of-a.ensures.is) refl

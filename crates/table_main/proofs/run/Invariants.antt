@@ -1,9 +1,6 @@
 -- File after file. Assumes nothing.
-use Rattle.std.proofs.Common.{length, ◌≡◌, ◌-◌}
+use Rattle.std.proofs.Common.{length, ◌≡◌}
 use Rattle.table_main.proofs.run.Given as goal
 
 abbrev pub invariant-loop-i : goal.invariant-loop-i
 invariant-loop-i g l = length l.book ≡ length l.initial.book
-
-abbrev pub decreases-loop-i : goal.decreases-loop-i
-decreases-loop-i g l = l.count - l.i

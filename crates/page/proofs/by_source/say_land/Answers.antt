@@ -3,12 +3,6 @@ use Rattle.printing.proofs.Sayings.{◌⟫◌}
 use Rattle.page.specs.Parts.{land_text}
 use Rattle.page.proofs.by_source.say_land.Goals as goal
 
-pub shape_of-out : goal.shape_of-out
-unfolding land_text
-shape_of-out c = (c.say_source-first.ensures
-    ⟫ c.say_source-second.ensures
-    ⟫ c.say_source.ensures).long
-
 pub returns : goal.returns
 unfolding land_text
 returns c = c.say_source-first.ensures

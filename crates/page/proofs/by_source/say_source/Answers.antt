@@ -3,13 +3,6 @@ use Rattle.printing.proofs.Sayings.{◌⟫◌}
 use Rattle.page.specs.Parts.{source_text}
 use Rattle.page.proofs.by_source.say_source.Goals as goal
 
-pub shape_of-out : goal.shape_of-out
-unfolding source_text
-shape_of-out c = (c.say_source_head-first.ensures
-    ⟫ c.say_gases-second.ensures
-    ⟫ c.say_together-third.ensures
-    ⟫ c.say_bars.ensures).long
-
 pub returns : goal.returns
 unfolding source_text
 returns c = rw c.is_below-up.ensures at (c.say_source_head-first.ensures

@@ -3,12 +3,6 @@ use Rattle.printing.proofs.Sayings.{◌⟫◌}
 use Rattle.page.specs.Parts.{sources_text}
 use Rattle.page.proofs.by_source.say_sources.Goals as goal
 
-pub shape_of-out : goal.shape_of-out
-unfolding sources_text
-shape_of-out c = (c.say_animals-first.ensures
-    ⟫ c.say_land-second.ensures
-    ⟫ c.say_sources_foot.ensures).long
-
 pub returns : goal.returns
 unfolding sources_text
 returns c = rw c.scale-sc.ensures.0 at (c.say_animals-first.ensures

@@ -3,12 +3,6 @@ use Rattle.printing.proofs.Sayings.{◌⟫◌}
 use Rattle.page.specs.Parts.{top_text}
 use Rattle.page.proofs.head.say_top.Goals as goal
 
-pub shape_of-out : goal.shape_of-out
-unfolding top_text
-shape_of-out c = (c.say_head-first.ensures
-    ⟫ c.say_total-second.ensures
-    ⟫ c.say_groups_head.ensures).long
-
 pub returns : goal.returns
 unfolding top_text
 returns c = c.say_head-first.ensures

@@ -13,7 +13,6 @@ unfolding farm_text
 returns c = rw (sym c.of_farm.ensures ∙ c.if-not-of_farm.false)
     (rw (
       c.group_scale-sc.ensures.0,
-      c.plus8-end.ensures,
       c.is_below.ensures,
     )
     at (c.say-first.ensures

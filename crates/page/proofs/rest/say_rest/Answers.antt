@@ -3,16 +3,6 @@ use Rattle.printing.proofs.Sayings.{◌⟫◌}
 use Rattle.page.specs.Parts.{rest_text}
 use Rattle.page.proofs.rest.say_rest.Goals as goal
 
-pub shape_of-out : goal.shape_of-out
-unfolding rest_text
-shape_of-out c = (c.say_farm-first.ensures
-    ⟫ c.say_groups_foot-second.ensures
-    ⟫ c.say_sources-third.ensures
-    ⟫ c.say_gas_table-fourth.ensures
-    ⟫ c.say_counted-fifth.ensures
-    ⟫ c.say_exact-sixth.ensures
-    ⟫ c.say_foot.ensures).long
-
 pub returns : goal.returns
 unfolding rest_text
 returns c = c.say_farm-first.ensures

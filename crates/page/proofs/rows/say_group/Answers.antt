@@ -3,14 +3,6 @@ use Rattle.printing.proofs.Sayings.{◌⟫◌}
 use Rattle.page.specs.Parts.{group_text}
 use Rattle.page.proofs.rows.say_group.Goals as goal
 
-pub shape_of-out : goal.shape_of-out
-unfolding group_text
-shape_of-out c = (c.say_heading-first.ensures
-    ⟫ c.say_count-second.ensures
-    ⟫ c.say_figures-third.ensures
-    ⟫ c.say_together-fourth.ensures
-    ⟫ c.say_bars.ensures).long
-
 pub returns : goal.returns
 unfolding group_text
 returns c = c.say_heading-first.ensures

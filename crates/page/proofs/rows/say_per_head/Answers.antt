@@ -1,5 +1,5 @@
 -- Nothing without head. Assumes nothing.
-use Rattle.std.proofs.Common.{arith, eq-eqb, ne_eqb}
+use Rattle.std.proofs.Common.{eq-eqb, ne_eqb}
 use Rattle.printing.proofs.Sayings.{said-none}
 use Rattle.page.specs.Parts.{per_head}
 use Rattle.page.proofs.rows.say_per_head.Goals as goal
@@ -7,10 +7,6 @@ use Rattle.page.proofs.rows.say_per_head.Goals as goal
 pub returns-then-head-eq0 : goal.returns-then-head-eq0
 unfolding per_head
 returns-then-head-eq0 c = rw (eq-eqb _ _ c.if-head-eq0.true) (said-none c.requires)
-
-pub round_div-requires : goal.round_div-requires
-unfolding per_head
-round_div-requires c = omega (arith, c.if-head-eq0.false)
 
 pub returns : goal.returns
 unfolding per_head

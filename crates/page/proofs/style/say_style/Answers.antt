@@ -3,13 +3,6 @@ use Rattle.printing.proofs.Sayings.{◌⟫◌}
 use Rattle.page.specs.Style.{style_text}
 use Rattle.page.proofs.style.say_style.Goals as goal
 
-pub shape_of-out : goal.shape_of-out
-unfolding style_text
-shape_of-out c = (c.say_type-first.ensures
-    ⟫ c.say_tables-second.ensures
-    ⟫ c.say_narrow-third.ensures
-    ⟫ c.say_print.ensures).long
-
 pub returns : goal.returns
 unfolding style_text
 returns c = c.say_type-first.ensures

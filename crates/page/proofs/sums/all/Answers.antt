@@ -4,12 +4,9 @@ use Rattle.page.proofs.sums.all.Goals as goal
 
 pub returns : goal.returns
 unfolding survey_of
-returns c = let n = c.name_of-n.ensures in
-    rw (
-      c.by_account.ensures,
-      c.all_sources-s.ensures,
-      n.known_value,
-      n.farm_value,
-      n.year_value,
-      c.gather-g.ensures.account_value.0,
-    )
+returns c = rw (
+  c.by_account.ensures,
+  c.all_sources-s.ensures,
+  c.name_of-n.ensures,
+  c.gather-g.ensures.account_value.0,
+)

@@ -12,5 +12,4 @@ returns c = rw (
   c.of_kind-pig.ensures,
   c.of_kind-cattle.ensures,
   c.of_kind-enteric.ensures,
-  c.lowest_step.ensures,
 )

@@ -1,17 +1,11 @@
 -- The walk goes through the book. Assumes nothing.
 use Rattle.std.proofs.Common.{◌≡◌, drop, arith}
 use Rattle.walk.specs.Walk.{next_of}
-use Rattle.page.proofs.Gathers.{gathering-none, gathering-far, gathering-end, standing, gathering-inside, gathering-next, rise-next}
+use Rattle.page.proofs.Gathers.{gathering-none, gathering-far, gathering-end, standing, gathering-next, rise-next}
 use Rattle.page.proofs.sums.gather.Goals as goal
 
 pub loop-at-init : goal.loop-at-init
 loop-at-init c = rw c.new-a.ensures (gathering-none _ _)
-
-pub rest_of-rest-requires : goal.rest_of-rest-requires
-rest_of-rest-requires c = c.loop-at.invariant.within
-
-pub next_alone-t-requires : goal.next_alone-t-requires
-next_alone-t-requires c = c.loop-at.invariant.range
 
 pub returns-then-t-after : goal.returns-then-t-after
 returns-then-t-after c =
@@ -34,25 +28,6 @@ add_kind-s-requires c =
     let next-is : c.next_alone-t.result ≡ next_of c.loop-at.a (drop c.loop-at.at c.args.book.now) = rw left_is at c.next_alone-t.ensures.result in
     let l = c.loop-at in
     (l.invariant.sum, rise-next _ _ _ (standing l.invariant _ next-is c.if-t-after.false))
-
-pub overflow_add-at : goal.overflow_add-at
-overflow_add-at c =
-    let left_is : c.rest_of-rest.result.now ≡ drop c.loop-at.at c.args.book.now = c.rest_of-rest.ensures in
-    let next-is : c.next_alone-t.result ≡ next_of c.loop-at.a (drop c.loop-at.at c.args.book.now) = rw left_is at c.next_alone-t.ensures.result in
-    omega (
-      arith,
-      gathering-inside c.loop-at.invariant _ next-is
-          c.if-t-after.false,
-      c.well_formed,
-    )
-
-pub loop-at-smaller : goal.loop-at-smaller
-loop-at-smaller c =
-    let left_is : c.rest_of-rest.result.now ≡ drop c.loop-at.at c.args.book.now = c.rest_of-rest.ensures in
-    let next-is : c.next_alone-t.result ≡ next_of c.loop-at.a (drop c.loop-at.at c.args.book.now) = rw left_is at c.next_alone-t.ensures.result in
-    let l = c.loop-at in
-    let h = c.if-t-after.false in
-    omega (arith, gathering-inside l.invariant _ next-is h, (standing l.invariant _ next-is h).least)
 
 pub loop-at-preserved : goal.loop-at-preserved
 loop-at-preserved c =

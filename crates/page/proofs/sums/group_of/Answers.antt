@@ -7,7 +7,10 @@ unfolding group_of
 returns c = rw (
   c.group_step-to.ensures,
   c.warmed-co2e.ensures,
-  c.less-grazing.ensures,
+  c.saturating_sub-grazing.ensures,
   c.grams-all.ensures,
   c.grams-n2o.ensures,
+  c.from.ensures,
+  c.from-2.ensures,
+  c.from-3.ensures,
 )

@@ -2,8 +2,5 @@
 use Rattle.printing.proofs.Sayings.{◌⟫◌}
 use Rattle.table.proofs.rows.say_cell.Goals as goal
 
-pub returns-then-not-shown : goal.returns-then-not-shown
-returns-then-not-shown c = rw c.if-not-shown.true c.say-comma.ensures
-
 pub returns : goal.returns
 returns c = rw c.if-not-shown.false (c.say-comma.ensures ⟫ c.say_column.ensures)

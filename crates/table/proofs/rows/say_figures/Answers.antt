@@ -1,12 +1,9 @@
 -- The invariant: saying the cells that are left makes all. Assumes nothing.
-use Rattle.std.proofs.Common.{◌≡◌, ◌+◌, length, refl, ◌∙◌, arith, rules}
+use Rattle.std.proofs.Common.{◌≡◌, ◌+◌, length, ◌∙◌, arith, rules}
 use Rattle.line_bytes.specs.Lines.{figure_count}
 use Rattle.printing.proofs.Sayings.{◌⟫◌, said-none}
 use Rattle.table.proofs.Columns.{one_cell, no_cell}
 use Rattle.table.proofs.rows.say_figures.Goals as goal
-
-pub loop-k-init : goal.loop-k-init
-loop-k-init c = record { same = refl; inside = search rules; from = omega arith; rest = λ zs q p. p }
 
 pub loop-k-preserved : goal.loop-k-preserved
 loop-k-preserved c =

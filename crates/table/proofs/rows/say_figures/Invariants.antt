@@ -1,5 +1,5 @@
 -- The invariant: saying the cells that are left makes all. Assumes nothing.
-use Rattle.std.proofs.Common.{◌≡◌, ℕ, ◌+◌, ◌-◌, ◌≤◌, Bool, List, length, drop}
+use Rattle.std.proofs.Common.{◌≡◌, ℕ, ◌+◌, ◌≤◌, Bool, List, length, drop}
 use Rattle.line_bytes.specs.Lines.{figure_count}
 use Rattle.printing.specs.Said.{Said}
 use Rattle.table.specs.Rows.{cells_text}
@@ -14,6 +14,3 @@ pub record SoFar (out₀ : List ℕ) (end₀ : ℕ) (shown : Bool) (numbers : Li
 
 abbrev pub invariant-loop-k : goal.invariant-loop-k
 invariant-loop-k l = SoFar l.initial.out l.initial.end l.shown l.numbers l.out l.end l.k
-
-abbrev pub decreases-loop-k : goal.decreases-loop-k
-decreases-loop-k l = 3 + figure_count - l.k

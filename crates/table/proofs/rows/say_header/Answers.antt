@@ -1,15 +1,11 @@
 -- The columns of a sheet after its first two. Assumes nothing.
 use Rattle.std.proofs.Common.{ℕ, List, drop, ap, ◌∙◌, arith}
-use Rattle.printing.proofs.Puts.{put-length}
 use Rattle.printing.proofs.Sayings.{◌⟫◌, text-at-start}
 use Rattle.table.proofs.Columns.{header-least, header-most}
 use Rattle.table.proofs.rows.say_header.Goals as goal
 
 pub put_header-n-requires : goal.put_header-n-requires
 put_header-n-requires c = omega (arith, header-most)
-
-pub first_of-requires : goal.first_of-requires
-first_of-requires c = let p = c.put_header-n.ensures in omega (arith, p.room, put-length p)
 
 pub rest_of-requires : goal.rest_of-requires
 rest_of-requires c = rw (c.first_of.ensures ∙ text-at-start c.put_header-n.ensures) (omega (arith, header-least))

@@ -1,19 +1,10 @@
 -- The invariant: saying the sums that are left makes all. Assumes nothing.
-use Rattle.std.proofs.Common.{◌≡◌, ◌+◌, length, refl, ◌∙◌, arith, rules}
+use Rattle.std.proofs.Common.{◌≡◌, ◌+◌, length, ◌∙◌, arith, rules}
 use Rattle.line_bytes.specs.Lines.{figure_count}
 use Rattle.printing.proofs.Sayings.{◌⟫◌, said-none}
 use Rattle.table.specs.Sums.{no_sum}
 use Rattle.table.proofs.Columns.{one-sum-cell, no-sum-cell}
 use Rattle.table.proofs.rows.say_sums.Goals as goal
-
-pub loop-k-init : goal.loop-k-init
-loop-k-init c = record { same = refl; inside = search rules; from = omega arith; rest = λ zs q p. p }
-
-pub offset_bounds-sums-k : goal.offset_bounds-sums-k
-offset_bounds-sums-k c = omega (arith, c.loop-k-test.true)
-
-pub bounds-sums-k : goal.bounds-sums-k
-bounds-sums-k c = omega (arith, c.loop-k-test.true)
 
 pub loop-k-preserved : goal.loop-k-preserved
 loop-k-preserved c =

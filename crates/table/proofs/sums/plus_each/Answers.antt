@@ -1,11 +1,8 @@
 -- One column after the other. Assumes nothing.
-use Rattle.std.proofs.Common.{sym, refl, ◌∙◌, arith, length-set, rules}
+use Rattle.std.proofs.Common.{sym, ◌∙◌, arith, length-set}
 use Rattle.table.specs.Sums.{no_sum}
 use Rattle.table.proofs.Adding.{one-sum, all-sums}
 use Rattle.table.proofs.sums.plus_each.Goals as goal
-
-pub loop-k-init : goal.loop-k-init
-loop-k-init c = (search rules, omega arith, refl)
 
 pub loop-k-preserved : goal.loop-k-preserved
 loop-k-preserved c =
