@@ -85,6 +85,7 @@ pub struct Refusal {
 }
 
 // A state but for its held bytes. Here, in specs/Account and in account_numbers alone it is written out field by field.
+// Stage, class and codes are numbers and no enums: a state comes as any bytes, and `in_range` answers those that mean nothing.
 #[derive(Clone, Copy)]
 pub struct Account {
     pub stage: u8,

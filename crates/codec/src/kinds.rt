@@ -2,7 +2,7 @@
 ghost use Rattle.std.specs.Prelude.{◌≡◌, ◌+◌, ◌≤◌};
 ghost use Rattle.codec.specs.Table.{last_row, length_of};
 
-// The kinds by name: each is a kind byte and, in version 1, its row.
+// The kinds by name: each is a kind byte and, in version 1, its row. Numbers and no enum: the table counts by them, and any byte has an answer.
 pub const FARM: u64 = 1;
 
 pub const HEADING: u64 = 2;

@@ -25,6 +25,7 @@ pub fn be32(s: &[u8], at: usize) -> u64
     u32::from_be_bytes([s[at], s[at + 1], s[at + 2], s[at + 3]]) as u64
 }
 
+// By halves: eight bytes listed would be no plainer.
 pub fn be64(s: &[u8], at: usize) -> u64
     requires { at + 8 ≤ length s.now }
     ensures { result ≡ val_at s.now at 8 }

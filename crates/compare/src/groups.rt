@@ -1,5 +1,6 @@
 // The steps between sections: the verdicts, the next group, the total and the last word.
 ghost use Rattle.std.specs.Prelude.{◌≡◌, true, ◌≤◌, ◌<◌, length};
+ghost use Rattle.printing.specs.Says.{Says};
 ghost use Rattle.printing.specs.Said.{Said};
 ghost use Rattle.walk.specs.Walk.{entries_of};
 ghost use Rattle.compare.specs.Inner.{Valid};
@@ -20,15 +21,16 @@ use crate::sections::{is_silent, open, say_moved_in, say_next_pair};
 use crate::{Cursor, Side, Stage, Step, alike_on, at_places, at_stage};
 use base::{first_of, rest_of};
 use line_bytes::{FIGURES, LINES_MOST};
+use printing::text::Text;
 use printing::{say, say_number};
 
 // The title of a group's section.
-fn say_title(out: &mut [u8], group: u64, word: &[u8]) -> usize
-    ensures { Said out.old out.new 0 (group_title group word.now) result }
+fn say_title(out: &mut Text, group: u64, word: &[u8])
+    ensures { Says out.old out.new (group_title group word.now) }
 {
-    let what = say(out, 0, b"group ");
-    let number = say_number(out, what, group);
-    say(out, number, word)
+    out.say(b"group ");
+    out.say_number(group);
+    out.say(word);
 }
 
 // A group alone: its heading and its part.
@@ -52,13 +54,14 @@ fn removed_step(old: &[u8], p: Place, q: Place, group: u64, out: &mut [u8]) -> S
     requires { Valid old.now p × (group ≡ group_at (left_of old.now p)) }
     ensures { Steps (removed_step old.now p q) out.old out.new result }
 {
-    let end = say_title(out, group, b", removed:\n");
+    let mut text = Text::new(out);
+    say_title(&mut text, group, b", removed:\n");
     let side = alone_side(old, p);
     let mut d = at_places(Stage::Section, p, q);
     d.old = side;
     Step {
         cursor: d,
-        written: end,
+        written: text.len,
     }
 }
 
@@ -66,13 +69,14 @@ fn added_step(new: &[u8], p: Place, q: Place, group: u64, out: &mut [u8]) -> Ste
     requires { Valid new.now q × (group ≡ group_at (left_of new.now q)) }
     ensures { Steps (added_step new.now p q) out.old out.new result }
 {
-    let end = say_title(out, group, b", added:\n");
+    let mut text = Text::new(out);
+    say_title(&mut text, group, b", added:\n");
     let side = alone_side(new, q);
     let mut d = at_places(Stage::Section, p, q);
     d.new = side;
     Step {
         cursor: d,
-        written: end,
+        written: text.len,
     }
 }
 
@@ -114,19 +118,20 @@ fn both_step(old: &[u8], new: &[u8], p: Place, q: Place, group: u64, out: &mut [
             written: 0,
         };
     }
-    let title = say_title(out, group, b":\n");
-    let headings = say_next_pair(out, title, old, p, new, q);
-    let end = say_moved_in(out, headings, under, old, new, d);
+    let mut text = Text::new(out);
+    say_title(&mut text, group, b":\n");
+    say_next_pair(&mut text, old, p, new, q);
+    say_moved_in(&mut text, under, old, new, d);
     Step {
         cursor: d,
-        written: end,
+        written: text.len,
     }
 }
 
 // The totals of both books.
-fn say_totals(out: &mut [u8], old: &[u8], p: Place, new: &[u8], q: Place) -> usize
+fn say_totals(out: &mut Text, old: &[u8], p: Place, new: &[u8], q: Place)
     requires { Valid old.now p × Valid new.now q }
-    ensures { Said out.old out.new 0 (total_text (left_of old.now p) (left_of new.now q)) result }
+    ensures { Says out.old out.new (total_text (left_of old.now p) (left_of new.now q)) }
 {
     let mut left = [0u8; LINES_MOST];
     let mut right = [0u8; LINES_MOST];
@@ -134,7 +139,7 @@ fn say_totals(out: &mut [u8], old: &[u8], p: Place, new: &[u8], q: Place) -> usi
     let m = close_lines(new, q, &mut right);
     let s = last_line(first_of(&left, n));
     let t = last_line(first_of(&right, m));
-    say_sum(out, 0, b"total", FIGURES + 1, s, t)
+    say_sum(out, b"total", FIGURES + 1, s, t);
 }
 
 // Whether the accepted records are the same, one for one.
@@ -166,17 +171,18 @@ fn same_each(old: &[u8], new: &[u8]) -> bool
 }
 
 // The last word; alike is whether the bytes after these are the same in both.
-fn say_last(out: &mut [u8], at: usize, old: &[u8], new: &[u8], alike: bool) -> usize
-    requires { at ≤ length out.old }
-    ensures { Said out.old out.new at (last_text alike old.now new.now) result }
+fn say_last(out: &mut Text, old: &[u8], new: &[u8], alike: bool)
+    ensures { Says out.old out.new (last_text alike old.now new.now) }
 {
     if alike_on(alike, old, new) {
-        return say(out, at, b"nothing differs\n");
+        out.say(b"nothing differs\n");
+        return;
     }
     if same_each(old, new) {
-        return say(out, at, b"no accepted record differs\n");
+        out.say(b"no accepted record differs\n");
+        return;
     }
-    say(out, at, b"all else is the same\n")
+    out.say(b"all else is the same\n");
 }
 
 // The total, and the last word.
@@ -184,12 +190,13 @@ fn last_step(old: &[u8], new: &[u8], alike: bool, p: Place, q: Place, out: &mut 
     requires { Valid old.now p × Valid new.now q }
     ensures { Steps (last_step_lem alike old.now new.now p q) out.old out.new result }
 {
-    let total = say_totals(out, old, p, new, q);
-    let end = say_last(out, total, old, new, alike);
+    let mut text = Text::new(out);
+    say_totals(&mut text, old, p, new, q);
+    say_last(&mut text, old, new, alike);
     let d = at_stage(Stage::End);
     Step {
         cursor: d,
-        written: end,
+        written: text.len,
     }
 }
 
@@ -225,11 +232,12 @@ pub(crate) fn group_step(
 pub(crate) fn name_step(new: bool, next: Stage, out: &mut [u8]) -> Step
     ensures { Steps (name_step new next) out.old out.new result }
 {
-    let n = say_book(out, new);
+    let mut text = Text::new(out);
+    say_book(&mut text, new);
     let d = at_stage(next);
     Step {
         cursor: d,
-        written: n,
+        written: text.len,
     }
 }
 

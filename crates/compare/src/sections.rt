@@ -2,6 +2,7 @@
 ghost use Rattle.std.specs.Prelude.{◌≡◌, ◌+◌, ◌≤◌, length};
 ghost use Rattle.printing.specs.Ascii.{ascii};
 ghost use Rattle.printing.specs.Said.{Said};
+ghost use Rattle.printing.specs.Says.{Says};
 ghost use Rattle.compare.specs.Inner.{Valid};
 ghost use Rattle.compare.specs.InnerSides.{ValidSide, Opens};
 ghost use Rattle.compare.specs.Places.{left_of};
@@ -21,6 +22,7 @@ use crate::records::same;
 use crate::{Cursor, Side, Stage, Step, at_places};
 use base::{first_of, rest_of};
 use line_bytes::{FIGURES, LINES_MOST};
+use printing::text::Text;
 use printing::{say, say_number};
 
 // One book's side of a section: so many records are told after the first ones of a part.
@@ -60,75 +62,61 @@ pub(crate) fn open(grouped: bool, old: &[u8], p: Place, new: &[u8], q: Place) ->
 }
 
 // Numbers from i on, so many.
-fn say_span(out: &mut [u8], at: usize, word: &[u8], i: usize, many: usize) -> usize
-    requires { (at ≤ length out.old) × (1 ≤ many) × (i + many ≤ 18446744073709551615) }
-    ensures { Said out.old out.new at (span_text word.now i many) result }
+fn say_span(out: &mut Text, word: &[u8], i: usize, many: usize)
+    requires { (1 ≤ many) × (i + many ≤ 18446744073709551615) }
+    ensures { Says out.old out.new (span_text word.now i many) }
 {
-    let which = say(out, at, word);
-    let from = say_number(out, which, i as u64);
-    let to = say(out, from, b" to ");
-    say_number(out, to, (i + many - 1) as u64)
+    out.say(word);
+    out.say_number(i as u64);
+    out.say(b" to ");
+    out.say_number((i + many - 1) as u64);
 }
 
 // The numbers in the new book, where they are others.
-fn say_moved_now(out: &mut [u8], at: usize, i: usize, j: usize, many: usize) -> usize
-    requires { (at ≤ length out.old) × (1 ≤ many) × (j + many ≤ 18446744073709551615) }
-    ensures { Said out.old out.new at (moved_now i j many) result }
+fn say_moved_now(out: &mut Text, i: usize, j: usize, many: usize)
+    requires { (1 ≤ many) × (j + many ≤ 18446744073709551615) }
+    ensures { Says out.old out.new (moved_now i j many) }
 {
     if i == j {
-        return at;
+        return;
     }
-    say_span(out, at, b", now ", j, many)
+    say_span(out, b", now ", j, many);
 }
 
-fn say_moved_under(out: &mut [u8], at: usize, under: bool) -> usize
-    requires { at ≤ length out.old }
-    ensures { Said out.old out.new at (moved_under under) result }
+fn say_moved_under(out: &mut Text, under: bool)
+    ensures { Says out.old out.new (moved_under under) }
 {
     if under {
-        return say(out, at, b", with the same lines\n");
+        out.say(b", with the same lines\n");
+        return;
     }
-    say(out, at, b", under a changed heading\n")
+    out.say(b", under a changed heading\n");
 }
 
 // Records that are only in another order.
-pub(crate) fn say_moved(
-    out: &mut [u8],
-    at: usize,
-    under: bool,
-    i: usize,
-    j: usize,
-    many: usize,
-) -> usize
-    requires { (at ≤ length out.old) × (i + many ≤ 18446744073709551615) × (j + many ≤ 18446744073709551615) }
-    ensures { Said out.old out.new at (moved_text under i j many) result }
+pub(crate) fn say_moved(out: &mut Text, under: bool, i: usize, j: usize, many: usize)
+    requires { (i + many ≤ 18446744073709551615) × (j + many ≤ 18446744073709551615) }
+    ensures { Says out.old out.new (moved_text under i j many) }
 {
     if many == 0 {
-        return at;
+        return;
     }
-    let which = say_span(out, at, b"records ", i, many);
-    let order = say(out, which, b" are the same in another order");
-    let now = say_moved_now(out, order, i, j, many);
-    say_moved_under(out, now, under)
+    say_span(out, b"records ", i, many);
+    out.say(b" are the same in another order");
+    say_moved_now(out, i, j, many);
+    say_moved_under(out, under);
 }
 
 // The same of a section that is just opened.
-pub(crate) fn say_moved_in(
-    out: &mut [u8],
-    at: usize,
-    under: bool,
-    old: &[u8],
-    new: &[u8],
-    c: Cursor,
-) -> usize
-    requires { (at ≤ length out.old) × Opens old.now new.now c }
-    ensures { Said out.old out.new at (moved_text under c.old.place.number c.new.place.number c.moved) result }
+pub(crate) fn say_moved_in(out: &mut Text, under: bool, old: &[u8], new: &[u8], c: Cursor)
+    requires { Opens old.now new.now c }
+    ensures { Says out.old out.new (moved_text under c.old.place.number c.new.place.number c.moved) }
 {
     let first = c.old;
     let second = c.new;
     let p = first.place;
     let q = second.place;
-    say_moved(out, at, under, p.number, q.number, c.moved)
+    say_moved(out, under, p.number, q.number, c.moved);
 }
 
 // Whether nothing is to tell in a section.
@@ -161,48 +149,40 @@ pub(crate) fn before_step(old: &[u8], new: &[u8], c: Cursor, out: &mut [u8]) -> 
             written: 0,
         };
     }
-    let title = say(out, 0, b"before the groups:\n");
-    let end = say_moved_in(out, title, true, old, new, d);
+    let mut text = Text::new(out);
+    text.say(b"before the groups:\n");
+    say_moved_in(&mut text, true, old, new, d);
     Step {
         cursor: d,
-        written: end,
+        written: text.len,
     }
 }
 
 // The next record of a book, alone.
-fn say_next_alone(out: &mut [u8], new: bool, book: &[u8], p: Place) -> usize
+fn say_next_alone(out: &mut Text, new: bool, book: &[u8], p: Place)
     requires { Valid book.now p }
-    ensures { Said out.old out.new 0 (first_alone new p.number (left_of book.now p)) result }
+    ensures { Says out.old out.new (first_alone new p.number (left_of book.now p)) }
 {
     let a = p.account;
     let mut lines = [0u8; LINES_MOST];
     let rest = rest_of(book, p.at);
     let t = turn(a, rest, &mut lines);
     if t.n == 0 {
-        return 0;
+        return;
     }
     say_alone(
         out,
-        0,
         new,
         p.number,
         first_of(rest, t.n),
         first_of(&lines, t.written),
-    )
+    );
 }
 
 // The next pair of records.
-pub(crate) fn say_next_pair(
-    out: &mut [u8],
-    at: usize,
-    old: &[u8],
-    p: Place,
-    new: &[u8],
-    q: Place,
-) -> usize
-    requires { (at ≤ length out.old) × Valid old.now p × Valid new.now q }
-    ensures { Said out.old out.new at
-        (first_pair p.number (left_of old.now p) q.number (left_of new.now q)) result }
+pub(crate) fn say_next_pair(out: &mut Text, old: &[u8], p: Place, new: &[u8], q: Place)
+    requires { Valid old.now p × Valid new.now q }
+    ensures { Says out.old out.new (first_pair p.number (left_of old.now p) q.number (left_of new.now q)) }
 {
     let a = p.account;
     let b = q.account;
@@ -213,18 +193,17 @@ pub(crate) fn say_next_pair(
     let t = turn(a, xs, &mut left);
     let u = turn(b, ys, &mut right);
     if (t.n == 0) | (u.n == 0) {
-        return at;
+        return;
     }
     say_pair(
         out,
-        at,
         p.number,
         first_of(xs, t.n),
         first_of(&left, t.written),
         q.number,
         first_of(ys, u.n),
         first_of(&right, u.written),
-    )
+    );
 }
 
 // One record on.
@@ -245,14 +224,15 @@ fn old_step(old: &[u8], c: Cursor, out: &mut [u8]) -> Step
     ensures { Steps (old_step old.now c) out.old out.new result }
 {
     let side = c.old;
-    let n = say_next_alone(out, false, old, side.place);
+    let mut text = Text::new(out);
+    say_next_alone(&mut text, false, old, side.place);
     let next = one_told(old, side);
     let mut d = c;
     d.stage = Stage::Section;
     d.old = next;
     Step {
         cursor: d,
-        written: n,
+        written: text.len,
     }
 }
 
@@ -261,14 +241,15 @@ fn new_step(new: &[u8], c: Cursor, out: &mut [u8]) -> Step
     ensures { Steps (new_step new.now c) out.old out.new result }
 {
     let side = c.new;
-    let n = say_next_alone(out, true, new, side.place);
+    let mut text = Text::new(out);
+    say_next_alone(&mut text, true, new, side.place);
     let next = one_told(new, side);
     let mut d = c;
     d.stage = Stage::Section;
     d.new = next;
     Step {
         cursor: d,
-        written: n,
+        written: text.len,
     }
 }
 
@@ -278,7 +259,8 @@ fn pair_step(old: &[u8], new: &[u8], c: Cursor, out: &mut [u8]) -> Step
 {
     let first = c.old;
     let second = c.new;
-    let n = say_next_pair(out, 0, old, first.place, new, second.place);
+    let mut text = Text::new(out);
+    say_next_pair(&mut text, old, first.place, new, second.place);
     let next = one_told(old, first);
     let other = one_told(new, second);
     let mut d = c;
@@ -287,28 +269,28 @@ fn pair_step(old: &[u8], new: &[u8], c: Cursor, out: &mut [u8]) -> Step
     d.new = other;
     Step {
         cursor: d,
-        written: n,
+        written: text.len,
     }
 }
 
-fn say_others(out: &mut [u8], n: usize) -> usize
-    ensures { Said out.old out.new 0 (others_text n) result }
+fn say_others(out: &mut Text, n: usize)
+    ensures { Says out.old out.new (others_text n) }
 {
     if n == 0 {
-        return 0;
+        return;
     }
     if n == 1 {
-        return say(out, 0, b"1 record is the same and gives another line\n");
+        out.say(b"1 record is the same and gives another line\n");
+        return;
     }
-    let many = say_number(out, 0, n as u64);
-    say(out, many, b" records are the same and give other lines\n")
+    out.say_number(n as u64);
+    out.say(b" records are the same and give other lines\n");
 }
 
 // The subtotals of a section.
-fn say_subtotals(out: &mut [u8], at: usize, old: &[u8], s: Side, new: &[u8], t: Side) -> usize
-    requires { (at ≤ length out.old) × ValidSide old.now s × ValidSide new.now t }
-    ensures { Said out.old out.new at
-        (sum_text (ascii "subtotal") figure_count (subtotal_at old.now s) (subtotal_at new.now t)) result }
+fn say_subtotals(out: &mut Text, old: &[u8], s: Side, new: &[u8], t: Side)
+    requires { ValidSide old.now s × ValidSide new.now t }
+    ensures { Says out.old out.new (sum_text (ascii "subtotal") figure_count (subtotal_at old.now s) (subtotal_at new.now t)) }
 {
     let mut left = [0u8; LINES_MOST];
     let mut right = [0u8; LINES_MOST];
@@ -316,12 +298,11 @@ fn say_subtotals(out: &mut [u8], at: usize, old: &[u8], s: Side, new: &[u8], t: 
     let m = subtotal(new, t.end, t.grouped, &mut right);
     say_sum(
         out,
-        at,
         b"subtotal",
         FIGURES,
         first_of(&left, n),
         first_of(&right, m),
-    )
+    );
 }
 
 // The end of a section.
@@ -331,12 +312,13 @@ fn tail_step(old: &[u8], new: &[u8], c: Cursor, out: &mut [u8]) -> Step
 {
     let first = c.old;
     let second = c.new;
-    let others = say_others(out, c.others);
-    let end = say_subtotals(out, others, old, first, new, second);
+    let mut text = Text::new(out);
+    say_others(&mut text, c.others);
+    say_subtotals(&mut text, old, first, new, second);
     let d = at_places(Stage::NextGroup, first.end, second.end);
     Step {
         cursor: d,
-        written: end,
+        written: text.len,
     }
 }
 

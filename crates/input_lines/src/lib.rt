@@ -92,6 +92,7 @@ impl Lines {
         let mut input = self.input;
         let mut rest = self.rest;
         let mut stdin = rt.input();
+        // By the turns of the reading, which end with the input: no count of this loop.
         while 0 < input.turns {
             let taken = take(line, cut, part, input.len, rest);
             cut = taken.cut;

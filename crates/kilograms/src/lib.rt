@@ -4,59 +4,59 @@
 mod lines;
 
 ghost use Rattle.std.specs.Prelude.{◌≡◌, ◌-◌, ◌≤◌, length, drop, replicate};
-ghost use Rattle.printing.specs.Said.{Said};
+ghost use Rattle.printing.specs.Says.{Says};
 ghost use Rattle.kilograms.specs.Kilograms.{space_before, in_threes, pointed_before, amount_text, is_below, digits_in, is_grams, sign_text, kilograms_text};
 
 use base::{first_of, rest_of};
 pub use lines::{is_right, say_line, say_remark, status};
 use printing::say;
+use printing::text::Text;
 
 // A thin space before the last n digits, where they are whole threes.
-fn say_space(out: &mut [u8], at: usize, n: usize) -> usize
-    requires { at ≤ length out.old }
-    ensures { Said out.old out.new at (space_before n) result }
+fn say_space(out: &mut Text, n: usize)
+    ensures { Says out.old out.new (space_before n) }
 {
     if (0 < n) & (n % 3 == 0) {
-        return say(out, at, b"\xe2\x80\xaf");
+        out.say(b"\xe2\x80\xaf");
+        return;
     }
-    at
 }
 
 // The last n digits in threes.
-fn say_threes(out: &mut [u8], at: usize, digits: &[u8], n: usize) -> usize
-    requires { (at ≤ length out.old) × (n ≤ length digits.now) }
-    ensures { Said out.old out.new at (in_threes (drop (length digits.now - n) digits.now)) result }
+fn say_threes(out: &mut Text, digits: &[u8], n: usize)
+    requires { n ≤ length digits.now }
+    ensures { Says out.old out.new (in_threes (drop (length digits.now - n) digits.now)) }
 {
     if n == 0 {
-        return at;
+        return;
     }
     let from = rest_of(digits, digits.len() - n);
-    let first = say(out, at, first_of(from, 1));
-    let space = say_space(out, first, n - 1);
-    say_threes(out, space, digits, n - 1)
+    out.say(first_of(from, 1));
+    say_space(out, n - 1);
+    say_threes(out, digits, n - 1);
 }
 
 // The first n digits in threes, a point, and the others.
-fn say_pointed(out: &mut [u8], at: usize, digits: &[u8], n: usize) -> usize
-    requires { (at ≤ length out.old) × (n ≤ length digits.now) }
-    ensures { Said out.old out.new at (pointed_before n digits.now) result }
+fn say_pointed(out: &mut Text, digits: &[u8], n: usize)
+    requires { n ≤ length digits.now }
+    ensures { Says out.old out.new (pointed_before n digits.now) }
 {
-    let whole = say_threes(out, at, first_of(digits, n), n);
-    let point = say(out, whole, b".");
-    say(out, point, rest_of(digits, n))
+    say_threes(out, first_of(digits, n), n);
+    out.say(b".");
+    out.say(rest_of(digits, n));
 }
 
 // Fewer than four digits are filled up with zeros.
-fn say_amount(out: &mut [u8], at: usize, digits: &[u8]) -> usize
-    requires { at ≤ length out.old }
-    ensures { Said out.old out.new at (amount_text digits.now) result }
+fn say_amount(out: &mut Text, digits: &[u8])
+    ensures { Says out.old out.new (amount_text digits.now) }
 {
     if 4 <= digits.len() {
-        return say_pointed(out, at, digits, digits.len() - 3);
+        say_pointed(out, digits, digits.len() - 3);
+        return;
     }
-    let point = say(out, at, b"0.");
-    let zeros = say(out, point, first_of(b"000", 3 - digits.len()));
-    say(out, zeros, digits)
+    out.say(b"0.");
+    out.say(first_of(b"000", 3 - digits.len()));
+    out.say(digits);
 }
 
 fn is_below(word: &[u8]) -> bool
@@ -84,20 +84,18 @@ pub(crate) fn is_grams(word: &[u8]) -> bool
     (digits.len() <= 20) & typed_words::read_amount(digits, 0).is_some()
 }
 
-fn say_sign(out: &mut [u8], at: usize, word: &[u8]) -> usize
-    requires { at ≤ length out.old }
-    ensures { Said out.old out.new at (sign_text word.now) result }
+fn say_sign(out: &mut Text, word: &[u8])
+    ensures { Says out.old out.new (sign_text word.now) }
 {
     if is_below(word) {
-        return say(out, at, b"\xe2\x88\x92");
+        out.say(b"\xe2\x88\x92");
+        return;
     }
-    at
 }
 
-pub(crate) fn say_kilograms(out: &mut [u8], at: usize, word: &[u8]) -> usize
-    requires { at ≤ length out.old }
-    ensures { Said out.old out.new at (kilograms_text word.now) result }
+pub(crate) fn say_kilograms(out: &mut Text, word: &[u8])
+    ensures { Says out.old out.new (kilograms_text word.now) }
 {
-    let sign = say_sign(out, at, word);
-    say_amount(out, sign, digits_in(word))
+    say_sign(out, word);
+    say_amount(out, digits_in(word));
 }

@@ -100,6 +100,7 @@ fn run(rt: &impl System, line: &mut [u8], from: Work) -> Work {
     let mut part = io::buffer();
     let mut stdin = rt.input();
     let mut input = Reading::new();
+    // By the turns of the reading, which end with the input: no count of this loop.
     while 0 < input.turns {
         input = input.next(rt, &mut stdin, b"standard input", &mut part);
         let n = input.len;

@@ -4,15 +4,16 @@
 ghost use Rattle.std.specs.Prelude.{◌++◌, ◌≤◌, length};
 ghost use Rattle.printing.specs.Ascii.{ascii};
 ghost use Rattle.printing.specs.Said.{Said};
+ghost use Rattle.printing.specs.Says.{Says};
 ghost use Rattle.kinds_screen.specs.Screen.{example_of, field_text, fields_text, row_text, screen_text};
 
 use names::{say_expected, say_field};
 use printing::say;
+use printing::text::Text;
 use typed_words::part;
 
-fn say_example(out: &mut [u8], at: usize, row: u64) -> usize
-    requires { at ≤ length out.old }
-    ensures { Said out.old out.new at (example_of row) result }
+fn say_example(out: &mut Text, row: u64)
+    ensures { Says out.old out.new (example_of row) }
 {
     let line = part(
         b"
@@ -30,60 +31,58 @@ farm 7 2010 28 265",
         b'\n',
         row as usize,
     );
-    say(out, at, line)
+    out.say(line);
 }
 
 // Field i: its name and what is expected of it.
-fn say_one(out: &mut [u8], at: usize, row: u64, i: usize) -> usize
-    requires { at ≤ length out.old }
-    ensures { Said out.old out.new at (field_text row i) result }
+fn say_one(out: &mut Text, row: u64, i: usize)
+    ensures { Says out.old out.new (field_text row i) }
 {
-    let name = say_field(out, at, row, i);
-    say_expected(out, name, row, i)
+    say_field(out, row, i);
+    say_expected(out, row, i);
 }
 
-fn say_next(out: &mut [u8], at: usize, row: u64, i: usize) -> usize
-    requires { at ≤ length out.old }
-    ensures { Said out.old out.new at (ascii ";" ++ field_text row i) result }
+fn say_next(out: &mut Text, row: u64, i: usize)
+    ensures { Says out.old out.new (ascii ";" ++ field_text row i) }
 {
-    let semicolon = say(out, at, b";");
-    say_one(out, semicolon, row, i)
+    out.say(b";");
+    say_one(out, row, i);
 }
 
 // All fields of a row.
-fn say_all(out: &mut [u8], at: usize, row: u64) -> usize
-    requires { at ≤ length out.old }
-    ensures { Said out.old out.new at (fields_text row) result }
+fn say_all(out: &mut Text, row: u64)
+    ensures { Says out.old out.new (fields_text row) }
 {
     let n = by_row::table::values_of(row);
-    let mut end = say_one(out, at, row, 0);
+    say_one(out, row, 0);
     for i in 1..n {
-        end = say_next(out, end, row, i);
+        say_next(out, row, i);
     }
-    end
 }
 
-fn say_row(out: &mut [u8], at: usize, row: u64) -> usize
-    requires { at ≤ length out.old }
-    ensures { Said out.old out.new at (row_text row) result }
+fn say_row(out: &mut Text, row: u64)
+    ensures { Says out.old out.new (row_text row) }
 {
-    let line = say_example(out, at, row);
-    let margin = say(out, line, b"\n   ");
-    let fields = say_all(out, margin, row);
-    say(out, fields, b"\n")
+    say_example(out, row);
+    out.say(b"\n   ");
+    say_all(out, row);
+    out.say(b"\n");
+}
+
+fn tell_screen(text: &mut Text)
+    ensures { Says text.old text.new screen_text }
+{
+    text.say(b"Each kind as it is typed, then its values in order.\n");
+    for row in 1..codec::LAST_ROW + 1 {
+        say_row(text, row);
+    }
 }
 
 // The whole screen, from the buffer's start, cut off where the buffer ends.
 pub fn say_screen(out: &mut [u8]) -> usize
     ensures { Said out.old out.new 0 screen_text result }
 {
-    let mut end = say(
-        out,
-        0,
-        b"Each kind as it is typed, then its values in order.\n",
-    );
-    for row in 1..codec::LAST_ROW + 1 {
-        end = say_row(out, end, row);
-    }
-    end
+    let mut text = Text::new(out);
+    tell_screen(&mut text);
+    text.len
 }

@@ -4,11 +4,13 @@
 ghost use Rattle.std.specs.Prelude.{◌≡◌, ◌+◌, ◌≤◌, length};
 ghost use Rattle.printing.specs.Decimal.{Put};
 ghost use Rattle.printing.specs.Said.{Said};
+ghost use Rattle.printing.specs.Says.{Says};
 ghost use Rattle.last_word.specs.LastWord.{end_text, goes_on_lem, last_text};
 ghost use Rattle.last_word.specs.Remarks.{why_text, remark_text, status_byte};
 
 use account::Account;
 use names::hints::{Given, say_hint};
+use printing::text::Text;
 use printing::{put_numbers, put_text, say, say_number};
 
 // The word of the last line.
@@ -51,27 +53,29 @@ pub fn put_last(out: &mut [u8], account: Account, read: bool, written: bool) -> 
 }
 
 // A refusal's number with its sentence.
-fn say_why(out: &mut [u8], account: Account) -> usize
-    ensures { Said out.old out.new 0 (why_text account) result }
+fn say_why(out: &mut Text, account: Account)
+    ensures { Says out.old out.new (why_text account) }
 {
     if account.stage != 3 {
-        return 0;
+        return;
     }
     let refusal = account.refusal;
     let code = refusal.code as u64;
-    let word = say(out, 0, b"refused ");
-    let number = say_number(out, word, code);
-    let colon = say(out, number, b": ");
-    let sentence = names::say_sentence(out, colon, code);
-    say(out, sentence, b"; bin/why tells more\n")
+    out.say(b"refused ");
+    out.say_number(code);
+    out.say(b": ");
+    names::say_sentence(out, code);
+    out.say(b"; bin/why tells more\n");
 }
 
 // What is said to a person beside the last word, from the start of out.
 pub fn say_remark(out: &mut [u8], account: Account, given: Given) -> usize
     ensures { Said out.old out.new 0 (remark_text account given) result }
 {
-    let why = say_why(out, account);
-    say_hint(out, why, given)
+    let mut text = Text::new(out);
+    say_why(&mut text, account);
+    say_hint(&mut text, given);
+    text.len
 }
 
 // The status byte: 0 only where the book is closed, all of it was read, and everything was written.

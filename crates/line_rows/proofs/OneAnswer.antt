@@ -1,6 +1,8 @@
 -- One answer of each public function, with the buffer at the end where one is lent (base, specs/Answers). Assumes nothing.
-use mathlib.Core.Path.{sym, ◌∙◌}
+use mathlib.Core.Path.{refl, sym, ◌∙◌}
 use Rattle.base.specs.Answers.{AsksNothing, OneAnswer, OneAnswerWith}
+use Rattle.printing.proofs.Texts.{one-says}
+use Rattle.printing.specs.Says.{left_by}
 use Rattle.printing.proofs.Examples.{one-put}
 use Rattle.line_rows.proofs.is_signed.Kinds as sign
 use Rattle.line_rows.proofs.is_signed.Reads as sign-contract
@@ -33,5 +35,5 @@ pub one-put-header : OneAnswerWith head.ps head.r head-contract.Learnt (λ κs e
 one-put-header κs args f g e e' p q = one-put p q
 
 -- A sheet's form in words.
-pub one-say-form : OneAnswerWith form.ps form.r form-contract.Learnt (λ κs e. e.0.now)
-one-say-form κs args f g e e' p q = one-put p.put q.put
+pub one-say-form : OneAnswerWith form.ps form.r form-contract.Learnt (λ κs e. left_by e.0.now)
+one-say-form κs args f g e e' p q = (refl, one-says p q)

@@ -4,12 +4,13 @@
 ghost use Rattle.std.specs.Prelude.{◌≡◌, ◌∷◌, [], ◌+◌, ◌*◌, ◌≤◌, length, drop};
 ghost use Rattle.line_bytes.specs.Lines.{line_size, front_size};
 ghost use Rattle.printing.specs.Decimal.{Put};
-ghost use Rattle.printing.specs.Said.{Said};
+ghost use Rattle.printing.specs.Says.{Says};
 ghost use Rattle.line_rows.specs.Rows.{is_signed, column_text, between, columns_text, ending, row_text, line_row, rows_text, header, sheet_form};
 
 use base::rest_of;
 use codec::kinds::CLOSE;
 use line_bytes::{LINE_NUMBERS, LINE_SIZE, TOTAL_SIZE, detail_numbers, front_size, total_numbers};
+use printing::text::Text;
 use printing::{put_byte, put_decimal, put_signed, put_text, say};
 
 // The lister's rows, or those of a sheet for the spreadsheet.
@@ -145,18 +146,15 @@ pub fn put_header(out: &mut [u8], at: usize, form: Form) -> usize
 }
 
 // What a sheet has to be, for people.
-pub fn say_form(out: &mut [u8], at: usize) -> usize
-    requires { at ≤ length out.old }
-    ensures { Said out.old out.new at sheet_form result }
+pub fn say_form(out: &mut Text)
+    ensures { Says out.old out.new sheet_form }
 {
-    let first = say(out, at, b"first the row ");
-    let names = say(out, first, b"kind,group,");
-    let figures = say(out, names, &FIGURE_COLUMNS);
-    say(
-        out,
-        figures,
+    out.say(b"first the row ");
+    out.say(b"kind,group,");
+    out.say(&FIGURE_COLUMNS);
+    out.say(
         b", then rows of nine columns, no leading zeros, the last empty but on kind 8; CRLF after each",
-    )
+    );
 }
 
 // A row for each line record, from the start of out.

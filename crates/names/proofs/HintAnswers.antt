@@ -9,8 +9,10 @@ use lib.Dec.{eqb}
 use lib.ListN.{length, take}
 use lib.Seq.{take-take}
 use Rattle.base.specs.Answers.{AsksNothing, OneAnswer, OneAnswerWith}
-use Rattle.printing.specs.Ascii.{ascii}
 use Rattle.printing.proofs.Examples.{one-put}
+use Rattle.printing.proofs.Texts.{one-says}
+use Rattle.printing.specs.Says.{left_by}
+use Rattle.printing.specs.Ascii.{ascii}
 use Rattle.typed_words.specs.Words.{same_text_lem}
 use Rattle.names.specs.declared.hints.Given.TheVariants.{Book, Nothing, Typed, Sheet}
 use Rattle.names.specs.Hints.{looks_like}
@@ -18,6 +20,8 @@ use Rattle.names.proofs.hints.look.Kinds as look
 use Rattle.names.proofs.hints.look.Reads as look-contract
 use Rattle.names.proofs.hints.say_hint.Kinds as hint
 use Rattle.names.proofs.hints.say_hint.Reads as hint-contract
+use Rattle.names.proofs.hints.say_hint_alone.Kinds as alone
+use Rattle.names.proofs.hints.say_hint_alone.Reads as alone-contract
 
 pub look-asks-nothing : AsksNothing look.ps look-contract.Asked
 look-asks-nothing κs args = tt
@@ -27,8 +31,12 @@ pub one-look : OneAnswer look.ps look.r look-contract.Learnt
 one-look κs args f g e e' p q = p ∙ sym q
 
 -- The hint: its end, and the buffer at the end.
-pub one-say-hint : OneAnswerWith hint.ps hint.r hint-contract.Learnt (λ κs e. e.0.now)
-one-say-hint κs args f g e e' p q = one-put p.put q.put
+pub one-say-hint : OneAnswerWith hint.ps hint.r hint-contract.Learnt (λ κs e. left_by e.0.now)
+one-say-hint κs args f g e e' p q = (refl, one-says p q)
+
+-- The hint alone: its end, and the buffer at the end.
+pub one-say-hint-alone : OneAnswerWith alone.ps alone.r alone-contract.Learnt (λ κs e. e.0.now)
+one-say-hint-alone κs args f g e e' p q = one-put p.put q.put
 
 some : (xs : List ℕ) → 0 < length xs → eqb (length xs) 0 ≡ false
 some xs h = ne_eqb (length xs) 0 (λ e. omega arith)

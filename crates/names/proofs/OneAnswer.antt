@@ -1,8 +1,9 @@
 -- One answer of each public function (base, specs/Answers): what is said, and the buffer at the end (the first parameter, out). Those that say
 -- something ask that it begins inside the buffer; those that answer a number or a test ask nothing. Assumes nothing.
-use mathlib.Core.Path.{sym, ◌∙◌}
+use mathlib.Core.Path.{refl, sym, ◌∙◌}
 use Rattle.base.specs.Answers.{AsksNothing, OneAnswer, OneAnswerWith}
-use Rattle.printing.proofs.Examples.{one-put}
+use Rattle.printing.proofs.Texts.{one-says}
+use Rattle.printing.specs.Says.{left_by}
 use Rattle.names.proofs.decimals.Kinds as places
 use Rattle.names.proofs.decimals.Reads as places-contract
 use Rattle.names.proofs.is_kind_name.Kinds as named
@@ -63,36 +64,36 @@ pub one-is-kind-name : OneAnswer named.ps named.r named-contract.Learnt
 one-is-kind-name κs args f g e e' p q = p ∙ sym q
 
 -- The names of all kinds.
-pub one-say-kinds : OneAnswerWith kinds.ps kinds.r kinds-contract.Learnt (λ κs e. e.0.now)
-one-say-kinds κs args f g e e' p q = one-put p.put q.put
+pub one-say-kinds : OneAnswerWith kinds.ps kinds.r kinds-contract.Learnt (λ κs e. left_by e.0.now)
+one-say-kinds κs args f g e e' p q = (refl, one-says p q)
 
 -- A kind's name.
-pub one-say-kind : OneAnswerWith kind.ps kind.r kind-contract.Learnt (λ κs e. e.0.now)
-one-say-kind κs args f g e e' p q = one-put p.put q.put
+pub one-say-kind : OneAnswerWith kind.ps kind.r kind-contract.Learnt (λ κs e. left_by e.0.now)
+one-say-kind κs args f g e e' p q = (refl, one-says p q)
 
 -- A field's name.
-pub one-say-field : OneAnswerWith field.ps field.r field-contract.Learnt (λ κs e. e.0.now)
-one-say-field κs args f g e e' p q = one-put p.put q.put
+pub one-say-field : OneAnswerWith field.ps field.r field-contract.Learnt (λ κs e. left_by e.0.now)
+one-say-field κs args f g e e' p q = (refl, one-says p q)
 
 -- The names of a kind's fields.
-pub one-say-fields : OneAnswerWith fields.ps fields.r fields-contract.Learnt (λ κs e. e.0.now)
-one-say-fields κs args f g e e' p q = one-put p.put q.put
+pub one-say-fields : OneAnswerWith fields.ps fields.r fields-contract.Learnt (λ κs e. left_by e.0.now)
+one-say-fields κs args f g e e' p q = (refl, one-says p q)
 
 -- What a field takes.
-pub one-say-expected : OneAnswerWith expected.ps expected.r expected-contract.Learnt (λ κs e. e.0.now)
-one-say-expected κs args f g e e' p q = one-put p.put q.put
+pub one-say-expected : OneAnswerWith expected.ps expected.r expected-contract.Learnt (λ κs e. left_by e.0.now)
+one-say-expected κs args f g e e' p q = (refl, one-says p q)
 
 -- A class's name.
-pub one-say-class : OneAnswerWith class.ps class.r class-contract.Learnt (λ κs e. e.0.now)
-one-say-class κs args f g e e' p q = one-put p.put q.put
+pub one-say-class : OneAnswerWith class.ps class.r class-contract.Learnt (λ κs e. left_by e.0.now)
+one-say-class κs args f g e e' p q = (refl, one-says p q)
 
 -- A refusal's sentence.
-pub one-say-sentence : OneAnswerWith sentence.ps sentence.r sentence-contract.Learnt (λ κs e. e.0.now)
-one-say-sentence κs args f g e e' p q = one-put p.put q.put
+pub one-say-sentence : OneAnswerWith sentence.ps sentence.r sentence-contract.Learnt (λ κs e. left_by e.0.now)
+one-say-sentence κs args f g e e' p q = (refl, one-says p q)
 
 -- A word as it was typed.
-pub one-say-shown : OneAnswerWith shown.ps shown.r shown-contract.Learnt (λ κs e. e.0.now)
-one-say-shown κs args f g e e' p q = one-put p.put q.put
+pub one-say-shown : OneAnswerWith shown.ps shown.r shown-contract.Learnt (λ κs e. left_by e.0.now)
+one-say-shown κs args f g e e' p q = (refl, one-says p q)
 
 -- The words of a field, its unit, a value as it is typed, and what is usual.
 pub is-choice-asks-nothing : AsksNothing choosable.ps choosable-contract.Asked
@@ -107,17 +108,17 @@ choice-asks-nothing κs args = tt
 pub one_choice : OneAnswer chosen.ps chosen.r chosen-contract.Learnt
 one_choice κs args f g e e' p q = p ∙ sym q
 
-pub one-say-choices : OneAnswerWith words.ps words.r words-contract.Learnt (λ κs e. e.0.now)
-one-say-choices κs args f g e e' p q = one-put p.put q.put
+pub one-say-choices : OneAnswerWith words.ps words.r words-contract.Learnt (λ κs e. left_by e.0.now)
+one-say-choices κs args f g e e' p q = (refl, one-says p q)
 
-pub one-say-choice : OneAnswerWith chosen-word.ps chosen-word.r chosen-word-contract.Learnt (λ κs e. e.0.now)
-one-say-choice κs args f g e e' p q = one-put p.put q.put
+pub one-say-choice : OneAnswerWith chosen-word.ps chosen-word.r chosen-word-contract.Learnt (λ κs e. left_by e.0.now)
+one-say-choice κs args f g e e' p q = (refl, one-says p q)
 
-pub one-say-unit : OneAnswerWith unit.ps unit.r unit-contract.Learnt (λ κs e. e.0.now)
-one-say-unit κs args f g e e' p q = one-put p.put q.put
+pub one-say-unit : OneAnswerWith unit.ps unit.r unit-contract.Learnt (λ κs e. left_by e.0.now)
+one-say-unit κs args f g e e' p q = (refl, one-says p q)
 
-pub one-say-value : OneAnswerWith value.ps value.r value-contract.Learnt (λ κs e. e.0.now)
-one-say-value κs args f g e e' p q = one-put p.put q.put
+pub one-say-value : OneAnswerWith value.ps value.r value-contract.Learnt (λ κs e. left_by e.0.now)
+one-say-value κs args f g e e' p q = (refl, one-says p q)
 
 pub usual-range-asks-nothing : AsksNothing usual.ps usual-contract.Asked
 usual-range-asks-nothing κs args = tt
@@ -125,20 +126,20 @@ usual-range-asks-nothing κs args = tt
 pub one-usual-range : OneAnswer usual.ps usual.r usual-contract.Learnt
 one-usual-range κs args f g e e' p q = p ∙ sym q
 
-pub one-say-usual : OneAnswerWith usual-said.ps usual-said.r usual-said-contract.Learnt (λ κs e. e.0.now)
-one-say-usual κs args f g e e' p q = one-put p.put q.put
+pub one-say-usual : OneAnswerWith usual-said.ps usual-said.r usual-said-contract.Learnt (λ κs e. left_by e.0.now)
+one-say-usual κs args f g e e' p q = (refl, one-says p q)
 
 -- A field's name and its unit without the blank before them.
-pub one-say-label : OneAnswerWith label.ps label.r label-contract.Learnt (λ κs e. e.0.now)
-one-say-label κs args f g e e' p q = one-put p.put q.put
+pub one-say-label : OneAnswerWith label.ps label.r label-contract.Learnt (λ κs e. left_by e.0.now)
+one-say-label κs args f g e e' p q = (refl, one-says p q)
 
-pub one-say-unit-name : OneAnswerWith unit-name.ps unit-name.r unit-name-contract.Learnt (λ κs e. e.0.now)
-one-say-unit-name κs args f g e e' p q = one-put p.put q.put
+pub one-say-unit-name : OneAnswerWith unit-name.ps unit-name.r unit-name-contract.Learnt (λ κs e. left_by e.0.now)
+one-say-unit-name κs args f g e e' p q = (refl, one-says p q)
 
 -- Which values are usual, as they are typed.
-pub one-say-ranges : OneAnswerWith ranges.ps ranges.r ranges-contract.Learnt (λ κs e. e.0.now)
-one-say-ranges κs args f g e e' p q = one-put p.put q.put
+pub one-say-ranges : OneAnswerWith ranges.ps ranges.r ranges-contract.Learnt (λ κs e. left_by e.0.now)
+one-say-ranges κs args f g e e' p q = (refl, one-says p q)
 
 -- What a field is.
-pub one-say-help : OneAnswerWith help.ps help.r help-contract.Learnt (λ κs e. e.0.now)
-one-say-help κs args f g e e' p q = one-put p.put q.put
+pub one-say-help : OneAnswerWith help.ps help.r help-contract.Learnt (λ κs e. left_by e.0.now)
+one-say-help κs args f g e e' p q = (refl, one-says p q)

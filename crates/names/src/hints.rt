@@ -1,9 +1,11 @@
 // What a person gave in place of a book, as its first bytes look, and the hint that goes with it.
 ghost use Rattle.std.specs.Prelude.{◌≡◌, ◌≤◌, length};
 ghost use Rattle.printing.specs.Said.{Said};
+ghost use Rattle.printing.specs.Says.{Says};
 ghost use Rattle.names.specs.Hints.{is_typed, begins_typed, begins_with, begins_sheet, looks_like, hint_text};
 
 use printing::say;
+use printing::text::Text;
 
 // What an input looks like: a book, nothing, a typed text, or a sheet.
 #[derive(Clone, Copy)]
@@ -63,22 +65,22 @@ pub fn look(input: &[u8]) -> Given
 }
 
 // What a person is told who gave something else than a book.
-pub fn say_hint(out: &mut [u8], at: usize, given: Given) -> usize
-    requires { at ≤ length out.old }
-    ensures { Said out.old out.new at (hint_text given) result }
+pub fn say_hint(out: &mut Text, given: Given)
+    ensures { Says out.old out.new (hint_text given) }
 {
     match given {
-        Given::Book => at,
-        Given::Nothing => say(
-            out,
-            at,
-            b"this is empty: a book begins with its farm record\n",
-        ),
-        Given::Typed => say(
-            out,
-            at,
-            b"this looks like a typed book: bin/writer makes a book of it\n",
-        ),
-        Given::Sheet => say(out, at, b"this looks like a sheet: bin/unsheet reads it\n"),
+        Given::Book => (),
+        Given::Nothing => out.say(b"this is empty: a book begins with its farm record\n"),
+        Given::Typed => out.say(b"this looks like a typed book: bin/writer makes a book of it\n"),
+        Given::Sheet => out.say(b"this looks like a sheet: bin/unsheet reads it\n"),
     }
+}
+
+// The same alone, from the start of out.
+pub fn say_hint_alone(out: &mut [u8], given: Given) -> usize
+    ensures { Said out.old out.new 0 (hint_text given) result }
+{
+    let mut text = Text::new(out);
+    say_hint(&mut text, given);
+    text.len
 }

@@ -8,6 +8,7 @@ ghost use Rattle.std.specs.Prelude.{◌≡◌, ◌++◌, ◌-◌, ◌≤◌, len
 ghost use Rattle.codec.specs.Table.{fields};
 ghost use Rattle.printing.specs.Ascii.{ascii};
 ghost use Rattle.printing.specs.Said.{Said};
+ghost use Rattle.printing.specs.Says.{Says};
 ghost use Rattle.typed_words.specs.Words.{same_text_lem, lowered};
 ghost use Rattle.names.specs.Names.{table_line, kind_name, kind_names, field_names, field_name, cell_of, is_choice, choices_of, word_for};
 ghost use Rattle.names.specs.Names.{choice_word, choices_most, chosen_from, chosen, label_of, unit_of, help_of};
@@ -16,6 +17,7 @@ ghost use Rattle.names.specs.Names.{sentence_table, sentence, printed_byte, show
 
 use base::rest_of;
 use line_rows::say_form;
+use printing::text::Text;
 use printing::{say, say_pointed};
 use typed_words::{is_name, part, word};
 
@@ -92,11 +94,10 @@ fn line_of(text: &[u8], last: u64, k: u64) -> &[u8]
 }
 
 // The name of the row's kind; what is no row of the book's is a record.
-pub fn say_kind(out: &mut [u8], at: usize, kind: u64) -> usize
-    requires { at ≤ length out.old }
-    ensures { Said out.old out.new at (kind_name kind) result }
+pub fn say_kind(out: &mut Text, kind: u64)
+    ensures { Says out.old out.new (kind_name kind) }
 {
-    say(out, at, line_of(&KINDS, NO_ROW, kind))
+    out.say(line_of(&KINDS, NO_ROW, kind));
 }
 
 // Whether the word is the kind's name, capitals or not.
@@ -106,40 +107,35 @@ pub fn is_kind_name(word: &[u8], kind: u64) -> bool
     is_name(word, line_of(&KINDS, NO_ROW, kind))
 }
 
-fn say_next(out: &mut [u8], at: usize, kind: u64) -> usize
-    requires { at ≤ length out.old }
-    ensures { Said out.old out.new at (ascii ", " ++ kind_name kind) result }
+fn say_next(out: &mut Text, kind: u64)
+    ensures { Says out.old out.new (ascii ", " ++ kind_name kind) }
 {
-    let comma = say(out, at, b", ");
-    say_kind(out, comma, kind)
+    out.say(b", ");
+    say_kind(out, kind);
 }
 
 // The names of all kinds.
-pub fn say_kinds(out: &mut [u8], at: usize) -> usize
-    requires { at ≤ length out.old }
-    ensures { Said out.old out.new at kind_names result }
+pub fn say_kinds(out: &mut Text)
+    ensures { Says out.old out.new kind_names }
 {
-    let mut end = say_kind(out, at, 1);
+    say_kind(out, 1);
     for kind in 2..codec::LAST_KIND + 1 {
-        end = say_next(out, end, kind);
+        say_next(out, kind);
     }
-    end
 }
 
 // The names of the kind's fields.
-pub fn say_fields(out: &mut [u8], at: usize, kind: u64) -> usize
-    requires { at ≤ length out.old }
-    ensures { Said out.old out.new at (field_names kind) result }
+pub fn say_fields(out: &mut Text, kind: u64)
+    ensures { Says out.old out.new (field_names kind) }
 {
-    say(out, at, line_of(&FIELD_NAMES, NO_ROW, kind))
+    out.say(line_of(&FIELD_NAMES, NO_ROW, kind));
 }
 
 // The name of field i, counted from 0, with a blank before it.
-pub fn say_field(out: &mut [u8], at: usize, kind: u64, i: usize) -> usize
-    requires { at ≤ length out.old }
-    ensures { Said out.old out.new at (field_name kind i) result }
+pub fn say_field(out: &mut Text, kind: u64, i: usize)
+    ensures { Says out.old out.new (field_name kind i) }
 {
-    say(out, at, part(line_of(&FIELD_NAMES, NO_ROW, kind), b',', i))
+    out.say(part(line_of(&FIELD_NAMES, NO_ROW, kind), b',', i));
 }
 
 // A text without its first byte.
@@ -153,15 +149,10 @@ fn without_first(text: &[u8]) -> &[u8]
 }
 
 // The name of field i without the blank.
-pub fn say_label(out: &mut [u8], at: usize, kind: u64, i: usize) -> usize
-    requires { at ≤ length out.old }
-    ensures { Said out.old out.new at (label_of kind i) result }
+pub fn say_label(out: &mut Text, kind: u64, i: usize)
+    ensures { Says out.old out.new (label_of kind i) }
 {
-    say(
-        out,
-        at,
-        without_first(part(line_of(&FIELD_NAMES, NO_ROW, kind), b',', i)),
-    )
+    out.say(without_first(part(line_of(&FIELD_NAMES, NO_ROW, kind), b',', i)));
 }
 
 // The text of field i of a row, in a table with a semicolon between fields.
@@ -180,11 +171,10 @@ pub fn is_choice(row: u64, i: usize) -> bool
 }
 
 // The words of field i, with a comma between.
-pub fn say_choices(out: &mut [u8], at: usize, row: u64, i: usize) -> usize
-    requires { at ≤ length out.old }
-    ensures { Said out.old out.new at (choices_of row i) result }
+pub fn say_choices(out: &mut Text, row: u64, i: usize)
+    ensures { Says out.old out.new (choices_of row i) }
 {
-    say(out, at, cell(&CHOICES, row, i))
+    out.say(cell(&CHOICES, row, i));
 }
 
 // The word for the number v in a list of words.
@@ -195,11 +185,10 @@ fn nth_choice(words: &[u8], v: usize) -> &[u8]
 }
 
 // The word of field i for the number v.
-pub fn say_choice(out: &mut [u8], at: usize, row: u64, i: usize, v: u64) -> usize
-    requires { at ≤ length out.old }
-    ensures { Said out.old out.new at (choice_word row i v) result }
+pub fn say_choice(out: &mut Text, row: u64, i: usize, v: u64)
+    ensures { Says out.old out.new (choice_word row i v) }
 {
-    say(out, at, nth_choice(cell(&CHOICES, row, i), v as usize))
+    out.say(nth_choice(cell(&CHOICES, row, i), v as usize));
 }
 
 // The number of the word in a list of words, capitals or not, where it is one of them.
@@ -221,9 +210,8 @@ pub fn choice(typed: &[u8], row: u64, i: usize) -> Option<u64>
     choice_in(cell(&CHOICES, row, i), typed)
 }
 
-fn say_range(out: &mut [u8], at: usize, row: u64, i: usize) -> usize
-    requires { at ≤ length out.old }
-    ensures { Said out.old out.new at (cell_of row i expected_table) result }
+fn say_range(out: &mut Text, row: u64, i: usize)
+    ensures { Says out.old out.new (cell_of row i expected_table) }
 {
     let text = cell(
         b"
@@ -243,50 +231,45 @@ fn say_range(out: &mut [u8], at: usize, row: u64, i: usize) -> usize
         row,
         i,
     );
-    say(out, at, text)
+    out.say(text);
 }
 
-fn say_bracketed(out: &mut [u8], at: usize, row: u64, i: usize) -> usize
-    requires { at ≤ length out.old }
-    ensures { Said out.old out.new at (choices_text row i) result }
+fn say_bracketed(out: &mut Text, row: u64, i: usize)
+    ensures { Says out.old out.new (choices_text row i) }
 {
     if !is_choice(row, i) {
-        return at;
+        return;
     }
-    let open = say(out, at, b" (");
-    let words = say_choices(out, open, row, i);
-    say(out, words, b")")
+    out.say(b" (");
+    say_choices(out, row, i);
+    out.say(b")");
 }
 
 // What is expected of field i, with a blank before it.
-pub fn say_expected(out: &mut [u8], at: usize, row: u64, i: usize) -> usize
-    requires { at ≤ length out.old }
-    ensures { Said out.old out.new at (expected row i) result }
+pub fn say_expected(out: &mut Text, row: u64, i: usize)
+    ensures { Says out.old out.new (expected row i) }
 {
-    let range = say_range(out, at, row, i);
-    say_bracketed(out, range, row, i)
+    say_range(out, row, i);
+    say_bracketed(out, row, i);
 }
 
 // The unit of field i, with a blank before it.
-pub fn say_unit(out: &mut [u8], at: usize, row: u64, i: usize) -> usize
-    requires { at ≤ length out.old }
-    ensures { Said out.old out.new at (unit_text row i) result }
+pub fn say_unit(out: &mut Text, row: u64, i: usize)
+    ensures { Says out.old out.new (unit_text row i) }
 {
-    say(out, at, cell(&UNITS, row, i))
+    out.say(cell(&UNITS, row, i));
 }
 
 // The unit of field i without the blank.
-pub fn say_unit_name(out: &mut [u8], at: usize, row: u64, i: usize) -> usize
-    requires { at ≤ length out.old }
-    ensures { Said out.old out.new at (unit_of row i) result }
+pub fn say_unit_name(out: &mut Text, row: u64, i: usize)
+    ensures { Says out.old out.new (unit_of row i) }
 {
-    say(out, at, without_first(cell(&UNITS, row, i)))
+    out.say(without_first(cell(&UNITS, row, i)));
 }
 
 // What field i is, in a few words.
-pub fn say_help(out: &mut [u8], at: usize, row: u64, i: usize) -> usize
-    requires { at ≤ length out.old }
-    ensures { Said out.old out.new at (help_of row i) result }
+pub fn say_help(out: &mut Text, row: u64, i: usize)
+    ensures { Says out.old out.new (help_of row i) }
 {
     let text = cell(
         b"
@@ -308,19 +291,19 @@ number of the farm;year of the book;CO2e of a kg of CH4;CO2e of a kg of N2O",
         row,
         i,
     );
-    say(out, at, text)
+    out.say(text);
 }
 
 // The value of field i as it is typed.
-pub fn say_value(out: &mut [u8], at: usize, row: u64, i: usize, v: u64) -> usize
-    requires { at ≤ length out.old }
-    ensures { Said out.old out.new at (value_text row i v) result }
+pub fn say_value(out: &mut Text, row: u64, i: usize, v: u64)
+    ensures { Says out.old out.new (value_text row i v) }
 {
     if is_choice(row, i) {
-        return say_choice(out, at, row, i, v);
+        say_choice(out, row, i, v);
+        return;
     }
     let d = decimals(row, i);
-    say_pointed(out, at, v, d)
+    out.say_pointed(v, d);
 }
 
 // The digit at index i; 0 where there is none.
@@ -357,16 +340,14 @@ pub fn decimals(kind: u64, i: usize) -> usize
     digit_at(digits, i)
 }
 
-pub fn say_class(out: &mut [u8], at: usize, class: u64) -> usize
-    requires { at ≤ length out.old }
-    ensures { Said out.old out.new at (class_name class) result }
+pub fn say_class(out: &mut Text, class: u64)
+    ensures { Says out.old out.new (class_name class) }
 {
-    say_choice(out, at, 2, 1, class)
+    say_choice(out, 2, 1, class);
 }
 
-fn say_line(out: &mut [u8], at: usize, code: u64) -> usize
-    requires { at ≤ length out.old }
-    ensures { Said out.old out.new at (table_line 24 code sentence_table) result }
+fn say_line(out: &mut Text, code: u64)
+    ensures { Says out.old out.new (table_line 24 code sentence_table) }
 {
     let words = line_of(
         b"closed
@@ -400,20 +381,19 @@ no such number",
         24,
         code,
     );
-    say(out, at, words)
+    out.say(words);
 }
 
 // The sentence of a number.
-pub fn say_sentence(out: &mut [u8], at: usize, code: u64) -> usize
-    requires { at ≤ length out.old }
-    ensures { Said out.old out.new at (sentence code) result }
+pub fn say_sentence(out: &mut Text, code: u64)
+    ensures { Says out.old out.new (sentence code) }
 {
-    let line = say_line(out, at, code);
+    say_line(out, code);
     if code == 20 {
-        let colon = say(out, line, b": ");
-        return say_form(out, colon);
+        out.say(b": ");
+        say_form(out);
+        return;
     }
-    line
 }
 
 fn printed(b: u8) -> u8
@@ -422,8 +402,8 @@ fn printed(b: u8) -> u8
     if b.is_ascii_graphic() { b } else { b'?' }
 }
 
-// A word told back: its first 24 bytes, with a ? for each that does not print.
-pub fn say_shown(out: &mut [u8], at: usize, word: &[u8]) -> usize
+// So much of a typed word as is shown, as far as there is room.
+fn put_shown(out: &mut [u8], at: usize, word: &[u8]) -> usize
     requires { at ≤ length out.old }
     ensures { Said out.old out.new at (shown word.now) result }
 {
@@ -432,4 +412,11 @@ pub fn say_shown(out: &mut [u8], at: usize, word: &[u8]) -> usize
         out[at + i] = printed(word[i]);
     }
     at + n
+}
+
+// A word told back: its first 24 bytes, with a ? for each that does not print.
+pub fn say_shown(out: &mut Text, word: &[u8])
+    ensures { Says out.old out.new (shown word.now) }
+{
+    out.len = put_shown(out.buffer, out.len, word);
 }

@@ -1,6 +1,6 @@
 // Which values are usual: a person is asked to look at any other again.
 ghost use Rattle.std.specs.Prelude.{◌≡◌, ◌-◌, ◌≤◌, length, unwrap_or};
-ghost use Rattle.printing.specs.Said.{Said};
+ghost use Rattle.printing.specs.Says.{Says};
 ghost use Rattle.typed_words.specs.Words.{nth_word};
 ghost use Rattle.typed_words.specs.Amounts.{amount_of};
 ghost use Rattle.names.specs.Names.{decimals_at};
@@ -9,6 +9,7 @@ ghost use Rattle.names.specs.Usual.{usual_ranges, goes_by, range_for, usual_of, 
 use crate::{cell, decimals, say_value};
 use base::find;
 use printing::say;
+use printing::text::Text;
 use typed_words::{part, read_amount, word};
 
 // Which values of a field are usual, from low to high, in the book's unit.
@@ -78,45 +79,41 @@ pub fn usual_range(row: u64, i: usize, who: usize) -> Option<Usual>
 }
 
 // The ranges of field i as they are typed, with a bar between where they go by class or column.
-pub fn say_ranges(out: &mut [u8], at: usize, row: u64, i: usize) -> usize
-    requires { at ≤ length out.old }
-    ensures { Said out.old out.new at (usual_ranges row i) result }
+pub fn say_ranges(out: &mut Text, row: u64, i: usize)
+    ensures { Says out.old out.new (usual_ranges row i) }
 {
-    say(out, at, cell(&USUAL, row, i))
+    out.say(cell(&USUAL, row, i));
 }
 
-fn say_for(out: &mut [u8], at: usize, row: u64, i: usize, who: usize) -> usize
-    requires { at ≤ length out.old }
-    ensures { Said out.old out.new at (for_text (usual_ranges row i) who) result }
+fn say_for(out: &mut Text, row: u64, i: usize, who: usize)
+    ensures { Says out.old out.new (for_text (usual_ranges row i) who) }
 {
     let ranges = cell(&USUAL, row, i);
     if !goes_by(ranges) {
-        return at;
+        return;
     }
-    let head = say(out, at, b" for ");
-    say(out, head, word(range_for(ranges, who), 0))
+    out.say(b" for ");
+    out.say(word(range_for(ranges, who), 0));
 }
 
-fn say_to(out: &mut [u8], at: usize, row: u64, i: usize, u: Usual) -> usize
-    requires { at ≤ length out.old }
-    ensures { Said out.old out.new at (to_text row i u) result }
+fn say_to(out: &mut Text, row: u64, i: usize, u: Usual)
+    ensures { Says out.old out.new (to_text row i u) }
 {
     if u.low == u.high {
-        return at;
+        return;
     }
-    let to = say(out, at, b" to ");
-    say_value(out, to, row, i, u.high)
+    out.say(b" to ");
+    say_value(out, row, i, u.high);
 }
 
 // What is usual, in words; 0 where nothing is.
-pub fn say_usual(out: &mut [u8], at: usize, row: u64, i: usize, who: usize) -> usize
-    requires { at ≤ length out.old }
-    ensures { Said out.old out.new at (usual_text row i who) result }
+pub fn say_usual(out: &mut Text, row: u64, i: usize, who: usize)
+    ensures { Says out.old out.new (usual_text row i who) }
 {
     let u = usual_range(row, i, who).unwrap_or(Usual { low: 0, high: 0 });
-    let word = say(out, at, b"usual");
-    let whom = say_for(out, word, row, i, who);
-    let is = say(out, whom, b" is ");
-    let low = say_value(out, is, row, i, u.low);
-    say_to(out, low, row, i, u)
+    out.say(b"usual");
+    say_for(out, row, i, who);
+    out.say(b" is ");
+    say_value(out, row, i, u.low);
+    say_to(out, row, i, u);
 }

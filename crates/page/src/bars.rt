@@ -1,10 +1,11 @@
 // The cascade: steps of CO2e, counted from 2^63 on, and the bars between them.
 ghost use Rattle.std.specs.Prelude.{◌≡◌, ◌<◌, ◌≤◌, length};
-ghost use Rattle.printing.specs.Said.{Said};
+ghost use Rattle.printing.specs.Says.{Says};
 ghost use Rattle.page.specs.Bars.{unit_of, scale_of, place_of, rect_text, mark_text, bar_text};
 ghost use Rattle.page.specs.Figures.{of_farm, group_scale};
 
 use crate::{Scale, Survey};
+use printing::text::Text;
 use printing::{say, say_number};
 
 // The step before any row.
@@ -51,54 +52,50 @@ fn place(sc: Scale, step: u64) -> u64
 }
 
 // From the smaller to the greater of two places; hollow where CO2 is taken up.
-fn say_rect(out: &mut [u8], at: usize, up: bool, p: u64, q: u64) -> usize
-    requires { at ≤ length out.old }
-    ensures { Said out.old out.new at (rect_text up p q) result }
+fn say_rect(out: &mut Text, up: bool, p: u64, q: u64)
+    ensures { Says out.old out.new (rect_text up p q) }
 {
     if up {
-        let first = say(out, at, b" class=\"up\" x=\"");
-        let second = say_number(out, first, p.min(q));
-        let third = say(out, second, b"\" y=\"1\" width=\"");
-        let fourth = say_number(out, third, p.abs_diff(q));
-        return say(out, fourth, b"\" height=\"6\"");
+        out.say(b" class=\"up\" x=\"");
+        out.say_number(p.min(q));
+        out.say(b"\" y=\"1\" width=\"");
+        out.say_number(p.abs_diff(q));
+        out.say(b"\" height=\"6\"");
+        return;
     }
-    let first = say(out, at, b" x=\"");
-    let second = say_number(out, first, p.min(q));
-    let third = say(out, second, b"\" y=\"0\" width=\"");
-    let fourth = say_number(out, third, p.abs_diff(q));
-    say(out, fourth, b"\" height=\"8\"")
+    out.say(b" x=\"");
+    out.say_number(p.min(q));
+    out.say(b"\" y=\"0\" width=\"");
+    out.say_number(p.abs_diff(q));
+    out.say(b"\" height=\"8\"");
 }
 
 // A mark at zero, where a step is below it.
-fn say_mark(out: &mut [u8], at: usize, sc: Scale) -> usize
-    requires { (at ≤ length out.old) × (0 < sc.unit) }
-    ensures { Said out.old out.new at (mark_text sc) result }
+fn say_mark(out: &mut Text, sc: Scale)
+    requires { 0 < sc.unit }
+    ensures { Says out.old out.new (mark_text sc) }
 {
     if LOWEST_STEP <= sc.lo {
-        return at;
+        return;
     }
     let z = place(sc, LOWEST_STEP);
-    let first = say(out, at, b"<line class=\"zero\" x1=\"");
-    let second = say_number(out, first, z);
-    let third = say(out, second, b"\" y1=\"0\" x2=\"");
-    let fourth = say_number(out, third, z);
-    say(out, fourth, b"\" y2=\"8\"></line>")
+    out.say(b"<line class=\"zero\" x1=\"");
+    out.say_number(z);
+    out.say(b"\" y1=\"0\" x2=\"");
+    out.say_number(z);
+    out.say(b"\" y2=\"8\"></line>");
 }
 
 // The bar of a row that leads from one step to another.
-pub(crate) fn say_bar(out: &mut [u8], at: usize, sc: Scale, from: u64, to: u64, up: bool) -> usize
-    requires { (at ≤ length out.old) × (0 < sc.unit) }
-    ensures { Said out.old out.new at (bar_text sc from to up) result }
+pub(crate) fn say_bar(out: &mut Text, sc: Scale, from: u64, to: u64, up: bool)
+    requires { 0 < sc.unit }
+    ensures { Says out.old out.new (bar_text sc from to up) }
 {
     let p = place(sc, from);
     let q = place(sc, to);
-    let first = say(
-        out,
-        at,
-        b"<svg viewBox=\"0 0 1000 8\" preserveAspectRatio=\"none\" aria-hidden=\"true\"><rect",
-    );
-    let second = say_rect(out, first, up, p, q);
-    let third = say(out, second, b"></rect>");
-    let fourth = say_mark(out, third, sc);
-    say(out, fourth, b"</svg>")
+    out.say(b"<svg viewBox=\"0 0 1000 8\" preserveAspectRatio=\"none\" aria-hidden=\"true\"><rect");
+    say_rect(out, up, p, q);
+    out.say(b"></rect>");
+    say_mark(out, sc);
+    out.say(b"</svg>");
 }

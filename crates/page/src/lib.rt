@@ -14,6 +14,7 @@ mod text; // text.rt: kilograms and cells
 
 ghost use Rattle.std.specs.Prelude.{◌≡◌, ◌+◌, ◌≤◌, length};
 ghost use Rattle.printing.specs.Said.{Said};
+ghost use Rattle.printing.specs.Says.{Says};
 ghost use Rattle.account.specs.Range.{AccountInRange};
 ghost use Rattle.page.specs.Figures.{survey_of, group_scale};
 ghost use Rattle.page.specs.Page.{is_refused, first_text, last_text, no_place, row_by, stopped_at, moved_by, place_after, row_at};
@@ -23,6 +24,7 @@ use crate::sums::{group_of, group_step, is_ended, kind_of};
 use account::Account;
 use base::rest_of;
 use codec::kinds::HEADING;
+use printing::text::Text;
 use walk::next_alone;
 use why::Verdict;
 
@@ -145,24 +147,42 @@ fn refused(v: Verdict) -> bool
     matches!(v, Verdict::Refused(_))
 }
 
+fn tell_first(text: &mut Text, s: Survey, v: Verdict)
+    ensures { Says text.old text.new (first_text s v) }
+{
+    if s.closed {
+        head::say_top(text, s);
+        return;
+    }
+    notice::say_before(text, s, refused(v));
+}
+
 // The page up to the rows of its groups, or to why there are none, from the start of out.
 pub fn say_first(out: &mut [u8], s: Survey, v: Verdict) -> usize
     ensures { Said out.old out.new 0 (first_text s v) result }
 {
+    let mut text = Text::new(out);
+    tell_first(&mut text, s, v);
+    text.len
+}
+
+fn tell_last(text: &mut Text, s: Survey, v: Verdict)
+    ensures { Says text.old text.new (last_text s v) }
+{
     if s.closed {
-        return head::say_top(out, 0, s);
+        rest::say_rest(text, s);
+        return;
     }
-    notice::say_before(out, 0, s, refused(v))
+    notice::say_after(text, s, refused(v));
 }
 
 // The page after them.
 pub fn say_last(out: &mut [u8], s: Survey, v: Verdict) -> usize
     ensures { Said out.old out.new 0 (last_text s v) result }
 {
-    if s.closed {
-        return rest::say_rest(out, 0, s);
-    }
-    notice::say_after(out, 0, s, refused(v))
+    let mut text = Text::new(out);
+    tell_last(&mut text, s, v);
+    text.len
 }
 
 // Before the first record.
@@ -178,18 +198,27 @@ pub fn start() -> Place
     }
 }
 
+fn tell_row(text: &mut Text, p: Place, kind: u64, s: Survey)
+    requires { AccountInRange p.account }
+    ensures { Says text.old text.new (row_by (group_scale s) p.from p.grazed p.account kind) }
+{
+    let a = p.account;
+    if !is_ended(a, kind) {
+        return;
+    }
+    let sc = group_scale(s);
+    let g = group_of(a, p.from, p.grazed);
+    rows::say_group(text, sc, g);
+}
+
 // The row of the group that a record of the kind ends, where it ends one.
 fn say_row(out: &mut [u8], p: Place, kind: u64, s: Survey) -> usize
     requires { AccountInRange p.account }
     ensures { Said out.old out.new 0 (row_by (group_scale s) p.from p.grazed p.account kind) result }
 {
-    let a = p.account;
-    if !is_ended(a, kind) {
-        return 0;
-    }
-    let sc = group_scale(s);
-    let g = group_of(a, p.from, p.grazed);
-    rows::say_group(out, 0, sc, g)
+    let mut text = Text::new(out);
+    tell_row(&mut text, p, kind, s);
+    text.len
 }
 
 // The same place, after which nothing comes.

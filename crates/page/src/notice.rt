@@ -1,21 +1,19 @@
 // The page of a book that is not closed.
 ghost use Rattle.std.specs.Prelude.{◌≤◌, length};
-ghost use Rattle.printing.specs.Said.{Said};
+ghost use Rattle.printing.specs.Says.{Says};
 ghost use Rattle.page.specs.Parts.{advice_text, after_text, before_text, made_of, warning_text};
 
 use crate::Survey;
 use crate::head::{say_head, say_name};
+use printing::text::Text;
 use printing::{say, say_number};
 
 // That it is not for members, up to why.
-fn say_warning(out: &mut [u8], at: usize, refused: bool) -> usize
-    requires { at ≤ length out.old }
-    ensures { Said out.old out.new at (warning_text refused) result }
+fn say_warning(out: &mut Text, refused: bool)
+    ensures { Says out.old out.new (warning_text refused) }
 {
     if refused {
-        return say(
-            out,
-            at,
+        out.say(
             b"<div class=\"not\">
 <h2>Not for members</h2>
 <p><b>The book of this farm is refused.</b> There are no figures on this page, because a record of the book is wrong. Please do not mail it.</p>
@@ -24,10 +22,9 @@ fn say_warning(out: &mut [u8], at: usize, refused: bool) -> usize
 <h2>Why</h2>
 <p>",
         );
+        return;
     }
-    say(
-        out,
-        at,
+    out.say(
         b"<div class=\"not\">
 <h2>Not for members</h2>
 <p><b>The book of this farm is not closed.</b> There are no figures on this page, because the year may still change. Please do not mail it.</p>
@@ -35,18 +32,15 @@ fn say_warning(out: &mut [u8], at: usize, refused: bool) -> usize
 <section>
 <h2>Why</h2>
 <p>",
-    )
+    );
 }
 
 // What to do.
-fn say_advice(out: &mut [u8], at: usize, refused: bool) -> usize
-    requires { at ≤ length out.old }
-    ensures { Said out.old out.new at (advice_text refused) result }
+fn say_advice(out: &mut Text, refused: bool)
+    ensures { Says out.old out.new (advice_text refused) }
 {
     if refused {
-        return say(
-            out,
-            at,
+        out.say(
             b"</p>
 </section>
 <section>
@@ -59,10 +53,9 @@ fn say_advice(out: &mut [u8], at: usize, refused: bool) -> usize
 </section>
 ",
         );
+        return;
     }
-    say(
-        out,
-        at,
+    out.say(
         b"</p>
 </section>
 <section>
@@ -74,52 +67,46 @@ fn say_advice(out: &mut [u8], at: usize, refused: bool) -> usize
 </ol>
 </section>
 ",
-    )
+    );
 }
 
 // Of how many records.
-fn say_made_of(out: &mut [u8], at: usize, refused: bool) -> usize
-    requires { at ≤ length out.old }
-    ensures { Said out.old out.new at (made_of refused) result }
+fn say_made_of(out: &mut Text, refused: bool)
+    ensures { Says out.old out.new (made_of refused) }
 {
     if refused {
-        return say(out, at, b". Made from a book that is refused after ");
+        out.say(b". Made from a book that is refused after ");
+        return;
     }
-    say(out, at, b". Made from a book that is not closed, of ")
+    out.say(b". Made from a book that is not closed, of ");
 }
 
 // Up to why's sentence.
-pub(crate) fn say_before(out: &mut [u8], at: usize, s: Survey, refused: bool) -> usize
-    requires { at ≤ length out.old }
-    ensures { Said out.old out.new at (before_text s refused) result }
+pub(crate) fn say_before(out: &mut Text, s: Survey, refused: bool)
+    ensures { Says out.old out.new (before_text s refused) }
 {
-    let first = say_head(out, at, s);
-    say_warning(out, first, refused)
+    say_head(out, s);
+    say_warning(out, refused);
 }
 
 // After why's sentence.
-pub(crate) fn say_after(out: &mut [u8], at: usize, s: Survey, refused: bool) -> usize
-    requires { at ≤ length out.old }
-    ensures { Said out.old out.new at (after_text s refused) result }
+pub(crate) fn say_after(out: &mut Text, s: Survey, refused: bool)
+    ensures { Says out.old out.new (after_text s refused) }
 {
-    let first = say_advice(out, at, refused);
-    let second = say(
-        out,
-        first,
+    say_advice(out, refused);
+    out.say(
         b"<footer>
 <p id=\"verdict\">",
     );
-    let third = say_name(out, second, s);
-    let fourth = say_made_of(out, third, refused);
-    let fifth = say_number(out, fourth, s.records);
-    say(
-        out,
-        fifth,
+    say_name(out, s);
+    say_made_of(out, refused);
+    out.say_number(s.records);
+    out.say(
         b" records.</p>
 </footer>
 </main>
 </body>
 </html>
 ",
-    )
+    );
 }

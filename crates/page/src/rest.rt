@@ -1,6 +1,6 @@
 // What stands below the groups.
 ghost use Rattle.std.specs.Prelude.{◌≤◌, length};
-ghost use Rattle.printing.specs.Said.{Said};
+ghost use Rattle.printing.specs.Says.{Says};
 ghost use Rattle.page.specs.Parts.{farm_text, foot_text, groups_foot, counted_text, exact_text, rest_text};
 
 use crate::Survey;
@@ -10,53 +10,45 @@ use crate::gases::say_gas_table;
 use crate::head::say_name;
 use crate::rows::{say_bars, say_figures, say_together};
 use crate::text::{is_below, say_kilograms};
+use printing::text::Text;
 use printing::{say, say_number};
 
 // The row of the farm, where the book has a record of energy, organic soil or tillage.
-fn say_farm(out: &mut [u8], at: usize, s: Survey) -> usize
-    requires { at ≤ length out.old }
-    ensures { Said out.old out.new at (farm_text s) result }
+fn say_farm(out: &mut Text, s: Survey)
+    ensures { Says out.old out.new (farm_text s) }
 {
     if !of_farm(s) {
-        return at;
+        return;
     }
     let sc = group_scale(s);
     let end = s.groups.wrapping_add(s.co2);
-    let first = say(
-        out,
-        at,
+    out.say(
         b"<tbody><tr><th colspan=\"8\"><b>The farm as a whole</b> energy, soil, tillage</th><td class=\"co2e\">",
     );
-    let second = say_kilograms(out, first, s.co2);
-    say_bars(out, second, 9, sc, s.groups, end, is_below(s.co2))
+    say_kilograms(out, s.co2);
+    say_bars(out, 9, sc, s.groups, end, is_below(s.co2));
 }
 
 // The sums below the groups.
-fn say_groups_foot(out: &mut [u8], at: usize, s: Survey) -> usize
-    requires { at ≤ length out.old }
-    ensures { Said out.old out.new at (groups_foot s) result }
+fn say_groups_foot(out: &mut Text, s: Survey)
+    ensures { Says out.old out.new (groups_foot s) }
 {
-    let first = say(out, at, b"<tfoot><tr><th>Total</th><td></td><td></td>");
-    let second = say_figures(out, first, s.excreted, s.land, s.ch4, s.n2o, s.grazing);
-    let third = say_together(out, second, s.total);
-    say(
-        out,
-        third,
+    out.say(b"<tfoot><tr><th>Total</th><td></td><td></td>");
+    say_figures(out, s.excreted, s.land, s.ch4, s.n2o, s.grazing);
+    say_together(out, s.total);
+    out.say(
         b"</td></tr></tfoot>
 </table>
 </section>
 ",
-    )
+    );
 }
 
 // What is counted, and what is left out.
-fn say_counted(out: &mut [u8], at: usize) -> usize
-    requires { at ≤ length out.old }
-    ensures { Said out.old out.new at counted_text result }
+fn say_counted(out: &mut Text)
+    ensures { Says out.old out.new counted_text }
 {
-    say(
-        out,
-        at,
+    out.say(
         b"<section class=\"two\">
 <div>
 <h2>Counted</h2>
@@ -81,17 +73,14 @@ fn say_counted(out: &mut [u8], at: usize) -> usize
 </div>
 </section>
 ",
-    )
+    );
 }
 
 // How exact it is.
-fn say_exact(out: &mut [u8], at: usize) -> usize
-    requires { at ≤ length out.old }
-    ensures { Said out.old out.new at exact_text result }
+fn say_exact(out: &mut Text)
+    ensures { Says out.old out.new exact_text }
 {
-    say(
-        out,
-        at,
+    out.say(
         b"<section>
 <h2>How exact this is</h2>
 <p class=\"note\">Each record of the book gives whole grams, the third decimal here. From there on everything is added, and nothing is
@@ -99,45 +88,39 @@ rounded: the parts of each table make its total to the gram. Only CO<sub>2</sub>
 are as right as what was entered: feed, head, days and shares.</p>
 </section>
 ",
-    )
+    );
 }
 
 // The foot.
-fn say_foot(out: &mut [u8], at: usize, s: Survey) -> usize
-    requires { at ≤ length out.old }
-    ensures { Said out.old out.new at (foot_text s) result }
+fn say_foot(out: &mut Text, s: Survey)
+    ensures { Says out.old out.new (foot_text s) }
 {
-    let first = say(
-        out,
-        at,
+    out.say(
         b"<footer>
 <p id=\"verdict\">",
     );
-    let second = say_name(out, first, s);
-    let third = say(out, second, b". Made from the closed book of ");
-    let fourth = say_number(out, third, s.records);
-    say(
-        out,
-        fourth,
+    say_name(out, s);
+    out.say(b". Made from the closed book of ");
+    out.say_number(s.records);
+    out.say(
         b" records.</p>
 </footer>
 </main>
 </body>
 </html>
 ",
-    )
+    );
 }
 
 // The page of a closed book after the row of its last group.
-pub(crate) fn say_rest(out: &mut [u8], at: usize, s: Survey) -> usize
-    requires { at ≤ length out.old }
-    ensures { Said out.old out.new at (rest_text s) result }
+pub(crate) fn say_rest(out: &mut Text, s: Survey)
+    ensures { Says out.old out.new (rest_text s) }
 {
-    let first = say_farm(out, at, s);
-    let second = say_groups_foot(out, first, s);
-    let third = say_sources(out, second, s);
-    let fourth = say_gas_table(out, third, s);
-    let fifth = say_counted(out, fourth);
-    let sixth = say_exact(out, fifth);
-    say_foot(out, sixth, s)
+    say_farm(out, s);
+    say_groups_foot(out, s);
+    say_sources(out, s);
+    say_gas_table(out, s);
+    say_counted(out);
+    say_exact(out);
+    say_foot(out, s);
 }

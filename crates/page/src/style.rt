@@ -1,18 +1,16 @@
 // The style of the page: for screens of any width, light and dark, and for A4.
 ghost use Rattle.std.specs.Prelude.{◌≤◌, length};
-ghost use Rattle.printing.specs.Said.{Said};
+ghost use Rattle.printing.specs.Says.{Says};
 ghost use Rattle.page.specs.Style.{type_style, table_style, narrow_style, print_style, style_text};
 
 use printing::say;
+use printing::text::Text;
 
 // The page, its type and its colours.
-fn say_type(out: &mut [u8], at: usize) -> usize
-    requires { at ≤ length out.old }
-    ensures { Said out.old out.new at type_style result }
+fn say_type(out: &mut Text)
+    ensures { Says out.old out.new type_style }
 {
-    say(
-        out,
-        at,
+    out.say(
         b"</title>
 <style>
 :root { --ground:#f1efe8; --paper:#fffefb; --ink:#1d2420; --soft:#566059; --rule:#cfcbbd;
@@ -35,17 +33,14 @@ h1 { font-size:1.75rem; line-height:1.2 }
 .sum span { font-size:1.5rem; letter-spacing:0 }
 .soft, header p, h2 + p:not(.note) { color:var(--soft) }
 ",
-    )
+    );
 }
 
 // Sections, tables and bars.
-fn say_tables(out: &mut [u8], at: usize) -> usize
-    requires { at ≤ length out.old }
-    ensures { Said out.old out.new at table_style result }
+fn say_tables(out: &mut Text)
+    ensures { Says out.old out.new table_style }
 {
-    say(
-        out,
-        at,
+    out.say(
         b"section { margin-top:2.5rem }
 h2 { font-size:1.375rem; line-height:1.25; margin-bottom:.25rem }
 table { width:100%; border-collapse:collapse; margin-top:.75rem; font-size:.875rem; line-height:1.35 }
@@ -74,17 +69,14 @@ ul, .note { margin:0; padding-left:1.1rem; font-size:.875rem }
 ol { margin:.25rem 0 0; padding-left:1.25rem }
 footer { margin-top:2.5rem; border-top:1px solid var(--rule); padding-top:.6rem; color:var(--soft); font-size:.8125rem }
 ",
-    )
+    );
 }
 
 // Narrow screens.
-fn say_narrow(out: &mut [u8], at: usize) -> usize
-    requires { at ≤ length out.old }
-    ensures { Said out.old out.new at narrow_style result }
+fn say_narrow(out: &mut Text)
+    ensures { Says out.old out.new narrow_style }
 {
-    say(
-        out,
-        at,
+    out.say(
         b"@media screen and (max-width:64rem) {
   main { margin:0 auto; padding:2rem 1.5rem }
   table { font-size:.79rem }
@@ -113,17 +105,14 @@ fn say_narrow(out: &mut [u8], at: usize) -> usize
   .wide tfoot tr { border-top:1px solid; border-bottom:3px double; padding:.5rem 0 }
 }
 ",
-    )
+    );
 }
 
 // A4 and the dark; it ends where the farm stands on each printed page.
-fn say_print(out: &mut [u8], at: usize) -> usize
-    requires { at ≤ length out.old }
-    ensures { Said out.old out.new at print_style result }
+fn say_print(out: &mut Text)
+    ensures { Says out.old out.new print_style }
 {
-    say(
-        out,
-        at,
+    out.say(
         b"@media print {
   @page { size:A4; margin:15mm 16mm 18mm;
     @bottom-right { content:counter(page) \" of \" counter(pages); font:8pt sans-serif; color:#566059 } }
@@ -142,15 +131,14 @@ fn say_print(out: &mut [u8], at: usize) -> usize
     --bar:#7cc29f; --up:#8dbde8; --warn:#ffb4aa; --warnbg:#2f1a18 }
 }
 @media print { @page { @bottom-left { content:\"",
-    )
+    );
 }
 
-pub(crate) fn say_style(out: &mut [u8], at: usize) -> usize
-    requires { at ≤ length out.old }
-    ensures { Said out.old out.new at style_text result }
+pub(crate) fn say_style(out: &mut Text)
+    ensures { Says out.old out.new style_text }
 {
-    let first = say_type(out, at);
-    let second = say_tables(out, first);
-    let third = say_narrow(out, second);
-    say_print(out, third)
+    say_type(out);
+    say_tables(out);
+    say_narrow(out);
+    say_print(out);
 }

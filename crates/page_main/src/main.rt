@@ -4,7 +4,7 @@
 
 ghost use Rattle.std.specs.Prelude.{◌≡◌, ◌≤◌, length};
 
-use names::hints::{look, say_hint};
+use names::hints::{look, say_hint_alone};
 use page::Survey;
 use program::System;
 use why::{Verdict, remarks};
@@ -84,7 +84,7 @@ fn tell(rt: &impl System, book: &[u8], s: Survey, v: Verdict) -> bool {
 // A hint where the input is no book but a typed text, a sheet or nothing.
 fn tell_hint(rt: &impl System, input: &[u8]) {
     let mut text = [0u8; 256];
-    let n = say_hint(&mut text, 0, look(input));
+    let n = say_hint_alone(&mut text, look(input));
     program::report(rt, &text[..n]);
 }
 

@@ -5,4 +5,5 @@ pub mod PointedLength
 pub mod Joined
 pub mod Puts
 pub mod Sayings
+pub mod Texts
 pub mod OneAnswer

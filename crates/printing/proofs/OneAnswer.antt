@@ -1,6 +1,9 @@
 -- One answer of each public function (base, specs/Answers): the index past the text, and the buffer at the end (the first parameter, out). Each asks
 -- its caller for room: the functions named put for all of the text, those named say for where it begins. Assumes nothing.
-use Rattle.base.specs.Answers.{OneAnswerWith}
+use mathlib.Core.Path.{◌≡◌, refl, sym, ◌∙◌}
+use Rattle.base.specs.Answers.{OneAnswerWith, TwoAnswers}
+use Rattle.printing.specs.Says.{left_by}
+use Rattle.printing.proofs.Texts.{one-says, same-left}
 use Rattle.printing.proofs.Examples.{one-put}
 use Rattle.printing.proofs.put_byte.Kinds as byte
 use Rattle.printing.proofs.put_byte.Reads as byte-contract
@@ -22,6 +25,16 @@ use Rattle.printing.proofs.say_number.Kinds as told
 use Rattle.printing.proofs.say_number.Reads as told-contract
 use Rattle.printing.proofs.say_pointed.Kinds as shown
 use Rattle.printing.proofs.say_pointed.Reads as shown-contract
+use Rattle.printing.proofs.text.Text.new.Kinds as text-start
+use Rattle.printing.proofs.text.Text.new.Reads as text-start-contract
+use Rattle.printing.proofs.text.Text.behind.Kinds as text-behind
+use Rattle.printing.proofs.text.Text.behind.Reads as text-behind-contract
+use Rattle.printing.proofs.text.Text.say.Kinds as text-words
+use Rattle.printing.proofs.text.Text.say.Reads as text-words-contract
+use Rattle.printing.proofs.text.Text.say_number.Kinds as text-count
+use Rattle.printing.proofs.text.Text.say_number.Reads as text-count-contract
+use Rattle.printing.proofs.text.Text.say_pointed.Kinds as text-places
+use Rattle.printing.proofs.text.Text.say_pointed.Reads as text-places-contract
 
 -- A byte.
 pub one-put-byte : OneAnswerWith byte.ps byte.r byte-contract.Learnt (λ κs e. e.0.now)
@@ -62,3 +75,23 @@ one-put-pointed κs args f g e e' p q = one-put p.0 q.0
 -- A number with decimals, as far as there is room.
 pub one-say-pointed : OneAnswerWith shown.ps shown.r shown-contract.Learnt (λ κs e. e.0.now)
 one-say-pointed κs args f g e e' p q = one-put p.put q.put
+
+-- A text at a buffer's start: the bytes, and that none is said.
+pub one-text-new : TwoAnswers text-start.ps text-start.r text-start-contract.Learnt (λ κs args f g e e'. left_by f ≡ left_by g)
+one-text-new κs args f g e e' p q = same-left f g (p.1.0 ∙ sym q.1.0) (p.1.1 ∙ sym q.1.1)
+
+-- A text that goes on.
+pub one-text-behind : TwoAnswers text-behind.ps text-behind.r text-behind-contract.Learnt (λ κs args f g e e'. left_by f ≡ left_by g)
+one-text-behind κs args f g e e' p q = same-left f g (p.1.0 ∙ sym q.1.0) (p.1.1 ∙ sym q.1.1)
+
+-- Words said into it.
+pub one-text-say : OneAnswerWith text-words.ps text-words.r text-words-contract.Learnt (λ κs e. left_by e.0.now)
+one-text-say κs args f g e e' p q = (refl, one-says p q)
+
+-- A number.
+pub one-text-say-number : OneAnswerWith text-count.ps text-count.r text-count-contract.Learnt (λ κs e. left_by e.0.now)
+one-text-say-number κs args f g e e' p q = (refl, one-says p q)
+
+-- A number with decimals.
+pub one-text-say-pointed : OneAnswerWith text-places.ps text-places.r text-places-contract.Learnt (λ κs e. left_by e.0.now)
+one-text-say-pointed κs args f g e e' p q = (refl, one-says p q)

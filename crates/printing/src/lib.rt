@@ -1,6 +1,8 @@
 // Decimal text: numbers written into a buffer that the caller lends.
 #![tactic(auto)]
 
+pub mod text; // text.rt: a text in a buffer that the caller lends
+
 ghost use Rattle.std.specs.Prelude.{◌≡◌, ◌+◌, ◌*◌, ◌≤◌, ◌<◌, length, take, drop, ◌∷◌, []};
 ghost use Rattle.base.specs.Signed.{signed_of};
 ghost use Rattle.printing.specs.Decimal.{digit, decimal, signed, thousandths, last_digits, without_last, pointed, spaced, numbers_line, Put};

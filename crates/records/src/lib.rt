@@ -4,6 +4,7 @@
 ghost use Rattle.std.specs.Prelude.{◌≡◌, false, ◌||◌, ◌++◌, ◌∷◌, [], ◌+◌, ◌-◌, ◌*◌, ◌/◌, ◌≤◌, length, take, drop, eqb};
 ghost use Rattle.printing.specs.Decimal.{Put};
 ghost use Rattle.printing.specs.Said.{Said};
+ghost use Rattle.printing.specs.Says.{Says};
 ghost use Rattle.names.specs.Names.{kind_name};
 ghost use Rattle.codec.specs.Table.{last_row};
 ghost use Rattle.line_bytes.specs.Lines.{line_size, front_size};
@@ -26,6 +27,7 @@ use line_bytes::{
 };
 use line_rows::{FIGURE_COLUMNS, is_signed};
 use names::say_kind;
+use printing::text::Text;
 use printing::{put_byte, put_decimal, put_signed, put_text, say};
 use retype::{LINE_MOST, Retyped, retype};
 use walk::{Next, next_record};
@@ -189,13 +191,22 @@ fn put_place(out: &mut [u8], at: usize, x: Accepted) -> usize
 }
 
 // A comma, the kind's name, and a comma.
+fn put_kind(out: &mut [u8], at: usize, row: u64) -> usize
+    requires { at ≤ length out.old }
+    ensures { Said out.old out.new at (kind_name row) result }
+{
+    let mut text = Text::behind(out, at);
+    say_kind(&mut text, row);
+    text.len
+}
+
 fn put_name(out: &mut [u8], at: usize, row: u64) -> usize
     requires { (1 ≤ row) × (row ≤ last_row) × (at + 9 ≤ length out.old) }
     ensures put { Put out.old out.new at (44 ∷ (kind_name row ++ (44 ∷ []))) result }
     ensures upper_bound { result ≤ at + 9 }
 {
     let name = put_byte(out, at, b',');
-    let end = say_kind(out, name, row);
+    let end = put_kind(out, name, row);
     put_byte(out, end, b',')
 }
 
@@ -352,7 +363,9 @@ pub fn rows(from: Account, at: usize, book: &[u8], out: &mut [u8]) -> Retyped
 pub fn say_header(out: &mut [u8]) -> usize
     ensures { Said out.old out.new 0 header result }
 {
-    let names = say(out, 0, b"record,first,last,name,group,typed,");
-    let end = say(out, names, &FIGURE_COLUMNS);
-    say(out, end, b"\r\n")
+    let mut text = Text::new(out);
+    text.say(b"record,first,last,name,group,typed,");
+    text.say(&FIGURE_COLUMNS);
+    text.say(b"\r\n");
+    text.len
 }

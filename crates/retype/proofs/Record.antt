@@ -3,12 +3,12 @@
 use Prim.Native.Nat.{ℕ, zero, suc, ◌+◌, ◌-◌, ◌≤◌, ◌<◌}
 use native.Mathlib.Omega.{arith}
 use mathlib.Core.Path.{◌≡◌, refl, sym, ap, ◌∙◌}
-use mathlib.Core.Bool.{Bool, true, false, ◌&&◌, not}
+use mathlib.Core.Bool.{Bool, true, false, ◌&&◌}
 use mathlib.Core.List.{List, [], ◌∷◌, ◌++◌}
 use lib.ListN.{length, take, replicate, length-append}
 use lib.Seq.{take_all, take-append-le}
 use lib.Dec.{eqb}
-use borrow.Author.Tests.{lt-leb, le-ltb, ne_eqb, eq-eqb, eqb-true, eqb-false}
+use borrow.Author.Tests.{lt-leb, le-ltb, ne_eqb, eqb-true, eqb-false}
 use Rattle.codec.specs.Codec.{Bytes}
 use Rattle.base.specs.Choice.{pick}
 use Rattle.typed_words.specs.Words.{nth_word}
@@ -21,7 +21,7 @@ use Rattle.account.specs.Sorts.{is_of_group}
 use Rattle.account.specs.Judge.{WholeRecord, version_of, kind_byte, record_row, values_of, judge}
 use Rattle.book.specs.declared.State.{State}
 use Rattle.book.specs.State.{holding}
-use Rattle.std.specs.Prelude.{Option, None, is_some, Ok, Err}
+use Rattle.std.specs.Prelude.{Option, None, is_some, Ok}
 use Rattle.make_record.specs.Write.{Write, write, Ready}
 use Rattle.make_record.proofs.Rows.{kind-again}
 use Rattle.account.proofs.Refusals.{judged-passes}

@@ -15,6 +15,8 @@ use Rattle.base.proofs.Tests.{by-test, neither}
 use Rattle.printing.specs.Decimal.{decimal, spaced, Put}
 use Rattle.printing.specs.Decimal as printing
 use Rattle.printing.specs.Said.{Said}
+use Rattle.printing.specs.Says.{Says}
+use Rattle.printing.specs.declared.text.Text.{Text}
 use Rattle.printing.proofs.Puts.{none, put-length, and-then}
 use Rattle.printing.specs.Ascii.{ascii}
 use Rattle.names.specs.Names.{kind_name, value_text, sentence}
@@ -323,15 +325,12 @@ module _ (r : List ℕ) (t : Typable r) {kind : ℕ} (b : kind ≡ record_row r)
 
 -- ---- the last word
 
-pub fits : {xs ys : List ℕ} {at r : ℕ} {s : List ℕ} → Said xs ys at s r → r ≤ length ys
-fits e = omega (arith, e.put.room, e.long)
-
 three-is : (a b c : ℕ) → decimal a ++ (32 ∷ (decimal b ++ (32 ∷ decimal c))) ≡ printing.joined (a ∷ b ∷ c ∷ [])
 unfolding printing.joined spaced
 three-is a b c = rw (append-nil (decimal c))
 
-pub three_said : {xs ys : List ℕ} {at r : ℕ} (a b c : ℕ) → Said xs ys at (decimal a ++ (32 ∷ (decimal b ++ (32 ∷ decimal c)))) r
-    → Said xs ys at (printing.joined (a ∷ b ∷ c ∷ [])) r
+pub three_said : {t u : Text} (a b c : ℕ) → Says t u (decimal a ++ (32 ∷ (decimal b ++ (32 ∷ decimal c))))
+    → Says t u (printing.joined (a ∷ b ∷ c ∷ []))
 three_said a b c e = rw (three-is a b c) at e
 
 module _ (a : Account) (behind : Bool) where

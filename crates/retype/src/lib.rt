@@ -2,8 +2,10 @@
 #![tactic(auto)]
 
 ghost use Rattle.std.specs.Prelude.{◌≡◌, ◌+◌, ◌*◌, ◌/◌, ◌≤◌, length, ◌∷◌, []};
+ghost use Rattle.names.specs.Names.{kind_name, value_text};
 ghost use Rattle.printing.specs.Decimal.{joined, Put};
 ghost use Rattle.printing.specs.Said.{Said};
+ghost use Rattle.printing.specs.Says.{Says};
 ghost use Rattle.codec.specs.Table.{fields, Of};
 ghost use Rattle.codec.specs.Codec.{first_bad};
 ghost use Rattle.account.specs.Judge.{record_row, values_of};
@@ -16,6 +18,7 @@ use account::{Account, Refusal};
 use base::{first_of, rest_of};
 use line_bytes::LINES_MOST;
 use names::{say_kind, say_sentence, say_value};
+use printing::text::Text;
 use printing::{put_byte, say, say_number};
 use walk::next_record;
 
@@ -42,6 +45,24 @@ fn row_at(bytes: &[u8]) -> u64
     row as u64
 }
 
+fn put_kind(out: &mut [u8], at: usize, row: u64) -> usize
+    requires { at ≤ length out.old }
+    ensures { Said out.old out.new at (kind_name row) result }
+{
+    let mut text = Text::behind(out, at);
+    say_kind(&mut text, row);
+    text.len
+}
+
+fn put_value(out: &mut [u8], at: usize, row: u64, i: usize, v: u64) -> usize
+    requires { at ≤ length out.old }
+    ensures { Said out.old out.new at (value_text row i v) result }
+{
+    let mut text = Text::behind(out, at);
+    say_value(&mut text, row, i, v);
+    text.len
+}
+
 // The values of a row, each as a person types it, with a blank before it.
 fn put_values(out: &mut [u8], at: usize, row: u64, values: &[u64]) -> usize
     requires of { Of row values.now }
@@ -53,7 +74,7 @@ fn put_values(out: &mut [u8], at: usize, row: u64, values: &[u64]) -> usize
     let mut end = at;
     for i in 0..values.len() {
         let blank = put_byte(out, end, b' ');
-        end = say_value(out, blank, row, i, values[i]);
+        end = put_value(out, blank, row, i, values[i]);
     }
     end
 }
@@ -68,7 +89,7 @@ fn put_record(out: &mut [u8], at: usize, bytes: &[u8]) -> usize
     let row = row_at(bytes);
     let values = by_row::read(row, bytes, 4);
     let n = by_row::table::values_of(row);
-    let name = say_kind(out, at, row);
+    let name = put_kind(out, at, row);
     let end = put_values(out, name, row, &values[..n]);
     put_byte(out, end, b'\n')
 }
@@ -149,43 +170,53 @@ pub fn retype(from: Account, book: &[u8], out: &mut [u8]) -> Retyped
 }
 
 // Three numbers with one blank between.
-fn say_three(out: &mut [u8], at: usize, a: u64, b: u64, c: u64) -> usize
-    requires { at ≤ length out.old }
-    ensures { Said out.old out.new at (joined (a ∷ b ∷ c ∷ [])) result }
+fn say_three(out: &mut Text, a: u64, b: u64, c: u64)
+    ensures { Says out.old out.new (joined (a ∷ b ∷ c ∷ [])) }
 {
-    let first = say_number(out, at, a);
-    let blank = say(out, first, b" ");
-    let second = say_number(out, blank, b);
-    let next = say(out, second, b" ");
-    say_number(out, next, c)
+    out.say_number(a);
+    out.say(b" ");
+    out.say_number(b);
+    out.say(b" ");
+    out.say_number(c);
 }
 
-fn say_refusal(out: &mut [u8], r: Refusal) -> usize
-    ensures { Said out.old out.new 0 (refused_text r) result }
+fn say_refusal(out: &mut Text, r: Refusal)
+    ensures { Says out.old out.new (refused_text r) }
 {
-    let word = say(out, 0, b"refused ");
-    let numbers = say_three(out, word, r.code as u64, r.accepted as u64, r.field as u64);
-    let colon = say(out, numbers, b": ");
-    let end = say_sentence(out, colon, r.code as u64);
-    say(out, end, b"\n")
+    out.say(b"refused ");
+    say_three(out, r.code as u64, r.accepted as u64, r.field as u64);
+    out.say(b": ");
+    say_sentence(out, r.code as u64);
+    out.say(b"\n");
+}
+
+fn tell_end(text: &mut Text, account: Account, behind: bool)
+    ensures { Says text.old text.new (end_text account behind) }
+{
+    if account.stage == 3 {
+        let refusal = account.refusal;
+        say_refusal(text, refusal);
+        return;
+    }
+    if account.stage != 2 {
+        text.say(b"unfinished\n");
+        return;
+    }
+    if !behind {
+        text.say(b"");
+        return;
+    }
+    say_sentence(text, 18);
+    text.say(b"\n");
 }
 
 // The last word, from the start of out: none where the book is closed and nothing stands after its close.
 pub fn say_end(out: &mut [u8], account: Account, behind: bool) -> usize
     ensures { Said out.old out.new 0 (end_text account behind) result }
 {
-    if account.stage == 3 {
-        let refusal = account.refusal;
-        return say_refusal(out, refusal);
-    }
-    if account.stage != 2 {
-        return say(out, 0, b"unfinished\n");
-    }
-    if !behind {
-        return say(out, 0, b"");
-    }
-    let end = say_sentence(out, 0, 18);
-    say(out, end, b"\n")
+    let mut text = Text::new(out);
+    tell_end(&mut text, account, behind);
+    text.len
 }
 
 // The status byte: 0 only where the book is closed with nothing after it, all of it was read, and everything was written.

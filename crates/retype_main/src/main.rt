@@ -6,7 +6,7 @@ ghost use Rattle.retype.specs.Book.{retyped_by, line_most};
 ghost use Rattle.retype_main.specs.Series.{Turned, Begins, Goes};
 
 use account::Account;
-use names::hints::{look, say_hint};
+use names::hints::{look, say_hint_alone};
 use program::{Input, System, report, send};
 
 // The account after the records that were typed, the bytes taken, whether no write failed, and whether more may come.
@@ -76,7 +76,7 @@ fn end(rt: &impl System, w: Work, input: Input, book: &[u8]) {
 // A hint where the input is no book but a typed text, a sheet or nothing.
 fn tell_hint(rt: &impl System, book: &[u8]) {
     let mut text = [0u8; 256];
-    let n = say_hint(&mut text, 0, look(book));
+    let n = say_hint_alone(&mut text, look(book));
     report(rt, &text[..n]);
 }
 

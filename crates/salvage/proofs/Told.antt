@@ -17,7 +17,7 @@ use Rattle.salvage.specs.declared.Lengths.{Lengths}
 use Rattle.std.specs.Prelude.{Ok}
 use Rattle.salvage.specs.declared.how_far.ReadingEnd.{ReadingEnd}
 use Rattle.salvage.specs.Salvage.{start, found, found_in, list_of, salvage_of}
-use Rattle.salvage.specs.Remarks.{reading_text, kept_in, saved_text, end_text}
+use Rattle.salvage.specs.Remarks.{reading_text, kept_in, saved_text, end_text, by_number}
 use Rattle.salvage.proofs.Fates.{few, kept-records, dropped-account}
 use Rattle.salvage.proofs.OneTurn.{by-records}
 use Rattle.salvage.proofs.Answers.{list-long}
@@ -50,7 +50,7 @@ ninth n = omega arith
 -- The last words of a saved book: where the reading ended, unless all was read, and the counts of the kept records, without the close, and of the
 -- dropped ones.
 pub told-end : (damaged : List ℕ) (book_room_lem list_room_lem : ℕ) (l : Lengths) (end : ReadingEnd) → (salvage_of damaged book_room_lem list_room_lem).answer ≡ Ok l
-    → end_text (salvage_of damaged book_room_lem list_room_lem).answer end (salvage_of damaged book_room_lem list_room_lem).book
+    → end_text (by_number (salvage_of damaged book_room_lem list_room_lem).answer) end (salvage_of damaged book_room_lem list_room_lem).book
     ≡ reading_text end ++ saved_text (length (found_in start damaged).kept) (length (found_in start damaged).dropped)
 unfolding salvage_of
 told-end damaged book_room_lem list_room_lem l end e =

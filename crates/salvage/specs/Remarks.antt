@@ -43,9 +43,14 @@ abbrev pub refused_text : ℕ → List ℕ
 refused_text number = ascii "refused " ++ (decimal number ++ ascii "\n")
 
 -- the last words, of the answer, the end of the reading and the clean book
-abbrev pub end_text : Result Lengths Unsaved → ReadingEnd → List ℕ → List ℕ
+abbrev pub end_text : Result Lengths ℕ → ReadingEnd → List ℕ → List ℕ
 end_text (Ok l) e book = reading_text e ++ saved_text (kept_in book) (l.list / 9)
-end_text (Err why) e book = refused_text (number_of why)
+end_text (Err number) e book = refused_text number
+
+-- an answer as it is told: a refusal by its number
+abbrev pub by_number : Result Lengths Unsaved → Result Lengths ℕ
+by_number (Ok l) = Ok l
+by_number (Err why) = Err (number_of why)
 
 -- a book that is longer than the program has room for
 abbrev pub too_long_text : List ℕ

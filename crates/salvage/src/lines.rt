@@ -1,5 +1,6 @@
 // The line of each record that was dropped: a damaged book is gone through once more, as many records at a time as a buffer has room for.
 ghost use Rattle.std.specs.Prelude.{◌≡◌, ◌+◌, ◌/◌, ◌≤◌, ◌<◌, length};
+ghost use Rattle.printing.specs.Says.{Says};
 ghost use Rattle.printing.specs.Said.{Said};
 ghost use Rattle.salvage.specs.Lines.{dropped_text, heading_text, words_for, tell_by, usable, told_by, Tells, line_most};
 ghost use Rattle.salvage.specs.Inner.{Open, line_told};
@@ -8,6 +9,7 @@ use crate::Reading;
 use account::sort::is_of_group;
 use base::rest_of;
 use names::say_sentence;
+use printing::text::Text;
 use printing::{say, say_number};
 
 // A line has at most so many bytes.
@@ -22,44 +24,51 @@ pub struct Reported {
     pub more: bool,
 }
 
-fn say_heading(out: &mut [u8], at: usize, heading: u64) -> usize
-    requires { at ≤ length out.old }
-    ensures { Said out.old out.new at (heading_text heading) result }
+fn say_heading(out: &mut Text, heading: u64)
+    ensures { Says out.old out.new (heading_text heading) }
 {
-    let word = say(out, at, b"its heading, record ");
-    let which = say_number(out, word, heading);
-    say(out, which, b", was dropped")
+    out.say(b"its heading, record ");
+    out.say_number(heading);
+    out.say(b", was dropped");
 }
 
 impl Reading {
     // The words for a record of that kind byte and code.
-    fn say_words(self, out: &mut [u8], at: usize, kind: u8, code: u8) -> usize
-        requires { at ≤ length out.old }
-        ensures { Said out.old out.new at (words_for self kind code) result }
+    fn say_words(self, out: &mut Text, kind: u8, code: u8)
+        ensures { Says out.old out.new (words_for self kind code) }
     {
         if self.lost & (is_of_group(kind as u64) & (code == 6)) {
-            return say_heading(out, at, self.heading);
+            say_heading(out, self.heading);
+            return;
         }
-        say_sentence(out, at, code as u64)
+        say_sentence(out, code as u64);
     }
 
     // Its line, where that number drops it; nothing where it is kept.
-    fn say_line(self, out: &mut [u8], at: usize, kind: u8, dropped_by: Option<u8>) -> usize
+    fn say_line(self, out: &mut Text, kind: u8, dropped_by: Option<u8>)
+        ensures { Says out.old out.new (line_told self kind dropped_by) }
+    {
+        match dropped_by {
+            None => (),
+            Some(code) => {
+                out.say(b"record ");
+                out.say_number(self.number);
+                out.say(b": dropped ");
+                out.say_number(code as u64);
+                out.say(b": ");
+                self.say_words(out, kind, code);
+                out.say(b"\n");
+            }
+        }
+    }
+
+    fn put_line(self, out: &mut [u8], at: usize, kind: u8, dropped_by: Option<u8>) -> usize
         requires { at ≤ length out.old }
         ensures { Said out.old out.new at (line_told self kind dropped_by) result }
     {
-        match dropped_by {
-            None => at,
-            Some(code) => {
-                let word = say(out, at, b"record ");
-                let which = say_number(out, word, self.number);
-                let dropped = say(out, which, b": dropped ");
-                let why = say_number(out, dropped, code as u64);
-                let colon = say(out, why, b": ");
-                let words = self.say_words(out, colon, kind, code);
-                say(out, words, b"\n")
-            }
-        }
+        let mut text = Text::behind(out, at);
+        self.say_line(&mut text, kind, dropped_by);
+        text.len
     }
 
     // The line of the record at the front of xs, from index at on.
@@ -78,7 +87,7 @@ impl Reading {
                 more: false,
             };
         }
-        let end = self.say_line(out, at, xs[3], t.code);
+        let end = self.put_line(out, at, xs[3], t.code);
         let next = t.next;
         Reported {
             reading: next,

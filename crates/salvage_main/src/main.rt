@@ -4,7 +4,7 @@
 
 ghost use Rattle.std.specs.Prelude.{◌≡◌, length};
 
-use names::hints::{look, say_hint};
+use names::hints::{look, say_hint_alone};
 use program::{System, report, send};
 use salvage::how_far::{ReadingEnd, reading_end};
 use salvage::lines::report_lines;
@@ -150,7 +150,11 @@ fn tell_end(
     book: &[u8],
 ) -> bool {
     let mut text = [0u8; 512];
-    let n = remarks::say_end(&mut text, answer, end, book);
+    let told = match answer {
+        Ok(lengths) => Ok(lengths),
+        Err(why) => Err(why.number()),
+    };
+    let n = remarks::say_end(&mut text, told, end, book);
     report(rt, &text[..n])
 }
 
@@ -237,7 +241,7 @@ fn save(rt: &(impl System + Files), damaged: &[u8]) -> Done {
 // A hint where the input is no book but a typed text, a sheet or nothing.
 fn tell_hint(rt: &impl System, damaged: &[u8]) {
     let mut text = [0u8; 256];
-    let n = say_hint(&mut text, 0, look(damaged));
+    let n = say_hint_alone(&mut text, look(damaged));
     report(rt, &text[..n]);
 }
 

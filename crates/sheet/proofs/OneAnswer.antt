@@ -21,6 +21,8 @@ use Rattle.sheet.proofs.export.Kinds as sheet
 use Rattle.sheet.proofs.export.Reads as sheet-contract
 use Rattle.sheet.proofs.import.Kinds as lines-back
 use Rattle.sheet.proofs.import.Reads as lines-contract
+use Rattle.sheet.proofs.Refused.numbered.Kinds as numbered
+use Rattle.sheet.proofs.Refused.numbered.Reads as numbered-contract
 use Rattle.sheet.proofs.numbers.byte.Kinds as byte
 use Rattle.sheet.proofs.numbers.byte.Reads as byte-contract
 use Rattle.sheet.proofs.numbers.unsigned_cell.Kinds as unsigned
@@ -61,6 +63,13 @@ one-export κs args f g e e' p q = (p.0 ∙ sym q.0, p.1 ∙ sym q.1)
 
 pub one-import : OneAnswerWith lines-back.ps lines-back.r lines-contract.Learnt (λ κs e. e.1.0.now)
 one-import κs args f g e e' p q = (p.0 ∙ sym q.0, p.1 ∙ sym q.1)
+
+pub numbered-asks-nothing : AsksNothing numbered.ps numbered-contract.Asked
+numbered-asks-nothing κs args = tt
+
+-- A refusal by its number.
+pub one-numbered : OneAnswer numbered.ps numbered.r numbered-contract.Learnt
+one-numbered κs args f g e e' p q = p ∙ sym q
 
 pub byte-asks-nothing : AsksNothing byte.ps byte-contract.Asked
 byte-asks-nothing κs args = tt

@@ -6,8 +6,7 @@ use Rattle.printing.specs.Ascii.{ascii}
 use Rattle.printing.specs.Decimal.{decimal}
 use Rattle.names.specs.Names.{sentence}
 use Rattle.sheet.specs.Faults.{fault_text}
-use Rattle.sheet.specs.declared.Refused.{Refused}
-use Rattle.sheet.specs.Sheets.{code_of}
+use Rattle.sheet.specs.declared.Numbered.{Numbered}
 
 -- how many line feeds a text has: one for each row
 unfoldable pub feeds : List ℕ → ℕ
@@ -29,8 +28,8 @@ abbrev pub sentence_text : ℕ → ℕ → List ℕ
 sentence_text code row = row_head row ++ (sentence code ++ ascii "\n")
 
 -- 20 names the place, the others have their sentence
-abbrev pub people_text : List ℕ → Refused → List ℕ
-people_text text r = pick (eqb (code_of r.why) 20) (fault_text text r.row) (sentence_text (code_of r.why) r.row)
+abbrev pub people_text : List ℕ → ℕ → ℕ → List ℕ
+people_text text code row = pick (eqb code 20) (fault_text text row) (sentence_text code row)
 
 abbrev pub row_word : ℕ → List ℕ
 row_word row = pick (eqb row 0) [] (ascii " row " ++ decimal row)
@@ -39,9 +38,9 @@ abbrev pub refused_text : ℕ → ℕ → List ℕ
 refused_text code row = ascii "refused " ++ (decimal code ++ (row_word row ++ ascii "\n"))
 
 -- what is said at the end, of the text and the answer: the machine's line is the last
-abbrev pub end_text : List ℕ → Result ℕ Refused → List ℕ
+abbrev pub end_text : List ℕ → Result ℕ Numbered → List ℕ
 end_text text (Ok n) = lines_text (line_count text)
-end_text text (Err r) = people_text text r ++ refused_text (code_of r.why) r.row
+end_text text (Err r) = people_text text r.code r.row ++ refused_text r.code r.row
 
 -- what is longer than the most bytes that the program has room for
 abbrev pub most_text : ℕ → List ℕ

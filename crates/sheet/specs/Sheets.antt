@@ -8,6 +8,7 @@ use Rattle.line_rows.specs.Rows.{line_row, header}
 use Rattle.sheet.specs.declared.Refusal.{Refusal}
 use Rattle.sheet.specs.declared.Refusal.TheVariants.{Full, WrongForm, OutsideField, NoLines}
 use Rattle.sheet.specs.declared.Refused.{Refused}
+use Rattle.sheet.specs.declared.Numbered.{Numbered}
 use Rattle.sheet.specs.Rows.{starts_with, Row, kind_in, row_in}
 
 -- the number of a refusal
@@ -16,6 +17,10 @@ code_of Full = 16
 code_of WrongForm = 20
 code_of OutsideField = 21
 code_of NoLines = 23
+
+-- a refusal by its number, with its row
+abbrev pub numbered_of : Refused → Numbered
+numbered_of r = record { code = code_of r.why; row = r.row }
 
 -- ---- one after the other, in either direction
 

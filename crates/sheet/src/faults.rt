@@ -1,7 +1,7 @@
 // Where a sheet is not of its form: the row, the column that differs first, what stands there, and the words for it.
 ghost use Rattle.std.specs.Prelude.{◌≡◌, ◌-◌, ◌≤◌, ◌<◌, length, drop, take, true};
 ghost use Rattle.base.specs.Choice.{pick};
-ghost use Rattle.printing.specs.Said.{Said};
+ghost use Rattle.printing.specs.Says.{Says};
 ghost use Rattle.names.specs.Names.{shown};
 ghost use Rattle.sheet.specs.Rows.{column_count, kind_in};
 ghost use Rattle.sheet.specs.declared.faults.Fault.TheVariants.{Header};
@@ -16,6 +16,7 @@ use base::{first_of, rest_of};
 use line_bytes::LINE_NUMBERS;
 use line_rows::{Form, ROW_MOST, put_header};
 use names::say_shown;
+use printing::text::Text;
 use printing::{say, say_number};
 
 // What is wrong with a row.
@@ -165,129 +166,110 @@ fn bad_column(text: &[u8]) -> Spot
     }
 }
 
-fn say_header(out: &mut [u8], at: usize) -> usize
-    requires { at ≤ length out.old }
-    ensures { Said out.old out.new at (words Header) result }
+fn say_header(out: &mut Text)
+    ensures { Says out.old out.new (words Header) }
 {
     let mut head = [0u8; ROW_MOST];
     let n = put_header(&mut head, 0, Form::Sheet) - 2;
-    let first = say(out, at, b"the first row has to be ");
-    say(out, first, first_of(&head, n))
+    out.say(b"the first row has to be ");
+    out.say(first_of(&head, n));
 }
 
 // What is said of it.
-fn say_words(out: &mut [u8], at: usize, fault: Fault) -> usize
-    requires { at ≤ length out.old }
-    ensures { Said out.old out.new at (words fault) result }
+fn say_words(out: &mut Text, fault: Fault)
+    ensures { Says out.old out.new (words fault) }
 {
     match fault {
-        Fault::Mark => say(
-            out,
-            at,
+        Fault::Mark => out.say(
             b"a byte order mark stands before the sheet: save it as CSV without one, not as CSV UTF-8",
         ),
-        Fault::Quotes => say(
-            out,
-            at,
+        Fault::Quotes => out.say(
             b"cells have no quotes, and here are some: save it as CSV without quotes",
         ),
-        Fault::Semicolons => say(
-            out,
-            at,
+        Fault::Semicolons => out.say(
             b"cells are separated by commas, and here are semicolons: save it as CSV with commas",
         ),
-        Fault::FeedAlone => say(
-            out,
-            at,
+        Fault::FeedAlone => out.say(
             b"the row ends in a line feed alone: save it as CSV with CRLF, the line ends of Windows",
         ),
-        Fault::NoEnd => say(
-            out,
-            at,
+        Fault::NoEnd => out.say(
             b"the last row has no line end: each row ends in CRLF, the last one too",
         ),
-        Fault::Header => say_header(out, at),
-        Fault::Number => say(
-            out,
-            at,
+        Fault::Header => say_header(out),
+        Fault::Number => out.say(
             b"expected a whole number without leading zeros (co2 may have a minus sign), then a comma",
         ),
-        Fault::Total => say(
-            out,
-            at,
+        Fault::Total => out.say(
             b"expected a whole number without leading zeros, perhaps with a minus sign, then the end of the row",
         ),
-        Fault::NoTotal => say(
-            out,
-            at,
+        Fault::NoTotal => out.say(
             b"expected nothing before the end of the row: only a row of kind 8 has a co2e",
         ),
     }
 }
 
 // Of the first row.
-fn say_first(out: &mut [u8], text: &[u8]) -> usize
-    ensures { Said out.old out.new 0 (first_text text.now) result }
+fn say_first(out: &mut Text, text: &[u8])
+    ensures { Says out.old out.new (first_text text.now) }
 {
-    let row = say(out, 0, b"row 1: ");
-    let said = say_words(out, row, first_fault(text));
-    say(out, said, b"\n")
+    out.say(b"row 1: ");
+    say_words(out, first_fault(text));
+    out.say(b"\n");
 }
 
 // The name of a column.
-fn say_name(out: &mut [u8], at: usize, j: usize) -> usize
-    requires { at ≤ length out.old }
-    ensures { Said out.old out.new at (column_name j) result }
+fn say_name(out: &mut Text, j: usize)
+    ensures { Says out.old out.new (column_name j) }
 {
     let mut head = [0u8; ROW_MOST];
     let n = put_header(&mut head, 0, Form::Sheet) - 2;
     let names = first_of(&head, n);
     let rest = rest_of(names, after_marks(names, b',', j));
-    say(out, at, first_of(rest, part_length(rest, true)))
+    out.say(first_of(rest, part_length(rest, true)));
 }
 
 // The cell with which the text begins, as a typed word is shown.
-fn say_cell(out: &mut [u8], at: usize, text: &[u8]) -> usize
-    requires { at ≤ length out.old }
-    ensures { Said out.old out.new at (shown (part_at true text.now)) result }
+fn say_cell(out: &mut Text, text: &[u8])
+    ensures { Says out.old out.new (shown (part_at true text.now)) }
 {
     let n = part_length(text, true);
-    say_shown(out, at, first_of(text, n))
+    say_shown(out, first_of(text, n));
 }
 
 // The column, its cell, and what is wrong with it.
-fn say_place(out: &mut [u8], at: usize, kind: u64, j: usize, text: &[u8]) -> usize
-    requires { (at ≤ length out.old) × (j < column_count) }
-    ensures { Said out.old out.new at (place_text kind (record { column = j; rest = text.now })) result }
+fn say_place(out: &mut Text, kind: u64, j: usize, text: &[u8])
+    requires { j < column_count }
+    ensures { Says out.old out.new (place_text kind (record { column = j; rest = text.now })) }
 {
     let fault = cell_fault(text, column_of(kind, j));
-    let word = say(out, at, b", column ");
-    let name = say_name(out, word, j);
-    let quote = say(out, name, b": \"");
-    let cell = say_cell(out, quote, text);
-    let colon = say(out, cell, b"\": ");
-    let said = say_words(out, colon, fault);
-    say(out, said, b"\n")
+    out.say(b", column ");
+    say_name(out, j);
+    out.say(b": \"");
+    say_cell(out, text);
+    out.say(b"\": ");
+    say_words(out, fault);
+    out.say(b"\n");
 }
 
 // Of a row with which the text begins.
-fn say_row(out: &mut [u8], row: usize, text: &[u8]) -> usize
-    ensures { Said out.old out.new 0 (row_fault_text row text.now) result }
+fn say_row(out: &mut Text, row: usize, text: &[u8])
+    ensures { Says out.old out.new (row_fault_text row text.now) }
 {
     let spot = bad_column(text);
     let at = spot.at;
-    let word = say(out, 0, b"row ");
-    let number = say_number(out, word, row as u64);
-    say_place(out, number, spot.kind, spot.column, rest_of(text, at))
+    out.say(b"row ");
+    out.say_number(row as u64);
+    say_place(out, spot.kind, spot.column, rest_of(text, at));
 }
 
 // Of the text and the row of its refusal, from the start of out.
-pub(crate) fn say_fault(out: &mut [u8], text: &[u8], row: usize) -> usize
-    ensures { Said out.old out.new 0 (fault_text text.now row) result }
+pub(crate) fn say_fault(out: &mut Text, text: &[u8], row: usize)
+    ensures { Says out.old out.new (fault_text text.now row) }
 {
     if row == 1 {
-        return say_first(out, text);
+        say_first(out, text);
+        return;
     }
     let at = after_marks(text, b'\n', row.saturating_sub(1));
-    say_row(out, row, rest_of(text, at))
+    say_row(out, row, rest_of(text, at));
 }

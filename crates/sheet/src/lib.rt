@@ -13,7 +13,7 @@ ghost use Rattle.line_rows.specs.declared.Form.TheVariants.{Sheet};
 ghost use Rattle.line_rows.specs.Rows.{header};
 ghost use Rattle.printing.specs.Decimal.{Put};
 ghost use Rattle.sheet.specs.Rows.{starts_with};
-ghost use Rattle.sheet.specs.Sheets.{code_of, made, each, rows_of, export_of, row_item, import_of, no_room, answer, buffer};
+ghost use Rattle.sheet.specs.Sheets.{code_of, numbered_of, made, each, rows_of, export_of, row_item, import_of, no_room, answer, buffer};
 ghost use Rattle.sheet.specs.Code.{refusal_of, IsLineRow, total_of, answer_after, made_of};
 
 use base::{first_of, rest_of};
@@ -35,7 +35,7 @@ pub enum Refusal {
 
 impl Refusal {
     // Its number.
-    pub(crate) fn code(self) -> u8
+    fn code(self) -> u8
         ensures { result ≡ code_of self }
     {
         match self {
@@ -47,11 +47,30 @@ impl Refusal {
     }
 }
 
-// What an export or an import is refused for, and its row (0: none).
+// What an export or an import is refused for, and its row, 0 for none: `numbers` and the theorems on rows speak of it so.
 #[derive(Clone, Copy)]
 pub struct Refused {
     pub why: Refusal,
     pub row: usize,
+}
+
+// A refusal by its number, and its row, 0 for none: what `remarks` tells, of any number.
+#[derive(Clone, Copy)]
+pub struct Numbered {
+    pub code: u8,
+    pub row: usize,
+}
+
+impl Refused {
+    // By its number.
+    pub fn numbered(self) -> Numbered
+        ensures { result ≡ numbered_of self }
+    {
+        Numbered {
+            code: self.why.code(),
+            row: self.row,
+        }
+    }
 }
 
 // Of a row.

@@ -21,7 +21,7 @@ pub enum Change {
     Head(f64),
 }
 
-// The code is 0, 14 or 15.
+// The code is 0, 14 or 15. A number and no error: the ration comes back beside each of them (specs/Slip, `what_if`).
 #[derive(Clone, Copy)]
 pub struct Slip {
     pub code: u8,

@@ -48,7 +48,7 @@ impl Cut {
     }
 }
 
-// The first n bytes, or all where there are fewer.
+// The first n bytes, or all where there are fewer: no twin of base's `first_of`, which asks for n bytes.
 fn at_most(s: &[u8], n: usize) -> &[u8]
     ensures { result.now ≡ take n s.now }
 {

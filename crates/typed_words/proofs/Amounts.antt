@@ -9,7 +9,7 @@ use lib.ListN.{length, get_or, take, drop, replicate, drop_of_length-le}
 use lib.Seq.{drop-cons}
 use lib.Dec.{leb, ltb, eqb}
 use borrow.Author.Tests.{lt-ltb, ltb-true, ltb-false, leb-true}
-use Rattle.base.proofs.Tests.{and_l, and_r}
+use Rattle.base.proofs.Tests.{and_r}
 use Rattle.std.specs.Prelude.{Option, Some, None, option_map, option_and_then}
 use Rattle.base.specs.Bytes.{index_of}
 use Rattle.typed_words.specs.Numbers.{goes_on_lem, digits_from, double, decimal_of}

@@ -2,6 +2,7 @@
 ghost use Rattle.std.specs.Prelude.{◌≡◌, ◌-◌, ◌≤◌, length};
 ghost use Rattle.typed_words.specs.Words.{nth_word};
 ghost use Rattle.printing.specs.Said.{Said};
+ghost use Rattle.printing.specs.Says.{Says};
 ghost use Rattle.slip.specs.Slip.{within, what_if, double};
 ghost use Rattle.whatif.specs.Asked.{unless};
 ghost use Rattle.whatif.specs.Told.{columns, number_row, row_at, row_of, expected, quoted, no_number_lem, wrong_number, fault_text, line_start, unread_text};
@@ -10,36 +11,30 @@ ghost use Rattle.whatif.specs.Told.{answer_text, remark_text, answered_by, with_
 
 use crate::{Asked, Counts, Fault, change_in, put_slip, read_line};
 use base::first_of;
+use printing::text::Text;
 use slip::{Change, Ration};
 
-fn say_quoted(out: &mut [u8], at: usize, word: &[u8]) -> usize
-    requires { at ≤ length out.old }
-    ensures { Said out.old out.new at (quoted word.now) result }
+fn say_quoted(out: &mut Text, word: &[u8])
+    ensures { Says out.old out.new (quoted word.now) }
 {
-    let open = printing::say(out, at, b"\"");
-    let end = names::say_shown(out, open, word);
-    printing::say(out, end, b"\"")
+    out.say(b"\"");
+    names::say_shown(out, word);
+    out.say(b"\"");
 }
 
-fn say_column(out: &mut [u8], at: usize, place: usize) -> usize
-    requires { at ≤ length out.old }
-    ensures { Said out.old out.new at (nth_word place columns) result }
+fn say_column(out: &mut Text, place: usize)
+    ensures { Says out.old out.new (nth_word place columns) }
 {
-    printing::say(
-        out,
-        at,
-        typed_words::word(b"GE Ym head days CHANGE X", place),
-    )
+    out.say(typed_words::word(b"GE Ym head days CHANGE X", place));
 }
 
-fn say_expected(out: &mut [u8], at: usize, row: usize) -> usize
-    requires { at ≤ length out.old }
-    ensures { Said out.old out.new at (expected row) result }
+fn say_expected(out: &mut Text, row: usize)
+    ensures { Says out.old out.new (expected row) }
 {
     let table =
         b" 1 to 1000 MJ; 0.5 to 20 per cent; 1 to 20000; a whole number, 1 to 366; 0.5 to 2";
-    let end = printing::say(out, at, b"; expected");
-    printing::say(out, end, typed_words::part(table, b';', row))
+    out.say(b"; expected");
+    out.say(typed_words::part(table, b';', row));
 }
 
 fn number_row(change: Change) -> usize
@@ -74,67 +69,59 @@ fn row_of(place: usize, change: Change) -> usize
     place
 }
 
-fn say_no_number(out: &mut [u8], at: usize, place: usize) -> usize
-    requires { at ≤ length out.old }
-    ensures { Said out.old out.new at (no_number_lem place) result }
+fn say_no_number(out: &mut Text, place: usize)
+    ensures { Says out.old out.new (no_number_lem place) }
 {
     if place == 3 {
-        return printing::say(out, at, b" is no count of days");
+        out.say(b" is no count of days");
+        return;
     }
-    printing::say(out, at, b" is no number")
+    out.say(b" is no number");
 }
 
-fn say_wrong_number(out: &mut [u8], at: usize, line: &[u8], place: usize) -> usize
-    requires { at ≤ length out.old }
-    ensures { Said out.old out.new at (wrong_number place line.now) result }
+fn say_wrong_number(out: &mut Text, line: &[u8], place: usize)
+    ensures { Says out.old out.new (wrong_number place line.now) }
 {
     let row = row_at(line, place);
-    let name = say_column(out, at, place);
-    let colon = printing::say(out, name, b": ");
-    let word = say_quoted(out, colon, typed_words::word(line, place));
-    let none = say_no_number(out, word, place);
-    say_expected(out, none, row)
+    say_column(out, place);
+    out.say(b": ");
+    say_quoted(out, typed_words::word(line, place));
+    say_no_number(out, place);
+    say_expected(out, row);
 }
 
-fn say_fault(out: &mut [u8], at: usize, line: &[u8], fault: Fault) -> usize
-    requires { at ≤ length out.old }
-    ensures { Said out.old out.new at (fault_text fault line.now) result }
+fn say_fault(out: &mut Text, line: &[u8], fault: Fault)
+    ensures { Says out.old out.new (fault_text fault line.now) }
 {
     match fault {
-        Fault::TooLong => printing::say(
-            out,
-            at,
-            b"the line is too long: at most 1023 bytes before its #",
-        ),
-        Fault::TooFew => printing::say(out, at, b"expected GE Ym head days CHANGE X"),
+        Fault::TooLong => out.say(b"the line is too long: at most 1023 bytes before its #"),
+        Fault::TooFew => out.say(b"expected GE Ym head days CHANGE X"),
         Fault::TooMany => {
-            let end = printing::say(out, at, b"one word too many: ");
-            say_quoted(out, end, typed_words::word(line, 6))
+            out.say(b"one word too many: ");
+            say_quoted(out, typed_words::word(line, 6));
         }
         Fault::NoChange => {
-            let end = say_quoted(out, at, typed_words::word(line, 4));
-            printing::say(out, end, b" is no change; expected feed, ym or head")
+            say_quoted(out, typed_words::word(line, 4));
+            out.say(b" is no change; expected feed, ym or head");
         }
-        Fault::NoNumber(place) => say_wrong_number(out, at, line, place),
+        Fault::NoNumber(place) => say_wrong_number(out, line, place),
     }
 }
 
-fn say_start(out: &mut [u8], at: usize, number: u64) -> usize
-    requires { at ≤ length out.old }
-    ensures { Said out.old out.new at (line_start number) result }
+fn say_start(out: &mut Text, number: u64)
+    ensures { Says out.old out.new (line_start number) }
 {
-    let end = printing::say(out, at, b"line ");
-    printing::say_number(out, end, number)
+    out.say(b"line ");
+    out.say_number(number);
 }
 
-fn say_unread(out: &mut [u8], at: usize, number: u64, line: &[u8], fault: Fault) -> usize
-    requires { at ≤ length out.old }
-    ensures { Said out.old out.new at (unread_text number fault line.now) result }
+fn say_unread(out: &mut Text, number: u64, line: &[u8], fault: Fault)
+    ensures { Says out.old out.new (unread_text number fault line.now) }
 {
-    let start = say_start(out, at, number);
-    let unread = printing::say(out, start, b": not read: ");
-    let end = say_fault(out, unread, line, fault);
-    printing::say(out, end, b"\n")
+    say_start(out, number);
+    out.say(b": not read: ");
+    say_fault(out, line, fault);
+    out.say(b"\n");
 }
 
 // A NaN is in no range.
@@ -179,90 +166,96 @@ fn out_place(code: u8, r: Ration, change: Change) -> usize
     out_of_ration(r)
 }
 
-fn say_changed(out: &mut [u8], at: usize, code: u8) -> usize
-    requires { at ≤ length out.old }
-    ensures { Said out.old out.new at (changed_word code) result }
+fn say_changed(out: &mut Text, code: u8)
+    ensures { Says out.old out.new (changed_word code) }
 {
     if code == 15 {
-        return printing::say(out, at, b"the changed ");
+        out.say(b"the changed ");
+        return;
     }
-    at
 }
 
-fn say_out(out: &mut [u8], at: usize, code: u8, ration: Ration, change: Change) -> usize
-    requires { at ≤ length out.old }
-    ensures { Said out.old out.new at (out_text code ration change) result }
+fn say_out(out: &mut Text, code: u8, ration: Ration, change: Change)
+    ensures { Says out.old out.new (out_text code ration change) }
 {
     let place = out_place(code, ration, change);
     let row = row_of(place, change);
-    let changed = say_changed(out, at, code);
-    let name = say_column(out, changed, place);
-    let end = printing::say(out, name, b" is out of its range");
-    say_expected(out, end, row)
+    say_changed(out, code);
+    say_column(out, place);
+    out.say(b" is out of its range");
+    say_expected(out, row);
 }
 
-fn say_refused(
-    out: &mut [u8],
-    at: usize,
-    number: u64,
-    code: u8,
-    ration: Ration,
-    change: Change,
-) -> usize
-    requires { at ≤ length out.old }
-    ensures { Said out.old out.new at (refused_text number code ration change) result }
+fn say_refused(out: &mut Text, number: u64, code: u8, ration: Ration, change: Change)
+    ensures { Says out.old out.new (refused_text number code ration change) }
 {
-    let start = say_start(out, at, number);
-    let refused = printing::say(out, start, b": refused ");
-    let digits = printing::say_number(out, refused, code as u64);
-    let colon = printing::say(out, digits, b": ");
-    let end = say_out(out, colon, code, ration, change);
-    printing::say(out, end, b"\n")
+    say_start(out, number);
+    out.say(b": refused ");
+    out.say_number(code as u64);
+    out.say(b": ");
+    say_out(out, code, ration, change);
+    out.say(b"\n");
 }
 
-fn say_refusal(out: &mut [u8], number: u64, ration: Ration, change: Change) -> usize
-    ensures { Said out.old out.new 0 (refusal_text number ration change) result }
+fn say_refusal(out: &mut Text, number: u64, ration: Ration, change: Change)
+    ensures { Says out.old out.new (refusal_text number ration change) }
 {
     let slip = slip::what_if(ration, change);
     if slip.code == 0 {
-        return 0;
+        return;
     }
-    say_refused(out, 0, number, slip.code, ration, change)
+    say_refused(out, number, slip.code, ration, change);
+}
+
+fn tell_remark(text: &mut Text, number: u64, line: &[u8])
+    ensures { Says text.old text.new (remark_text number line.now) }
+{
+    let asked = read_line(line);
+    match asked {
+        Asked::Nothing => (),
+        Asked::Estimate(ration, change) => say_refusal(text, number, ration, change),
+        Asked::Wrong(fault) => say_unread(text, number, line, fault),
+    }
 }
 
 // What standard error is told of a line.
 pub fn say_remark(out: &mut [u8], number: u64, line: &[u8]) -> usize
     ensures { Said out.old out.new 0 (remark_text number line.now) result }
 {
-    let asked = read_line(line);
-    match asked {
-        Asked::Nothing => 0,
-        Asked::Estimate(ration, change) => say_refusal(out, number, ration, change),
-        Asked::Wrong(fault) => say_unread(out, 0, number, line, fault),
-    }
+    let mut text = Text::new(out);
+    tell_remark(&mut text, number, line);
+    text.len
 }
 
 // The kg before the change is that of feed times 1.
-fn say_slip(out: &mut [u8], ration: Ration, change: Change) -> usize
-    ensures { Said out.old out.new 0 (slip_text ration change) result }
+fn say_slip(out: &mut Text, ration: Ration, change: Change)
+    ensures { Says out.old out.new (slip_text ration change) }
 {
     let mut line = [0u8; 193];
     let slip = slip::what_if(ration, change);
     let before = slip::what_if(ration, Change::Feed(1.0));
     let n = put_slip(&mut line, 0, slip, before.kg);
-    printing::say(out, 0, first_of(&line, n))
+    out.say(first_of(&line, n));
+}
+
+fn tell_answer(text: &mut Text, line: &[u8])
+    ensures { Says text.old text.new (answer_text line.now) }
+{
+    let asked = read_line(line);
+    match asked {
+        Asked::Nothing => (),
+        Asked::Estimate(ration, change) => say_slip(text, ration, change),
+        Asked::Wrong(_) => (),
+    }
 }
 
 // What standard output is told of a line.
 pub fn say_answer(out: &mut [u8], line: &[u8]) -> usize
     ensures { Said out.old out.new 0 (answer_text line.now) result }
 {
-    let asked = read_line(line);
-    match asked {
-        Asked::Nothing => 0,
-        Asked::Estimate(ration, change) => say_slip(out, ration, change),
-        Asked::Wrong(_) => 0,
-    }
+    let mut text = Text::new(out);
+    tell_answer(&mut text, line);
+    text.len
 }
 
 fn is_answered(ration: Ration, change: Change) -> bool
@@ -308,12 +301,14 @@ fn with_slip(counts: Counts, answered: bool) -> Counts
 pub fn say_counts(out: &mut [u8], counts: Counts) -> usize
     ensures { Said out.old out.new 0 (counts_text counts) result }
 {
-    let answered = printing::say_number(out, 0, counts.answered);
-    let first = printing::say(out, answered, b" answered, ");
-    let refused = printing::say_number(out, first, counts.refused);
-    let second = printing::say(out, refused, b" refused, ");
-    let unread = printing::say_number(out, second, counts.unread);
-    printing::say(out, unread, b" not read\n")
+    let mut text = Text::new(out);
+    text.say_number(counts.answered);
+    text.say(b" answered, ");
+    text.say_number(counts.refused);
+    text.say(b" refused, ");
+    text.say_number(counts.unread);
+    text.say(b" not read\n");
+    text.len
 }
 
 // The byte 0 where nothing failed and every line was answered, else 1.

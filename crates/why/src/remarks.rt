@@ -1,6 +1,7 @@
 // What is told of a book: a line for machines, a line for people, and the status.
 ghost use Rattle.std.specs.Prelude.{◌≡◌, ◌-◌, ◌≤◌, length};
 ghost use Rattle.printing.specs.Said.{Said};
+ghost use Rattle.printing.specs.Says.{Says};
 ghost use Rattle.why.specs.Remarks.{place_text, position_text, numbers_text, refused_text, missing_text, machine_text};
 ghost use Rattle.why.specs.Remarks.{group_text, name_text, where_text, subject_line, subject_text, measured_by, amount_text};
 ghost use Rattle.why.specs.Remarks.{measured_text, exactly, relation_text, compared_text, fault_text, reason_text, lack_text, after_text};
@@ -12,110 +13,114 @@ use account::sort::is_of_group;
 use codec::LAST_KIND;
 use codec::kinds::{CATTLE, FARM, GRAZING, PIG};
 use names::{decimals, say_field, say_kind, say_sentence, say_unit};
+use printing::text::Text;
 use printing::{say, say_number, say_pointed};
 use typed_words::part;
 
-fn say_place(out: &mut [u8], at: usize, number: u64, first: u64, last: u64) -> usize
-    requires { at ≤ length out.old }
-    ensures { Said out.old out.new at (place_text number first last) result }
+fn say_place(out: &mut Text, number: u64, first: u64, last: u64)
+    ensures { Says out.old out.new (place_text number first last) }
 {
-    let a = say(out, at, b" record ");
-    let b = say_number(out, a, number);
-    let c = say(out, b, b" bytes ");
-    let d = say_number(out, c, first);
-    let e = say(out, d, b" to ");
-    say_number(out, e, last)
+    out.say(b" record ");
+    out.say_number(number);
+    out.say(b" bytes ");
+    out.say_number(first);
+    out.say(b" to ");
+    out.say_number(last);
 }
 
-fn say_position(out: &mut [u8], at: usize, field: u64) -> usize
-    requires { at ≤ length out.old }
-    ensures { Said out.old out.new at (position_text field) result }
+fn say_position(out: &mut Text, field: u64)
+    ensures { Says out.old out.new (position_text field) }
 {
     if field == 0 {
-        return at;
+        return;
     }
-    let a = say(out, at, b" field ");
-    say_number(out, a, field)
+    out.say(b" field ");
+    out.say_number(field);
 }
 
-fn say_numbers(out: &mut [u8], at: usize, compares: Option<Numbers>) -> usize
-    requires { at ≤ length out.old }
-    ensures { Said out.old out.new at (numbers_text compares) result }
+fn say_numbers(out: &mut Text, compares: Option<Numbers>)
+    ensures { Says out.old out.new (numbers_text compares) }
 {
     match compares {
-        None => at,
+        None => (),
         Some(n) => {
-            let a = say(out, at, b" value ");
-            let b = say_number(out, a, n.value);
-            let c = say(out, b, b" limit ");
-            say_number(out, c, n.limit)
+            out.say(b" value ");
+            out.say_number(n.value);
+            out.say(b" limit ");
+            out.say_number(n.limit);
         }
     }
 }
 
-fn say_refused(out: &mut [u8], w: Reason) -> usize
-    ensures { Said out.old out.new 0 (refused_text w) result }
+fn say_refused(out: &mut Text, w: Reason)
+    ensures { Says out.old out.new (refused_text w) }
 {
-    let a = say(out, 0, b"refused ");
-    let b = say_number(out, a, w.code as u64);
-    let c = say_place(out, b, w.number as u64, w.first as u64, w.last as u64);
-    let d = say_position(out, c, w.field as u64);
-    let e = say_numbers(out, d, w.compares);
-    say(out, e, b"\n")
+    out.say(b"refused ");
+    out.say_number(w.code as u64);
+    say_place(out, w.number as u64, w.first as u64, w.last as u64);
+    say_position(out, w.field as u64);
+    say_numbers(out, w.compares);
+    out.say(b"\n");
 }
 
-fn say_missing(out: &mut [u8], n: u64) -> usize
-    ensures { Said out.old out.new 0 (missing_text n) result }
+fn say_missing(out: &mut Text, n: u64)
+    ensures { Says out.old out.new (missing_text n) }
 {
-    let a = say(out, 0, b"unfinished: ");
-    let b = say_number(out, a, n);
-    say(out, b, b" bytes missing\n")
+    out.say(b"unfinished: ");
+    out.say_number(n);
+    out.say(b" bytes missing\n");
+}
+
+fn tell_first(text: &mut Text, v: Verdict)
+    ensures { Says text.old text.new (machine_text v) }
+{
+    match v {
+        Verdict::Accepted { end, more } => text.say(b"accepted\n"),
+        Verdict::Missing(n) => say_missing(text, n as u64),
+        Verdict::NextLength => text.say(b"unfinished: the next length is not known\n"),
+        Verdict::Refused(w) => say_refused(text, w),
+    }
 }
 
 // The line for machines, from the start of out.
 pub fn say_first(out: &mut [u8], v: Verdict) -> usize
     ensures { Said out.old out.new 0 (machine_text v) result }
 {
-    match v {
-        Verdict::Accepted { end, more } => say(out, 0, b"accepted\n"),
-        Verdict::Missing(n) => say_missing(out, n as u64),
-        Verdict::NextLength => say(out, 0, b"unfinished: the next length is not known\n"),
-        Verdict::Refused(w) => say_refused(out, w),
-    }
+    let mut text = Text::new(out);
+    tell_first(&mut text, v);
+    text.len
 }
 
 // The group of a detail, where a heading stands before it.
-fn say_group(out: &mut [u8], at: usize, kind: u64, group: u64) -> usize
-    requires { at ≤ length out.old }
-    ensures { Said out.old out.new at (group_text kind group) result }
+fn say_group(out: &mut Text, kind: u64, group: u64)
+    ensures { Says out.old out.new (group_text kind group) }
 {
     if is_of_group(kind) & (group != 0) {
-        let a = say(out, at, b", group ");
-        return say_number(out, a, group);
+        out.say(b", group ");
+        out.say_number(group);
+        return;
     }
-    at
 }
 
 // The kind's name and the group in brackets, where the book has the kind.
-fn say_name(out: &mut [u8], at: usize, kind: u64, group: u64) -> usize
-    requires { at ≤ length out.old }
-    ensures { Said out.old out.new at (name_text kind group) result }
+fn say_name(out: &mut Text, kind: u64, group: u64)
+    ensures { Says out.old out.new (name_text kind group) }
 {
     if (1 <= kind) & (kind <= LAST_KIND) {
-        let a = say(out, at, b" (");
-        let b = say_kind(out, a, kind);
-        let c = say_group(out, b, kind, group);
-        return say(out, c, b")");
+        out.say(b" (");
+        say_kind(out, kind);
+        say_group(out, kind, group);
+        out.say(b")");
+        return;
     }
-    at
 }
 
-fn say_where(out: &mut [u8], number: u64, kind: u64, group: u64) -> usize
-    ensures { Said out.old out.new 0 (where_text number kind group) result }
+fn say_where(out: &mut Text, number: u64, kind: u64, group: u64)
+    ensures { Says out.old out.new (where_text number kind group) }
 {
-    let a = say(out, 0, b"record ");
-    let b = say_number(out, a, number);
-    say_name(out, b, kind, group)
+    out.say(b"record ");
+    out.say_number(number);
+    say_name(out, kind, group);
 }
 
 // Which line of the subjects: a pig's parts, the grazed fractions and the lengths of either farm record have their own.
@@ -138,12 +143,12 @@ fn subject(code: u64, row: u64) -> usize
 }
 
 // What the value is of.
-fn say_subject(out: &mut [u8], at: usize, code: u64, row: u64, field: usize) -> usize
-    requires { at ≤ length out.old }
-    ensures { Said out.old out.new at (subject_text code row field) result }
+fn say_subject(out: &mut Text, code: u64, row: u64, field: usize)
+    ensures { Says out.old out.new (subject_text code row field) }
 {
     if code == 7 {
-        return say_field(out, at, row, less_one(field));
+        say_field(out, row, less_one(field));
+        return;
     }
     let words = part(
         b"
@@ -166,7 +171,7 @@ fn say_subject(out: &mut [u8], at: usize, code: u64, row: u64, field: usize) -> 
         b'\n',
         subject(code, row),
     );
-    say(out, at, words)
+    out.say(words);
 }
 
 fn less_one(n: usize) -> usize
@@ -182,20 +187,21 @@ fn is_exact(code: u64, kind: u64) -> bool
 }
 
 // How the value has to stand to the limit.
-fn say_relation(out: &mut [u8], at: usize, code: u64, kind: u64, value: u64, limit: u64) -> usize
-    requires { at ≤ length out.old }
-    ensures { Said out.old out.new at (relation_text code kind value limit) result }
+fn say_relation(out: &mut Text, code: u64, kind: u64, value: u64, limit: u64)
+    ensures { Says out.old out.new (relation_text code kind value limit) }
 {
     if code == 8 {
-        return say(out, at, b"above ");
+        out.say(b"above ");
+        return;
     }
     if is_exact(code, kind) {
-        return at;
+        return;
     }
     if value < limit {
-        return say(out, at, b"at least ");
+        out.say(b"at least ");
+        return;
     }
-    say(out, at, b"at most ")
+    out.say(b"at most ");
 }
 
 // The field whose decimals and unit the two numbers have; 12, which no record has, where they are whole numbers.
@@ -214,103 +220,105 @@ fn measured(code: u64, row: u64, field: usize) -> usize
     if row == PIG { 8 } else { 3 }
 }
 
-fn say_amount(out: &mut [u8], at: usize, row: u64, i: usize, v: u64) -> usize
-    requires { at ≤ length out.old }
-    ensures { Said out.old out.new at (amount_text row i v) result }
+fn say_amount(out: &mut Text, row: u64, i: usize, v: u64)
+    ensures { Says out.old out.new (amount_text row i v) }
 {
     let d = decimals(row, i);
-    say_pointed(out, at, v, d)
+    out.say_pointed(v, d);
 }
 
-fn say_measured(out: &mut [u8], at: usize, row: u64, i: usize, v: u64) -> usize
-    requires { at ≤ length out.old }
-    ensures { Said out.old out.new at (measured_text row i v) result }
+fn say_measured(out: &mut Text, row: u64, i: usize, v: u64)
+    ensures { Says out.old out.new (measured_text row i v) }
 {
-    let a = say_amount(out, at, row, i, v);
-    say_unit(out, a, row, i)
+    say_amount(out, row, i, v);
+    say_unit(out, row, i);
 }
 
-fn say_compared(out: &mut [u8], at: usize, w: Reason, n: Numbers) -> usize
-    requires { at ≤ length out.old }
-    ensures { Said out.old out.new at (compared_text w n) result }
+fn say_compared(out: &mut Text, w: Reason, n: Numbers)
+    ensures { Says out.old out.new (compared_text w n) }
 {
     let i = measured(w.code as u64, w.row as u64, w.field as usize);
-    let a = say_subject(out, at, w.code as u64, w.row as u64, w.field as usize);
-    let b = say(out, a, b" is ");
-    let c = say_measured(out, b, w.row as u64, i, n.value);
-    let d = say(out, c, b"; it must be ");
-    let e = say_relation(out, d, w.code as u64, w.kind as u64, n.value, n.limit);
-    say_amount(out, e, w.row as u64, i, n.limit)
+    say_subject(out, w.code as u64, w.row as u64, w.field as usize);
+    out.say(b" is ");
+    say_measured(out, w.row as u64, i, n.value);
+    out.say(b"; it must be ");
+    say_relation(out, w.code as u64, w.kind as u64, n.value, n.limit);
+    say_amount(out, w.row as u64, i, n.limit);
 }
 
-fn say_fault(out: &mut [u8], at: usize, w: Reason) -> usize
-    requires { at ≤ length out.old }
-    ensures { Said out.old out.new at (fault_text w) result }
+fn say_fault(out: &mut Text, w: Reason)
+    ensures { Says out.old out.new (fault_text w) }
 {
     match w.compares {
-        Some(n) => say_compared(out, at, w, n),
+        Some(n) => say_compared(out, w, n),
         None => {
-            let a = say(out, at, b" ");
-            say_sentence(out, a, w.code as u64)
+            out.say(b" ");
+            say_sentence(out, w.code as u64);
         }
     }
 }
 
-fn say_reason(out: &mut [u8], w: Reason) -> usize
-    ensures { Said out.old out.new 0 (reason_text w) result }
+fn say_reason(out: &mut Text, w: Reason)
+    ensures { Says out.old out.new (reason_text w) }
 {
-    let a = say_where(out, w.number as u64, w.kind as u64, w.group as u64);
-    let b = say(out, a, b":");
-    let c = say_fault(out, b, w);
-    say(out, c, b"\n")
+    say_where(out, w.number as u64, w.kind as u64, w.group as u64);
+    out.say(b":");
+    say_fault(out, w);
+    out.say(b"\n");
 }
 
-fn say_lack(out: &mut [u8], n: u64) -> usize
-    ensures { Said out.old out.new 0 (lack_text n) result }
+fn say_lack(out: &mut Text, n: u64)
+    ensures { Says out.old out.new (lack_text n) }
 {
-    let a = say(out, 0, b"the book ends inside a record, which needs ");
-    let b = say_number(out, a, n);
+    out.say(b"the book ends inside a record, which needs ");
+    out.say_number(n);
     if n == 1 {
-        return say(out, b, b" more byte\n");
+        out.say(b" more byte\n");
+        return;
     }
-    say(out, b, b" more bytes\n")
+    out.say(b" more bytes\n");
 }
 
 // Where bytes stand after the close.
-fn say_after(out: &mut [u8], at: usize, end: u64, more: bool) -> usize
-    requires { at ≤ length out.old }
-    ensures { Said out.old out.new at (after_text end more) result }
+fn say_after(out: &mut Text, end: u64, more: bool)
+    ensures { Says out.old out.new (after_text end more) }
 {
     if !more {
-        return at;
+        return;
     }
-    let a = say(out, at, b"; bytes stand after its close, from byte ");
-    let b = say_number(out, a, end);
-    say(out, b, b" on, and change nothing")
+    out.say(b"; bytes stand after its close, from byte ");
+    out.say_number(end);
+    out.say(b" on, and change nothing");
 }
 
-fn say_closed(out: &mut [u8], end: u64, more: bool) -> usize
-    ensures { Said out.old out.new 0 (closed_text end more) result }
+fn say_closed(out: &mut Text, end: u64, more: bool)
+    ensures { Says out.old out.new (closed_text end more) }
 {
-    let a = say(out, 0, b"the book is right and closed");
-    let b = say_after(out, a, end, more);
-    say(out, b, b"\n")
+    out.say(b"the book is right and closed");
+    say_after(out, end, more);
+    out.say(b"\n");
+}
+
+fn tell_second(text: &mut Text, v: Verdict)
+    ensures { Says text.old text.new (people_text v) }
+{
+    match v {
+        Verdict::Accepted { end, more } => say_closed(text, end as u64, more),
+        Verdict::Missing(n) => say_lack(text, n as u64),
+        Verdict::NextLength => text.say(
+            b"the book ends before its close, where another record would begin\n",
+        ),
+        Verdict::Refused(w) => say_reason(text, w),
+    }
 }
 
 // The line for people, from the start of out.
 pub fn say_second(out: &mut [u8], v: Verdict) -> usize
     ensures { Said out.old out.new 0 (people_text v) result }
 {
-    match v {
-        Verdict::Accepted { end, more } => say_closed(out, end as u64, more),
-        Verdict::Missing(n) => say_lack(out, n as u64),
-        Verdict::NextLength => say(
-            out,
-            0,
-            b"the book ends before its close, where another record would begin\n",
-        ),
-        Verdict::Refused(w) => say_reason(out, w),
-    }
+    let mut text = Text::new(out);
+    tell_second(&mut text, v);
+    text.len
 }
 
 pub fn accepted(v: Verdict) -> bool

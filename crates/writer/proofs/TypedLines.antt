@@ -138,8 +138,8 @@ module _ {line : List ℕ} {kind : ℕ} {values : List ℕ} {n : ℕ} (r : Readi
   unfolding values_from
   no_more h = let z : 512 - n ≡ 0 = omega arith in rw z
 
-  pub read_all : 512 ≤ n → record { values = values; count = n; wrong = 0 } ≡ listed (values_from 512 0 kind line)
-  read_all h = read_up 0 (no_more h)
+  pub read_all : 512 ≤ n → record { values = values; count = 512; wrong = 0 } ≡ listed (values_from 512 0 kind line)
+  read_all h = let e : n ≡ 512 = omega (arith, r.most) in rw e at (read_up 0 (no_more h))
 
   -- w is the next word
   module _ (h : n < 512) {w : List ℕ} (e : w ≡ nth_word (n + 1) line) where

@@ -2,7 +2,7 @@
 ghost use Rattle.std.specs.Prelude.{◌≡◌, ◌++◌, ◌-◌, ◌≤◌, eqb, length, is_some};
 ghost use Rattle.base.specs.Choice.{pick};
 ghost use Rattle.printing.specs.Ascii.{ascii};
-ghost use Rattle.printing.specs.Said.{Said};
+ghost use Rattle.printing.specs.Says.{Says};
 ghost use Rattle.typed_words.specs.Words.{nth_word};
 ghost use Rattle.typed_words.specs.Amounts.{amount_of};
 ghost use Rattle.names.specs.Names.{expected, sentence};
@@ -15,56 +15,52 @@ ghost use Rattle.writer.specs.Remarks.{shares_text, parts_text, grazed_text, ove
 use crate::typed_line::{Entry, has_field};
 use account::{Account, Refusal, Used};
 use codec::kinds::{CATTLE, ENTERIC, FARM, FARM_FACTORS, PIG};
+use printing::text::Text;
 use printing::{say, say_number, say_pointed};
 
-fn say_quoted(out: &mut [u8], at: usize, word: &[u8]) -> usize
-    requires { at ≤ length out.old }
-    ensures { Said out.old out.new at (quoted word.now) result }
+fn say_quoted(out: &mut Text, word: &[u8])
+    ensures { Says out.old out.new (quoted word.now) }
 {
-    let open = say(out, at, b"\"");
-    let shown = names::say_shown(out, open, word);
-    say(out, shown, b"\"")
+    out.say(b"\"");
+    names::say_shown(out, word);
+    out.say(b"\"");
 }
 
 // The word behind n others.
-fn say_word(out: &mut [u8], at: usize, text: &[u8], n: usize) -> usize
-    requires { at ≤ length out.old }
-    ensures { Said out.old out.new at (quoted (nth_word n text.now)) result }
+fn say_word(out: &mut Text, text: &[u8], n: usize)
+    ensures { Says out.old out.new (quoted (nth_word n text.now)) }
 {
-    say_quoted(out, at, typed_words::word(text, n))
+    say_quoted(out, typed_words::word(text, n));
 }
 
-fn say_no_kind(out: &mut [u8], at: usize, text: &[u8]) -> usize
-    requires { at ≤ length out.old }
-    ensures { Said out.old out.new at (no_kind_text text.now) result }
+fn say_no_kind(out: &mut Text, text: &[u8])
+    ensures { Says out.old out.new (no_kind_text text.now) }
 {
-    let head = say(out, at, b"not read: ");
-    let word = say_word(out, head, text, 0);
-    let none = say(out, word, b" is no kind of record; expected ");
-    let kinds = names::say_kinds(out, none);
-    say(out, kinds, b" or its number")
+    out.say(b"not read: ");
+    say_word(out, text, 0);
+    out.say(b" is no kind of record; expected ");
+    names::say_kinds(out);
+    out.say(b" or its number");
 }
 
-fn say_field(out: &mut [u8], at: usize, row: u64, i: usize) -> usize
-    requires { at ≤ length out.old }
-    ensures { Said out.old out.new at (field_text row i) result }
+fn say_field(out: &mut Text, row: u64, i: usize)
+    ensures { Says out.old out.new (field_text row i) }
 {
     if !has_field(row, i) {
-        return at;
+        return;
     }
-    let comma = say(out, at, b",");
-    names::say_field(out, comma, row, i)
+    out.say(b",");
+    names::say_field(out, row, i);
 }
 
-fn say_expected(out: &mut [u8], at: usize, row: u64, i: usize) -> usize
-    requires { at ≤ length out.old }
-    ensures { Said out.old out.new at (expected_text row i) result }
+fn say_expected(out: &mut Text, row: u64, i: usize)
+    ensures { Says out.old out.new (expected_text row i) }
 {
     if !has_field(row, i) {
-        return at;
+        return;
     }
-    let head = say(out, at, b"; expected");
-    names::say_expected(out, head, row, i)
+    out.say(b"; expected");
+    names::say_expected(out, row, i);
 }
 
 // A number, however many decimals it has.
@@ -100,169 +96,162 @@ fn has_comma(word: &[u8], decimals: usize) -> bool
 }
 
 // What the word for field i is not.
-fn say_none(out: &mut [u8], at: usize, row: u64, i: usize, word: &[u8]) -> usize
-    requires { at ≤ length out.old }
-    ensures { Said out.old out.new at (none_text row i word.now) result }
+fn say_none(out: &mut Text, row: u64, i: usize, word: &[u8])
+    ensures { Says out.old out.new (none_text row i word.now) }
 {
     let decimals = names::decimals(row, i);
     if decimals == 0 {
-        return say(out, at, b" is no whole number");
+        out.say(b" is no whole number");
+        return;
     }
     if is_number(word) {
-        let head = say(out, at, b" has too many decimals: at most ");
-        return say_number(out, head, decimals as u64);
+        out.say(b" has too many decimals: at most ");
+        out.say_number(decimals as u64);
+        return;
     }
     if has_comma(word, decimals) {
-        return say(out, at, b" is no number: use a point");
+        out.say(b" is no number: use a point");
+        return;
     }
-    say(out, at, b" is no number")
+    out.say(b" is no number");
 }
 
-fn say_fault(out: &mut [u8], at: usize, row: u64, i: usize, word: &[u8]) -> usize
-    requires { at ≤ length out.old }
-    ensures { Said out.old out.new at (fault_text row i word.now) result }
+fn say_fault(out: &mut Text, row: u64, i: usize, word: &[u8])
+    ensures { Says out.old out.new (fault_text row i word.now) }
 {
     if names::is_choice(row, i) {
-        let none = say(out, at, b" is none of ");
-        return names::say_choices(out, none, row, i);
+        out.say(b" is none of ");
+        names::say_choices(out, row, i);
+        return;
     }
-    let none = say_none(out, at, row, i, word);
-    say_expected(out, none, row, i)
+    say_none(out, row, i, word);
+    say_expected(out, row, i);
 }
 
-fn say_no_value(out: &mut [u8], at: usize, row: u64, i: usize, text: &[u8]) -> usize
-    requires { (at ≤ length out.old) × (1 ≤ i) }
-    ensures { Said out.old out.new at (no_value_text row i text.now) result }
+fn say_no_value(out: &mut Text, row: u64, i: usize, text: &[u8])
+    requires { 1 ≤ i }
+    ensures { Says out.old out.new (no_value_text row i text.now) }
 {
     let value = i - 1;
-    let head = say(out, at, b"not read: ");
-    let name = names::say_kind(out, head, row);
-    let field = say_field(out, name, row, value);
-    let colon = say(out, field, b": ");
-    let quoted = say_word(out, colon, text, i);
-    say_fault(out, quoted, row, value, typed_words::word(text, i))
+    out.say(b"not read: ");
+    names::say_kind(out, row);
+    say_field(out, row, value);
+    out.say(b": ");
+    say_word(out, text, i);
+    say_fault(out, row, value, typed_words::word(text, i));
 }
 
-pub(crate) fn say_unread(out: &mut [u8], at: usize, kind: u64, place: usize, text: &[u8]) -> usize
-    requires { at ≤ length out.old }
-    ensures { Said out.old out.new at (unread_text kind place text.now) result }
+pub(crate) fn say_unread(out: &mut Text, kind: u64, place: usize, text: &[u8])
+    ensures { Says out.old out.new (unread_text kind place text.now) }
 {
     if place == 0 {
-        return say(
-            out,
-            at,
-            b"not read: the line is too long: at most 1023 bytes before its #",
-        );
+        out.say(b"not read: the line is too long: at most 1023 bytes before its #");
+        return;
     }
     if place == 1 {
-        return say_no_kind(out, at, text);
+        say_no_kind(out, text);
+        return;
     }
     let row = crate::typed_line::row_of_line(kind, text);
-    say_no_value(out, at, row, place - 1, text)
+    say_no_value(out, row, place - 1, text);
 }
 
-fn say_range(out: &mut [u8], at: usize, row: u64, field: usize, text: &[u8]) -> usize
-    requires { at ≤ length out.old }
-    ensures { Said out.old out.new at (range_text row field text.now) result }
+fn say_range(out: &mut Text, row: u64, field: usize, text: &[u8])
+    ensures { Says out.old out.new (range_text row field text.now) }
 {
     let i = field.saturating_sub(1);
-    let head = say(out, at, b" field ");
-    let number = say_number(out, head, field as u64);
-    let colon = say(out, number, b":");
-    let name = names::say_field(out, colon, row, i);
-    let behind = say(out, name, b": ");
-    let word = say_word(out, behind, text, field);
-    say_out_of_range(out, word, row, i)
+    out.say(b" field ");
+    out.say_number(field as u64);
+    out.say(b":");
+    names::say_field(out, row, i);
+    out.say(b": ");
+    say_word(out, text, field);
+    say_out_of_range(out, row, i);
 }
 
-fn say_out_of_range(out: &mut [u8], at: usize, row: u64, i: usize) -> usize
-    requires { at ≤ length out.old }
-    ensures { Said out.old out.new at (ascii " is out of its range; expected" ++ expected row i) result }
+fn say_out_of_range(out: &mut Text, row: u64, i: usize)
+    ensures { Says out.old out.new (ascii " is out of its range; expected" ++ expected row i) }
 {
-    let head = say(out, at, b" is out of its range; expected");
-    names::say_expected(out, head, row, i)
+    out.say(b" is out of its range; expected");
+    names::say_expected(out, row, i);
 }
 
 // The values of a farm record of either version.
-fn say_either(out: &mut [u8], at: usize) -> usize
-    requires { at ≤ length out.old }
-    ensures { Said out.old out.new at either_text result }
+fn say_either(out: &mut Text)
+    ensures { Says out.old out.new either_text }
 {
-    let first = names::say_fields(out, at, 1);
-    let or = say(out, first, b", or");
-    names::say_fields(out, or, codec::LAST_ROW)
+    names::say_fields(out, 1);
+    out.say(b", or");
+    names::say_fields(out, codec::LAST_ROW);
 }
 
-fn say_many(out: &mut [u8], at: usize, n: u64) -> usize
-    requires { at ≤ length out.old }
-    ensures { Said out.old out.new at (many_text n) result }
+fn say_many(out: &mut Text, n: u64)
+    ensures { Says out.old out.new (many_text n) }
 {
-    let count = say_number(out, at, n);
+    out.say_number(n);
     if n == 1 {
-        return say(out, count, b" value");
+        out.say(b" value");
+        return;
     }
-    say(out, count, b" values")
+    out.say(b" values");
 }
 
 // How many values the kind takes.
-fn say_takes(out: &mut [u8], at: usize, kind: u64, row: u64) -> usize
-    requires { at ≤ length out.old }
-    ensures { Said out.old out.new at (takes_text kind row) result }
+fn say_takes(out: &mut Text, kind: u64, row: u64)
+    ensures { Says out.old out.new (takes_text kind row) }
 {
     if kind == FARM {
-        let first = say_number(out, at, by_row::table::values_of(FARM) as u64);
-        let or = say(out, first, b" or ");
-        return say_many(out, or, by_row::table::values_of(FARM_FACTORS) as u64);
+        out.say_number(by_row::table::values_of(FARM) as u64);
+        out.say(b" or ");
+        say_many(out, by_row::table::values_of(FARM_FACTORS) as u64);
+        return;
     }
-    say_many(out, at, by_row::table::values_of(row) as u64)
+    say_many(out, by_row::table::values_of(row) as u64);
 }
 
-fn say_names(out: &mut [u8], at: usize, kind: u64, row: u64) -> usize
-    requires { at ≤ length out.old }
-    ensures { Said out.old out.new at (names_text kind row) result }
+fn say_names(out: &mut Text, kind: u64, row: u64)
+    ensures { Says out.old out.new (names_text kind row) }
 {
     if kind == FARM {
-        return say_either(out, at);
+        say_either(out);
+        return;
     }
-    names::say_fields(out, at, row)
+    names::say_fields(out, row);
 }
 
-fn say_here(out: &mut [u8], at: usize, count: u64) -> usize
-    requires { at ≤ length out.old }
-    ensures { Said out.old out.new at (pick (eqb count 1) (ascii " is here; expected") (ascii " are here; expected")) result }
+fn say_here(out: &mut Text, count: u64)
+    ensures { Says out.old out.new (pick (eqb count 1) (ascii " is here; expected") (ascii " are here; expected")) }
 {
     if count == 1 {
-        return say(out, at, b" is here; expected");
+        out.say(b" is here; expected");
+        return;
     }
-    say(out, at, b" are here; expected")
+    out.say(b" are here; expected");
 }
 
-fn say_kind_takes(out: &mut [u8], at: usize, kind: u64, row: u64) -> usize
-    requires { at ≤ length out.old }
-    ensures { Said out.old out.new at (kind_takes kind row) result }
+fn say_kind_takes(out: &mut Text, kind: u64, row: u64)
+    ensures { Says out.old out.new (kind_takes kind row) }
 {
-    let colon = say(out, at, b": ");
-    let name = names::say_kind(out, colon, kind);
-    let word = say(out, name, b" takes ");
-    say_takes(out, word, kind, row)
+    out.say(b": ");
+    names::say_kind(out, kind);
+    out.say(b" takes ");
+    say_takes(out, kind, row);
 }
 
-fn say_values_here(out: &mut [u8], at: usize, kind: u64, row: u64, count: u64) -> usize
-    requires { at ≤ length out.old }
-    ensures { Said out.old out.new at (values_here kind row count) result }
+fn say_values_here(out: &mut Text, kind: u64, row: u64, count: u64)
+    ensures { Says out.old out.new (values_here kind row count) }
 {
-    let and = say(out, at, b", and ");
-    let number = say_number(out, and, count);
-    let here = say_here(out, number, count);
-    say_names(out, here, kind, row)
+    out.say(b", and ");
+    out.say_number(count);
+    say_here(out, count);
+    say_names(out, kind, row);
 }
 
-fn say_count(out: &mut [u8], at: usize, kind: u64, row: u64, count: u64) -> usize
-    requires { at ≤ length out.old }
-    ensures { Said out.old out.new at (count_text kind row count) result }
+fn say_count(out: &mut Text, kind: u64, row: u64, count: u64)
+    ensures { Says out.old out.new (count_text kind row count) }
 {
-    let takes = say_kind_takes(out, at, kind, row);
-    say_values_here(out, takes, kind, row, count)
+    say_kind_takes(out, kind, row);
+    say_values_here(out, kind, row, count);
 }
 
 fn sum(a: u64, b: u64) -> u64
@@ -275,25 +264,25 @@ fn sum(a: u64, b: u64) -> u64
 }
 
 // What there was before, what is typed, and both.
-fn say_made(out: &mut [u8], at: usize, d: usize, before: u64, typed: u64) -> usize
-    requires { (at ≤ length out.old) × (d ≤ 15) }
-    ensures { Said out.old out.new at (made_text d before typed) result }
+fn say_made(out: &mut Text, d: usize, before: u64, typed: u64)
+    requires { d ≤ 15 }
+    ensures { Says out.old out.new (made_text d before typed) }
 {
-    let first = say_pointed(out, at, before, d);
-    let and = say(out, first, b" and ");
-    let second = say_pointed(out, and, typed, d);
-    let make = say(out, second, b" make ");
-    say_pointed(out, make, sum(before, typed), d)
+    out.say_pointed(before, d);
+    out.say(b" and ");
+    out.say_pointed(typed, d);
+    out.say(b" make ");
+    out.say_pointed(sum(before, typed), d);
 }
 
-fn say_together(out: &mut [u8], at: usize, d: usize, before: u64, typed: u64, most: u64) -> usize
-    requires { (at ≤ length out.old) × (d ≤ 15) }
-    ensures { Said out.old out.new at (together_text d before typed most) result }
+fn say_together(out: &mut Text, d: usize, before: u64, typed: u64, most: u64)
+    requires { d ≤ 15 }
+    ensures { Says out.old out.new (together_text d before typed most) }
 {
-    let both = say_made(out, at, d, before, typed);
-    let and = say(out, both, b", and ");
-    let limit = say_pointed(out, and, most, d);
-    say(out, limit, b" are the most")
+    say_made(out, d, before, typed);
+    out.say(b", and ");
+    out.say_pointed(most, d);
+    out.say(b" are the most");
 }
 
 fn used_days(u: Used, kind: u64) -> u64
@@ -308,116 +297,99 @@ fn used_days(u: Used, kind: u64) -> u64
     u.pig as u64
 }
 
-fn say_days_over(out: &mut [u8], at: usize, a: Account, e: Entry) -> usize
-    requires { (at ≤ length out.old) × (length e.values ≡ 13) }
-    ensures { Said out.old out.new at (days_over_text a e) result }
+fn say_days_over(out: &mut Text, a: Account, e: Entry)
+    requires { length e.values ≡ 13 }
+    ensures { Says out.old out.new (days_over_text a e) }
 {
     let typed = e.values[0];
     let used = a.used;
     let before = used_days(used, e.kind);
-    let head = say(out, at, b": days: ");
-    say_together(out, head, 0, before, typed, 366)
+    out.say(b": days: ");
+    say_together(out, 0, before, typed, 366);
 }
 
-fn say_shares(out: &mut [u8], at: usize, e: Entry) -> usize
-    requires { (at ≤ length out.old) × (length e.values ≡ 13) }
-    ensures { Said out.old out.new at (shares_text e) result }
+fn say_shares(out: &mut Text, e: Entry)
+    requires { length e.values ≡ 13 }
+    ensures { Says out.old out.new (shares_text e) }
 {
     let solid = e.values[6];
     let liquid = e.values[7];
     let pasture = e.values[8];
-    let head = say(
-        out,
-        at,
-        b": the three shares must make 100.00 per cent: together ",
-    );
-    say_pointed(out, head, sum(sum(solid, liquid), pasture), 2)
+    out.say(b": the three shares must make 100.00 per cent: together ");
+    out.say_pointed(sum(sum(solid, liquid), pasture), 2);
 }
 
-fn say_parts(out: &mut [u8], at: usize, e: Entry) -> usize
-    requires { (at ≤ length out.old) × (length e.values ≡ 13) }
-    ensures { Said out.old out.new at (parts_text e) result }
+fn say_parts(out: &mut Text, e: Entry)
+    requires { length e.values ≡ 13 }
+    ensures { Says out.old out.new (parts_text e) }
 {
     let volatilised = e.values[8];
     let leached = e.values[10];
-    let head = say(
-        out,
-        at,
-        b": the volatilised and the leached part must make at most 1.000: together ",
-    );
-    say_pointed(out, head, sum(volatilised, leached), 3)
+    out.say(b": the volatilised and the leached part must make at most 1.000: together ");
+    out.say_pointed(sum(volatilised, leached), 3);
 }
 
-fn say_grazed(out: &mut [u8], at: usize, a: Account, e: Entry) -> usize
-    requires { (at ≤ length out.old) × (length e.values ≡ 13) }
-    ensures { Said out.old out.new at (grazed_text a e) result }
+fn say_grazed(out: &mut Text, a: Account, e: Entry)
+    requires { length e.values ≡ 13 }
+    ensures { Says out.old out.new (grazed_text a e) }
 {
     let typed = e.values[3];
     let used = a.used;
-    let head = say(out, at, b": fraction: ");
-    say_together(out, head, 2, used.grazed as u64, typed, 10000)
+    out.say(b": fraction: ");
+    say_together(out, 2, used.grazed as u64, typed, 10000);
 }
 
-fn say_over(out: &mut [u8], at: usize, a: Account, e: Entry) -> usize
-    requires { (at ≤ length out.old) × (length e.values ≡ 13) }
-    ensures { Said out.old out.new at (over_text a e) result }
+fn say_over(out: &mut Text, a: Account, e: Entry)
+    requires { length e.values ≡ 13 }
+    ensures { Says out.old out.new (over_text a e) }
 {
     if e.kind == CATTLE {
-        return say_shares(out, at, e);
+        say_shares(out, e);
+        return;
     }
     if e.kind == PIG {
-        return say_parts(out, at, e);
+        say_parts(out, e);
+        return;
     }
-    say_grazed(out, at, a, e)
+    say_grazed(out, a, e);
 }
 
-fn say_sentence(out: &mut [u8], at: usize, code: u64) -> usize
-    requires { at ≤ length out.old }
-    ensures { Said out.old out.new at (ascii ": " ++ sentence code) result }
+fn say_sentence(out: &mut Text, code: u64)
+    ensures { Says out.old out.new (ascii ": " ++ sentence code) }
 {
-    let colon = say(out, at, b": ");
-    names::say_sentence(out, colon, code)
+    out.say(b": ");
+    names::say_sentence(out, code);
 }
 
-fn say_ground(
-    out: &mut [u8],
-    at: usize,
-    refusal: Refusal,
-    a: Account,
-    e: Entry,
-    text: &[u8],
-) -> usize
-    requires { (at ≤ length out.old) × (length e.values ≡ 13) }
-    ensures { Said out.old out.new at (ground_text refusal a e text.now) result }
+fn say_ground(out: &mut Text, refusal: Refusal, a: Account, e: Entry, text: &[u8])
+    requires { length e.values ≡ 13 }
+    ensures { Says out.old out.new (ground_text refusal a e text.now) }
 {
     let row = crate::typed_line::row_of_line(e.kind, text);
     if refusal.code == 7 {
-        return say_range(out, at, row, refusal.field as usize, text);
+        say_range(out, row, refusal.field as usize, text);
+        return;
     }
     if refusal.code == 4 {
-        return say_count(out, at, e.kind, row, e.count as u64);
+        say_count(out, e.kind, row, e.count as u64);
+        return;
     }
     if refusal.code == 9 {
-        return say_days_over(out, at, a, e);
+        say_days_over(out, a, e);
+        return;
     }
     if refusal.code == 10 {
-        return say_over(out, at, a, e);
+        say_over(out, a, e);
+        return;
     }
-    say_sentence(out, at, refusal.code as u64)
+    say_sentence(out, refusal.code as u64);
 }
 
-pub(crate) fn say_refused(
-    out: &mut [u8],
-    at: usize,
-    refusal: Refusal,
-    a: Account,
-    e: Entry,
-    text: &[u8],
-) -> usize
-    requires { (at ≤ length out.old) × (length e.values ≡ 13) }
-    ensures { Said out.old out.new at (refused_text refusal a e text.now) result }
+pub(crate) fn say_refused(out: &mut Text, refusal: Refusal, a: Account, e: Entry, text: &[u8])
+    requires { length e.values ≡ 13 }
+    ensures { Says out.old out.new (refused_text refusal a e text.now) }
 {
-    let head = say(out, at, b"refused ");
-    let code = say_number(out, head, refusal.code as u64);
-    say_ground(out, code, refusal, a, e, text)
+    out.say(b"refused ");
+    out.say_number(refusal.code as u64);
+    say_ground(out, refusal, a, e, text);
 }

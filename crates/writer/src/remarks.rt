@@ -3,6 +3,7 @@ ghost use Rattle.std.specs.Prelude.{◌≡◌, Bool, [], ◌++◌, ◌≤◌, eq
 ghost use Rattle.base.specs.Choice.{pick};
 ghost use Rattle.printing.specs.Ascii.{ascii};
 ghost use Rattle.printing.specs.Said.{Said};
+ghost use Rattle.printing.specs.Says.{Says};
 ghost use Rattle.writer.specs.Typist.{run_ended};
 ghost use Rattle.writer.specs.Remarks.{withheld_text, line_head, early_text, may_text, lost_text, run_head, run_text};
 ghost use Rattle.writer.specs.Remarks.{is_told, words_of, kind_written};
@@ -17,134 +18,126 @@ use crate::typed_line::Entry;
 use crate::unusual::say_unusual;
 use crate::{Cause, Counts, Fate, Lost, Typist};
 use codec::kinds::{CLOSE, HEADING};
+use printing::text::Text;
 use printing::{say, say_number};
 
-fn say_withheld(out: &mut [u8], at: usize, failed: u64) -> usize
-    requires { at ≤ length out.old }
-    ensures { Said out.old out.new at (withheld_text failed) result }
+fn say_withheld(out: &mut Text, failed: u64)
+    ensures { Says out.old out.new (withheld_text failed) }
 {
-    let head = say(out, at, b"close withheld: line ");
-    let line = say_number(out, head, failed);
-    say(
-        out,
-        line,
-        b" failed, and a book with a failed line is not closed",
-    )
+    out.say(b"close withheld: line ");
+    out.say_number(failed);
+    out.say(b" failed, and a book with a failed line is not closed");
 }
 
-fn say_line(out: &mut [u8], at: usize, number: u64) -> usize
-    requires { at ≤ length out.old }
-    ensures { Said out.old out.new at (line_head number) result }
+fn say_line(out: &mut Text, number: u64)
+    ensures { Says out.old out.new (line_head number) }
 {
-    let word = say(out, at, b"line ");
-    let n = say_number(out, word, number);
-    say(out, n, b": ")
+    out.say(b"line ");
+    out.say_number(number);
+    out.say(b": ");
 }
 
 // The close that waits is too early, since line `number` has a word.
-fn say_early(out: &mut [u8], at: usize, t: Typist, number: u64) -> usize
-    requires { at ≤ length out.old }
-    ensures { Said out.old out.new at (early_text t number) result }
+fn say_early(out: &mut Text, t: Typist, number: u64)
+    ensures { Says out.old out.new (early_text t number) }
 {
     let c = t.counts;
     let w = t.waiting;
     match w.close {
-        None => at,
+        None => (),
         Some(close) => {
             if 20 <= c.told {
-                return at;
+                return;
             }
-            let head = say_line(out, at, close);
-            let words = say(out, head, b"close too early: line ");
-            let line = say_number(out, words, number);
-            say(out, line, b" comes after it\n")
+            say_line(out, close);
+            out.say(b"close too early: line ");
+            out.say_number(number);
+            out.say(b" comes after it\n");
         }
     }
 }
 
 // A line that may have been a heading, and what became of it.
-fn say_may(out: &mut [u8], at: usize, line: u64, became: &[u8]) -> usize
-    requires { at ≤ length out.old }
-    ensures { Said out.old out.new at (may_text line became.now) result }
+fn say_may(out: &mut Text, line: u64, became: &[u8])
+    ensures { Says out.old out.new (may_text line became.now) }
 {
-    let word = say(out, at, b"line ");
-    let number = say_number(out, word, line);
-    let may = say(out, number, b", which may have been a heading, was ");
-    say(out, may, became)
+    out.say(b"line ");
+    out.say_number(line);
+    out.say(b", which may have been a heading, was ");
+    out.say(became);
 }
 
 // By which line the heading was lost.
-fn say_lost(out: &mut [u8], at: usize, l: Lost) -> usize
-    requires { at ≤ length out.old }
-    ensures { Said out.old out.new at (lost_text l) result }
+fn say_lost(out: &mut Text, l: Lost)
+    ensures { Says out.old out.new (lost_text l) }
 {
     match l.cause {
         Cause::Heading => {
-            let head = say(out, at, b"the heading in line ");
-            let line = say_number(out, head, l.line);
-            say(out, line, b" was not written")
+            out.say(b"the heading in line ");
+            out.say_number(l.line);
+            out.say(b" was not written");
         }
-        Cause::Unread => say_may(out, at, l.line, b"not read"),
-        Cause::Refused => say_may(out, at, l.line, b"refused"),
+        Cause::Unread => say_may(out, l.line, b"not read"),
+        Cause::Refused => say_may(out, l.line, b"refused"),
     }
 }
 
-fn say_run_head(out: &mut [u8], at: usize, first: u64, last: u64) -> usize
-    requires { at ≤ length out.old }
-    ensures { Said out.old out.new at (run_head first last) result }
+fn say_run_head(out: &mut Text, first: u64, last: u64)
+    ensures { Says out.old out.new (run_head first last) }
 {
     if first == last {
-        return say_line(out, at, first);
+        say_line(out, first);
+        return;
     }
-    let word = say(out, at, b"lines ");
-    let from = say_number(out, word, first);
-    let to = say(out, from, b" to ");
-    let end = say_number(out, to, last);
-    say(out, end, b": ")
+    out.say(b"lines ");
+    out.say_number(first);
+    out.say(b" to ");
+    out.say_number(last);
+    out.say(b": ");
 }
 
 // The run without heading that is open: none is where no line lost the heading.
-fn say_run(out: &mut [u8], at: usize, t: Typist) -> usize
-    requires { at ≤ length out.old }
-    ensures { Said out.old out.new at (run_text t) result }
+fn say_run(out: &mut Text, t: Typist)
+    ensures { Says out.old out.new (run_text t) }
 {
     let c = t.counts;
     let w = t.waiting;
     match w.run {
-        None => at,
+        None => (),
         Some(run) => {
             if 20 <= c.told {
-                return at;
+                return;
             }
             let lost = t.lost.unwrap_or(Lost {
                 line: 0,
                 cause: Cause::Heading,
             });
-            let head = say_run_head(out, at, run.first, run.last);
-            let words = say(out, head, b"without heading: ");
-            let by = say_lost(out, words, lost);
-            say(out, by, b"\n")
+            say_run_head(out, run.first, run.last);
+            out.say(b"without heading: ");
+            say_lost(out, lost);
+            out.say(b"\n");
         }
     }
 }
 
-fn say_words(out: &mut [u8], at: usize, t: Typist, fate: Fate, e: Entry, text: &[u8]) -> usize
-    requires { (at ≤ length out.old) × (length e.values ≡ 13) }
-    ensures { Said out.old out.new at (words_of fate t e text.now) result }
+fn say_words(out: &mut Text, t: Typist, fate: Fate, e: Entry, text: &[u8])
+    requires { length e.values ≡ 13 }
+    ensures { Says out.old out.new (words_of fate t e text.now) }
 {
     let state = t.state;
     let a = state.account;
     match fate {
-        Fate::Unread(kind, place) => say_unread(out, at, kind, place, text),
-        Fate::Withheld => say_withheld(out, at, t.failed.unwrap_or(0)),
-        Fate::Refused(_, refusal) => say_refused(out, at, refusal, a, e, text),
-        Fate::Nothing => at,
-        Fate::Waits => at,
-        Fate::Without => at,
-        Fate::Wrote(_) => at,
+        Fate::Unread(kind, place) => say_unread(out, kind, place, text),
+        Fate::Withheld => say_withheld(out, t.failed.unwrap_or(0)),
+        Fate::Refused(_, refusal) => say_refused(out, refusal, a, e, text),
+        Fate::Nothing => (),
+        Fate::Waits => (),
+        Fate::Without => (),
+        Fate::Wrote(_) => (),
     }
 }
 
+// 0 is none: `last_heading` (proofs/Headings) speaks of it as a number.
 fn kind_written(fate: Fate) -> u64
     ensures { result ≡ kind_written fate }
 {
@@ -160,30 +153,29 @@ fn kind_written(fate: Fate) -> u64
 }
 
 // The group that a written heading or close ends.
-fn say_ended(out: &mut [u8], at: usize, kind: u64, t: Typist) -> usize
-    requires { at ≤ length out.old }
-    ensures { Said out.old out.new at (ended_text kind t) result }
+fn say_ended(out: &mut Text, kind: u64, t: Typist)
+    ensures { Says out.old out.new (ended_text kind t) }
 {
     if (kind == HEADING) | (kind == CLOSE) {
         let state = t.state;
         let a = state.account;
-        return say_group(out, at, a, t.year);
+        say_group(out, a, t.year);
+        return;
     }
-    at
 }
 
-fn say_written(out: &mut [u8], at: usize, kind: u64, t: Typist, number: u64, e: Entry) -> usize
-    requires { (at ≤ length out.old) × (length e.values ≡ 13) }
-    ensures { Said out.old out.new at (written_text kind t number e) result }
+fn say_written(out: &mut Text, kind: u64, t: Typist, number: u64, e: Entry)
+    requires { length e.values ≡ 13 }
+    ensures { Says out.old out.new (written_text kind t number e) }
 {
     if kind == 0 {
-        return at;
+        return;
     }
     let state = t.state;
     let a = state.account;
     let c = t.counts;
-    let ended = say_ended(out, at, kind, t);
-    say_unusual(out, ended, number, a, e, c.unusual)
+    say_ended(out, kind, t);
+    say_unusual(out, number, a, e, c.unusual);
 }
 
 fn is_told(fate: Fate) -> bool
@@ -201,28 +193,21 @@ fn is_told(fate: Fate) -> bool
 }
 
 // What is said of line `number` by itself.
-fn say_own(
-    out: &mut [u8],
-    at: usize,
-    t: Typist,
-    number: u64,
-    fate: Fate,
-    e: Entry,
-    text: &[u8],
-) -> usize
-    requires { (at ≤ length out.old) × (length e.values ≡ 13) }
-    ensures { Said out.old out.new at (own_text fate t number e text.now) result }
+fn say_own(out: &mut Text, t: Typist, number: u64, fate: Fate, e: Entry, text: &[u8])
+    requires { length e.values ≡ 13 }
+    ensures { Says out.old out.new (own_text fate t number e text.now) }
 {
     if !is_told(fate) {
-        return say_written(out, at, kind_written(fate), t, number, e);
+        say_written(out, kind_written(fate), t, number, e);
+        return;
     }
     let c = t.counts;
     if 20 <= c.told {
-        return at;
+        return;
     }
-    let head = say_line(out, at, number);
-    let words = say_words(out, head, t, fate, e, text);
-    say(out, words, b"\n")
+    say_line(out, number);
+    say_words(out, t, fate, e, text);
+    out.say(b"\n");
 }
 
 fn goes_on(fate: Fate) -> bool
@@ -254,24 +239,26 @@ fn has_word(fate: Fate) -> bool
 }
 
 // A run that the line ends, and the line itself.
-fn say_rest(
-    out: &mut [u8],
-    at: usize,
-    t: Typist,
-    number: u64,
-    fate: Fate,
-    e: Entry,
-    text: &[u8],
-) -> usize
-    requires { (at ≤ length out.old) × (length e.values ≡ 13) }
-    ensures { Said out.old out.new at
-        (pick (goes_on_lem fate) [] (run_text t ++ own_text fate (run_ended t) number e text.now)) result }
+fn say_rest(out: &mut Text, t: Typist, number: u64, fate: Fate, e: Entry, text: &[u8])
+    requires { length e.values ≡ 13 }
+    ensures { Says out.old out.new (pick (goes_on_lem fate) [] (run_text t ++ own_text fate (run_ended t) number e text.now)) }
 {
     if goes_on(fate) {
-        return at;
+        return;
     }
-    let run = say_run(out, at, t);
-    say_own(out, run, run_ended(t), number, fate, e, text)
+    say_run(out, t);
+    say_own(out, run_ended(t), number, fate, e, text);
+}
+
+fn tell_remark(said: &mut Text, t: Typist, number: u64, fate: Fate, e: Entry, text: &[u8])
+    requires { length e.values ≡ 13 }
+    ensures { Says said.old said.new (remark_text fate t number e text.now) }
+{
+    if !has_word(fate) {
+        return;
+    }
+    say_early(said, t, number);
+    say_rest(said, early(t), number, fate, e, text);
 }
 
 // What is said after line `number`, which says `e` in `text`; t is the typist before it.
@@ -286,110 +273,107 @@ pub(crate) fn say_remark(
     requires { length e.values ≡ 13 }
     ensures { Said out.old out.new 0 (remark_text fate t number e text.now) result }
 {
-    if !has_word(fate) {
-        return 0;
-    }
-    let head = say_early(out, 0, t, number);
-    say_rest(out, head, early(t), number, fate, e, text)
+    let mut said = Text::new(out);
+    tell_remark(&mut said, t, number, fate, e, text);
+    said.len
 }
 
 // What is said where the text ends.
 pub(crate) fn say_end_remark(out: &mut [u8], t: Typist, fate: Fate) -> usize
     ensures { Said out.old out.new 0 (end_remark fate t) result }
 {
-    let run = say_run(out, 0, t);
-    say_ended(out, run, kind_written(fate), run_ended(t))
+    let mut text = Text::new(out);
+    say_run(&mut text, t);
+    say_ended(&mut text, kind_written(fate), run_ended(t));
+    text.len
 }
 
-fn say_more(out: &mut [u8], at: usize, told: u64, what: &[u8]) -> usize
-    requires { at ≤ length out.old }
-    ensures { Said out.old out.new at (more_text told what.now) result }
+fn say_more(out: &mut Text, told: u64, what: &[u8])
+    ensures { Says out.old out.new (more_text told what.now) }
 {
     if told <= 20 {
-        return at;
+        return;
     }
-    let head = say(out, at, b"and ");
-    let count = say_number(out, head, told - 20);
-    say(out, count, what)
+    out.say(b"and ");
+    out.say_number(told - 20);
+    out.say(what);
 }
 
-fn say_no_close(out: &mut [u8], at: usize, t: Typist) -> usize
-    requires { at ≤ length out.old }
-    ensures { Said out.old out.new at (no_close_text t) result }
+fn say_no_close(out: &mut Text, t: Typist)
+    ensures { Says out.old out.new (no_close_text t) }
 {
     let h = t.heard;
     if h.words & !h.close {
-        return say(out, at, b"no close: the text ends without one\n");
+        out.say(b"no close: the text ends without one\n");
+        return;
     }
-    at
 }
 
-fn say_others(out: &mut [u8], at: usize, c: Counts) -> usize
-    requires { at ≤ length out.old }
-    ensures { Said out.old out.new at (others_text c) result }
+fn say_others(out: &mut Text, c: Counts)
+    ensures { Says out.old out.new (others_text c) }
 {
-    let u = say_number(out, at, c.unread);
-    let unread = say(out, u, b" not read, ");
-    let w = say_number(out, unread, c.without);
-    let without = say(out, w, b" without heading, ");
-    let n = say_number(out, without, c.unusual);
-    say(out, n, b" unusual\n")
+    out.say_number(c.unread);
+    out.say(b" not read, ");
+    out.say_number(c.without);
+    out.say(b" without heading, ");
+    out.say_number(c.unusual);
+    out.say(b" unusual\n");
 }
 
-fn say_counts(out: &mut [u8], at: usize, c: Counts) -> usize
-    requires { at ≤ length out.old }
-    ensures { Said out.old out.new at (counts_text c) result }
+fn say_counts(out: &mut Text, c: Counts)
+    ensures { Says out.old out.new (counts_text c) }
 {
-    let w = say_number(out, at, c.written);
-    let written = say(out, w, b" written, ");
-    let r = say_number(out, written, c.refused);
-    let refused = say(out, r, b" refused, ");
-    say_others(out, refused, c)
+    out.say_number(c.written);
+    out.say(b" written, ");
+    out.say_number(c.refused);
+    out.say(b" refused, ");
+    say_others(out, c);
 }
 
-fn say_outcome(out: &mut [u8], at: usize, closed: bool) -> usize
-    requires { at ≤ length out.old }
-    ensures { Said out.old out.new at (pick closed (ascii "closed: ") (ascii "not closed: ")) result }
+fn say_outcome(out: &mut Text, closed: bool)
+    ensures { Says out.old out.new (pick closed (ascii "closed: ") (ascii "not closed: ")) }
 {
     if closed {
-        return say(out, at, b"closed: ");
+        out.say(b"closed: ");
+        return;
     }
-    say(out, at, b"not closed: ")
+    out.say(b"not closed: ");
 }
 
 // A group that nothing ended.
-fn say_open(out: &mut [u8], t: Typist) -> usize
-    ensures { Said out.old out.new 0 (open_text t) result }
+fn say_open(out: &mut Text, t: Typist)
+    ensures { Says out.old out.new (open_text t) }
 {
     let state = t.state;
     let a = state.account;
-    if a.stage == 1 {
-        return say_group(out, 0, a, t.year);
+    if a.stage != 1 {
+        return;
     }
-    0
+    say_group(out, a, t.year);
 }
 
 // How many remarks were left out.
-fn say_left_out(out: &mut [u8], at: usize, c: Counts) -> usize
-    requires { at ≤ length out.old }
-    ensures { Said out.old out.new at (left_out_text c) result }
+fn say_left_out(out: &mut Text, c: Counts)
+    ensures { Says out.old out.new (left_out_text c) }
 {
-    let more = say_more(out, at, c.told, b" more\n");
-    say_more(out, more, c.unusual, b" more unusual\n")
+    say_more(out, c.told, b" more\n");
+    say_more(out, c.unusual, b" more unusual\n");
 }
 
 // What is said at the end; good tells that all was read and written.
 pub fn say_verdict(out: &mut [u8], t: Typist, good: bool) -> usize
     ensures { Said out.old out.new 0 (verdict_text t good) result }
 {
+    let mut text = Text::new(out);
     let state = t.state;
     let a = state.account;
     let c = t.counts;
-    let group = say_open(out, t);
-    let more = say_left_out(out, group, c);
-    let none = say_no_close(out, more, t);
-    let outcome = say_outcome(out, none, good & (a.stage == 2));
-    say_counts(out, outcome, c)
+    say_open(&mut text, t);
+    say_left_out(&mut text, c);
+    say_no_close(&mut text, t);
+    say_outcome(&mut text, good & (a.stage == 2));
+    say_counts(&mut text, c);
+    text.len
 }
 
 // The status, as a digit: 0 where the book is closed, since then no line failed.

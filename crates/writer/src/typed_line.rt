@@ -97,31 +97,29 @@ fn read_values(line: &[u8], row: u64) -> Values
     ensures { result ≡ listed (values_from 512 0 row line.now) }
 {
     let mut values = [0u64; 13];
-    let mut count = 0;
-    while count < 512 {
+    for count in 0..512 {
         let word = typed_words::word(line, count + 1);
         if word.len() == 0 {
             return Values {
-                values: values,
-                count: count,
+                values,
+                count,
                 wrong: 0,
             };
         }
         let Some(number) = read_value(word, row, count) else {
             return Values {
-                values: values,
-                count: count,
+                values,
+                count,
                 wrong: count + 2,
             };
         };
         if count < 13 {
             values[count] = number;
         }
-        count += 1;
     }
     Values {
-        values: values,
-        count: count,
+        values,
+        count: 512,
         wrong: 0,
     }
 }

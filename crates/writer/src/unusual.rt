@@ -1,7 +1,7 @@
 // Values that are unusual: they go in and are told.
 ghost use Rattle.std.specs.Prelude.{◌≡◌, ◌≤◌, length};
 ghost use Rattle.base.specs.Choice.{pick, one_more_lem};
-ghost use Rattle.printing.specs.Said.{Said};
+ghost use Rattle.printing.specs.Says.{Says};
 ghost use Rattle.writer.specs.Unusual.{who_for, is_looked_at, outside, is_unusual, unusual_after, what_text, value_remark, one_remark};
 ghost use Rattle.writer.specs.Unusual.{unusual_remarks};
 
@@ -11,6 +11,7 @@ use base::one_more;
 use codec::kinds::{CATTLE, GRAZING};
 use names::usual::{Usual, say_usual, usual_range};
 use names::{say_field, say_kind, say_unit, say_value};
+use printing::text::Text;
 use printing::{say, say_number};
 
 // Grazing goes by its column, all others by the heading's class.
@@ -72,70 +73,53 @@ pub(crate) fn unusual_after(a: Account, e: Entry, before: u64) -> u64
     count
 }
 
-fn say_what(out: &mut [u8], at: usize, e: Entry, i: usize) -> usize
-    requires { (at ≤ length out.old) × (length e.values ≡ 13) × (i ≤ 12) }
-    ensures { Said out.old out.new at (what_text e i) result }
+fn say_what(out: &mut Text, e: Entry, i: usize)
+    requires { (length e.values ≡ 13) × (i ≤ 12) }
+    ensures { Says out.old out.new (what_text e i) }
 {
     let v = e.values[i];
-    let kind = say_kind(out, at, e.kind);
-    let comma = say(out, kind, b",");
-    let field = say_field(out, comma, e.kind, i);
-    let blank = say(out, field, b" ");
-    let value = say_value(out, blank, e.kind, i, v);
-    say_unit(out, value, e.kind, i)
+    say_kind(out, e.kind);
+    out.say(b",");
+    say_field(out, e.kind, i);
+    out.say(b" ");
+    say_value(out, e.kind, i, v);
+    say_unit(out, e.kind, i);
 }
 
-fn say_value_remark(out: &mut [u8], at: usize, number: u64, who: usize, e: Entry, i: usize) -> usize
-    requires { (at ≤ length out.old) × (length e.values ≡ 13) × (i ≤ 12) }
-    ensures { Said out.old out.new at (value_remark number who e i) result }
+fn say_value_remark(out: &mut Text, number: u64, who: usize, e: Entry, i: usize)
+    requires { (length e.values ≡ 13) × (i ≤ 12) }
+    ensures { Says out.old out.new (value_remark number who e i) }
 {
-    let line = say(out, at, b"line ");
-    let n = say_number(out, line, number);
-    let word = say(out, n, b": unusual: ");
-    let what = say_what(out, word, e, i);
-    let colon = say(out, what, b": ");
-    let usual = say_usual(out, colon, e.kind, i, who);
-    say(out, usual, b"\n")
+    out.say(b"line ");
+    out.say_number(number);
+    out.say(b": unusual: ");
+    say_what(out, e, i);
+    out.say(b": ");
+    say_usual(out, e.kind, i, who);
+    out.say(b"\n");
 }
 
 // The first 20 are told.
-fn say_one(
-    out: &mut [u8],
-    at: usize,
-    number: u64,
-    who: usize,
-    e: Entry,
-    i: usize,
-    count: u64,
-) -> usize
-    requires { (at ≤ length out.old) × (length e.values ≡ 13) × (i ≤ 12) }
-    ensures { Said out.old out.new at (one_remark number who e i count) result }
+fn say_one(out: &mut Text, number: u64, who: usize, e: Entry, i: usize, count: u64)
+    requires { (length e.values ≡ 13) × (i ≤ 12) }
+    ensures { Says out.old out.new (one_remark number who e i count) }
 {
     if is_unusual(who, e, i) & !(20 <= count) {
-        return say_value_remark(out, at, number, who, e, i);
+        say_value_remark(out, number, who, e, i);
+        return;
     }
-    at
 }
 
 // What is told of the values of the entry in line `number`.
-pub(crate) fn say_unusual(
-    out: &mut [u8],
-    at: usize,
-    number: u64,
-    a: Account,
-    e: Entry,
-    before: u64,
-) -> usize
-    requires { (at ≤ length out.old) × (length e.values ≡ 13) }
-    ensures { Said out.old out.new at (unusual_remarks number a e before) result }
+pub(crate) fn say_unusual(out: &mut Text, number: u64, a: Account, e: Entry, before: u64)
+    requires { length e.values ≡ 13 }
+    ensures { Says out.old out.new (unusual_remarks number a e before) }
 {
     let who = who_for(a, e);
     let n = by_row::table::values_of(e.kind);
     let mut count = before;
-    let mut end = at;
     for i in 0..n {
-        end = say_one(out, end, number, who, e, i, count);
+        say_one(out, number, who, e, i, count);
         count = more_if(is_unusual(who, e, i), count);
     }
-    end
 }

@@ -1,5 +1,5 @@
 -- Digits as they are, or filled up. Assumes nothing.
-use Rattle.printing.proofs.Sayings.{◌⟫◌}
+use Rattle.printing.proofs.Texts.{◌⟫◌}
 use Rattle.kilograms.proofs.Threes.{amount-long, amount-short}
 use Rattle.kilograms.proofs.say_amount.Goals as goal
 
@@ -9,4 +9,4 @@ returns-then-digits-ge4 c = rw (amount-long c.args.digits.now c.if-digits-ge4.tr
 pub returns : goal.returns
 returns c =
     rw (amount-short c.args.digits.now c.if-digits-ge4.false) (
-    c.say-point.ensures ⟫ rw c.first_of.ensures at c.say-zeros.ensures ⟫ c.say.ensures)
+    c.say.ensures ⟫ rw c.first_of.ensures at c.say-2.ensures ⟫ c.say-3.ensures)

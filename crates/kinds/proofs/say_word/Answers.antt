@@ -1,8 +1,8 @@
 -- One text after another. Assumes nothing.
-use Rattle.printing.proofs.Sayings.{◌⟫◌}
+use Rattle.printing.proofs.Texts.{◌⟫◌}
 use Rattle.kinds.proofs.say_word.Goals as goal
 
 pub returns : goal.returns
 returns c = let p1 = c in
     let p2 = p1 in
-    p2.say-bar.ensures ⟫ p1.say_choice.ensures
+    p2.say.ensures ⟫ p1.say_choice.ensures

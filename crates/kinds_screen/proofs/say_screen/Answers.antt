@@ -1,26 +1,8 @@
--- The invariant: saying the rows that are left makes all after the first line. Assumes nothing.
-use mathlib.Core.Path.{refl, ◌∙◌}
-use native.Mathlib.Omega.{arith}
-use Rattle.printing.proofs.Sayings.{◌⟫◌, said-none}
-use Rattle.kinds_screen.specs.Screen.{screen_text}
-use Rattle.kinds_screen.proofs.Steps.{one-row, no_row}
-use borrow.Author.Rules.{rules}
+use Rattle.std.proofs.Common.{rules}
+use Rattle.printing.proofs.Texts.{said-from-start}
 use Rattle.kinds_screen.proofs.say_screen.Goals as goal
 
-pub loop-row-init : goal.loop-row-init
-loop-row-init c = record { same = refl; inside = search rules; rest = λ zs q p. p }
-
-pub loop-row-preserved : goal.loop-row-preserved
-loop-row-preserved c = let next = c.say_row-end.ensures in
-    let turn = c.loop-row in
-    record {
-      same = next.long ∙ turn.invariant.same;
-      inside = omega (arith, next.put.room, next.long);
-      rest = λ zs q p. turn.invariant.rest zs q (rw (one-row turn.row (omega arith)) (next ⟫ p));
-    }
-
 pub returns : goal.returns
-unfolding screen_text
-returns c = let turn = c.loop-row in
-    c.say-end.ensures
-    ⟫ turn.invariant.rest turn.out turn.end (rw (no_row turn.row (omega arith)) (said-none turn.invariant.inside))
+returns c = let whole = c.tell_screen.ensures in
+    let same = whole.same in
+    said-from-start whole c.new-text.ensures.buffer c.new-text.ensures.empty (search rules)

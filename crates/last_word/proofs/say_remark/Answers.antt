@@ -1,6 +1,9 @@
 -- One text behind another. Assumes nothing.
-use Rattle.printing.proofs.Sayings.{◌⟫◌}
+use Rattle.std.proofs.Common.{rules}
+use Rattle.printing.proofs.Texts.{said-from-start, ◌⟫◌}
 use Rattle.last_word.proofs.say_remark.Goals as goal
 
 pub returns : goal.returns
-returns c = c.say_why-why.ensures ⟫ c.say_hint.ensures
+returns c = let whole = c.say_why.ensures ⟫ c.say_hint.ensures in
+    let same = whole.same in
+    said-from-start whole c.new-text.ensures.buffer c.new-text.ensures.empty (search rules)

@@ -2,7 +2,6 @@
 -- Assumes nothing.
 use mathlib.Core.Path.{refl, sym, ◌∙◌}
 use native.Mathlib.Omega.{arith}
-use borrow.Author.Rules.{rules}
 use lib.ListN.{length-set}
 use Rattle.line_bytes.proofs.Laid.{one-read, all_read, numbers-read}
 use Rattle.line_bytes.proofs.read_numbers.Goals as goal

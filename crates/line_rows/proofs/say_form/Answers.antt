@@ -1,6 +1,6 @@
 -- One text after the other. Assumes nothing.
-use Rattle.printing.proofs.Sayings.{◌⟫◌}
+use Rattle.printing.proofs.Texts.{◌⟫◌}
 use Rattle.line_rows.proofs.say_form.Goals as goal
 
 pub returns : goal.returns
-returns c = c.say-first.ensures ⟫ c.say-names.ensures ⟫ c.say-figures.ensures ⟫ c.say.ensures
+returns c = c.say.ensures ⟫ c.say-2.ensures ⟫ c.say-3.ensures ⟫ c.say-4.ensures

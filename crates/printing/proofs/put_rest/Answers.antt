@@ -20,7 +20,7 @@ loop-v-preserved c =
       room = omega arith;
       small = omega arith;
       rest = λ zs q p. turn.invariant.rest zs q (rw (drop-cons c.args.values.now turn.v-index 0 c.loop-v-test.true)
-      (and-then put.put (rw add-one at p)));
+          (and-then put.put (rw add-one at p)));
     }
 
 pub returns : goal.returns

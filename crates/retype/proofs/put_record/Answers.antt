@@ -13,8 +13,8 @@ row_at-row-requires c = omega (arith, c.requires.typable.long)
 pub read-values-requires : goal.read-values-requires
 read-values-requires c = let v = values-there c.args.bytes.now c.requires.typable c.row_at-row.ensures in (v.0, omega (arith, v.1))
 
-pub say_kind-name-requires : goal.say_kind-name-requires
-say_kind-name-requires c = omega (arith, c.requires.line_most_in_bounds)
+pub put_kind-name-requires : goal.put_kind-name-requires
+put_kind-name-requires c = omega (arith, c.requires.line_most_in_bounds)
 
 pub slice_bounds-values-end : goal.slice_bounds-values-end
 slice_bounds-values-end c = let m = count_most c.args.bytes.now c.requires.typable c.row_at-row.ensures c.values_of-n.ensures in search rules
@@ -28,7 +28,7 @@ put_values-end-requires c = let r = c.args.bytes.now in
     let t = c.requires.typable in
     let k = c.row_at-row.ensures in
     let v = values-first r t k c.values_of-n.ensures c.read-values.ensures in
-    let p = name-put r t k c.requires.line_most_in_bounds c.say_kind-name.ensures in
+    let p = name-put r t k c.requires.line_most_in_bounds c.put_kind-name.ensures in
     let of = values-typable r t k v in
     record {
       of = of.0;
@@ -41,7 +41,7 @@ put_byte-requires c = let r = c.args.bytes.now in
     let t = c.requires.typable in
     let k = c.row_at-row.ensures in
     let v = values-first r t k c.values_of-n.ensures c.read-values.ensures in
-    let p = name-put r t k c.requires.line_most_in_bounds c.say_kind-name.ensures in
+    let p = name-put r t k c.requires.line_most_in_bounds c.put_kind-name.ensures in
     let q = c.put_values-end.ensures in
     omega (arith, c.requires.line_most_in_bounds, name-end r t k p, values-few r t k v, put-length p, put-length q.put, q.upper_bound)
 
@@ -50,7 +50,7 @@ returns c = let r = c.args.bytes.now in
     let t = c.requires.typable in
     let k = c.row_at-row.ensures in
     let v = values-first r t k c.values_of-n.ensures c.read-values.ensures in
-    let p = name-put r t k c.requires.line_most_in_bounds c.say_kind-name.ensures in
+    let p = name-put r t k c.requires.line_most_in_bounds c.put_kind-name.ensures in
     let q = c.put_values-end.ensures in
     let e = c.put_byte.ensures in
     record {

@@ -1,6 +1,4 @@
 -- A blank and a value, one after the other. Assumes nothing.
-use Prim.Native.Nat.{◌-◌}
-use lib.ListN.{length}
 use Rattle.retype.proofs.Steps.{Putting}
 use Rattle.retype.proofs.put_values.Given as goal
 

@@ -7,14 +7,6 @@ pub part-name-requires : goal.part-name-requires
 unfolding figure_names
 part-name-requires c = search rules
 
-pub say-requires : goal.say-requires
-unfolding figure_names
-say-requires c = search rules
-
-pub shape_of-out : goal.shape_of-out
-unfolding figure_names
-shape_of-out c = search rules
-
 pub returns : goal.returns
 unfolding figure_names
 returns c = rw c.part-name.ensures at c.say.ensures

@@ -1,6 +1,6 @@
 -- Assumes nothing.
-use Rattle.printing.proofs.Sayings.{◌⟫◌}
+use Rattle.printing.proofs.Texts.{◌⟫◌}
 use Rattle.compare.proofs.figures.say_named.Goals as goal
 
 pub returns : goal.returns
-returns c = c.say-blanks.ensures ⟫ c.say_name-name.ensures ⟫ c.say-blank.ensures ⟫ c.say_kilograms-amount.ensures ⟫ c.say.ensures
+returns c = c.say.ensures ⟫ c.say_name.ensures ⟫ c.say-2.ensures ⟫ c.say_kilograms.ensures ⟫ c.say-3.ensures

@@ -1,6 +1,6 @@
 -- Assumes nothing.
-use Rattle.printing.proofs.Sayings.{◌⟫◌}
+use Rattle.printing.proofs.Texts.{◌⟫◌}
 use Rattle.compare.proofs.figures.say_now.Goals as goal
 
 pub returns : goal.returns
-returns c = c.say-now.ensures ⟫ c.say_kilograms-amount.ensures ⟫ c.say-comma.ensures ⟫ c.say_change.ensures
+returns c = c.say.ensures ⟫ c.say_kilograms.ensures ⟫ c.say-2.ensures ⟫ c.say_change.ensures

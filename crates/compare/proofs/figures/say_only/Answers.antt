@@ -1,6 +1,6 @@
 -- Assumes nothing.
-use Rattle.printing.proofs.Sayings.{◌⟫◌}
+use Rattle.printing.proofs.Texts.{◌⟫◌}
 use Rattle.compare.proofs.figures.say_only.Goals as goal
 
 pub returns : goal.returns
-returns c = c.say-what.ensures ⟫ c.say-only.ensures ⟫ c.say_figures.ensures
+returns c = c.say.ensures ⟫ c.say-2.ensures ⟫ c.say_figures.ensures

@@ -1,6 +1,6 @@
 -- Assumes nothing.
-use native.Mathlib.Omega.{arith}
-use Rattle.printing.proofs.Sayings.{◌⟫◌}
+use Rattle.std.proofs.Common.{rules}
+use Rattle.printing.proofs.Texts.{◌⟫◌, said-from-start}
 use Rattle.compare.proofs.NextGroups.{both-silent, both_told}
 use Rattle.compare.proofs.groups.both_step.Goals as goal
 
@@ -17,12 +17,14 @@ pub returns-then-is_silent : goal.returns-then-is_silent
 returns-then-is_silent c = both-silent _ _ c.args.p c.args.q _ _ _ _ c.same_first-under.ensures c.open_both-d.ensures.value c.is_silent.ensures
     c.if-is_silent.true
 
-pub say_next_pair-headings-requires : goal.say_next_pair-headings-requires
-say_next_pair-headings-requires c = let s = c.say_title-title.ensures in (omega (arith, s.put.room, s.long), c.requires.0, c.requires.1)
+pub say_next_pair-requires : goal.say_next_pair-requires
+say_next_pair-requires c = (c.requires.0, c.requires.1)
 
-pub say_moved_in-end-requires : goal.say_moved_in-end-requires
-say_moved_in-end-requires c = let s = c.say_next_pair-headings.ensures in (omega (arith, s.put.room, s.long), c.open_both-d.ensures.opens)
+pub say_moved_in-requires : goal.say_moved_in-requires
+say_moved_in-requires c = c.open_both-d.ensures.opens
 
 pub returns : goal.returns
-returns c = both_told _ _ c.args.p c.args.q _ _ _ _ c.same_first-under.ensures c.open_both-d.ensures.value c.is_silent.ensures _ _ c.args.group
-    c.if-is_silent.false c.requires.2 (c.say_title-title.ensures ⟫ c.say_next_pair-headings.ensures ⟫ c.say_moved_in-end.ensures)
+returns c = let whole = c.say_title.ensures ⟫ c.say_next_pair.ensures ⟫ c.say_moved_in.ensures in
+    let same = whole.same in
+    both_told _ _ c.args.p c.args.q _ _ _ _ c.same_first-under.ensures c.open_both-d.ensures.value c.is_silent.ensures _ _ c.args.group
+    c.if-is_silent.false c.requires.2 (said-from-start whole c.new-text.ensures.buffer c.new-text.ensures.empty (search rules))

@@ -8,14 +8,6 @@ pub alike_on-requires : goal.alike_on-requires
 unfolding last_text
 alike_on-requires c = search rules
 
-pub say-requires : goal.say-requires
-unfolding last_text
-say-requires c = search rules
-
-pub shape_of-out-then-alike_on : goal.shape_of-out-then-alike_on
-unfolding last_text
-shape_of-out-then-alike_on c = search rules
-
 pub returns-then-alike_on : goal.returns-then-alike_on
 unfolding last_text
 returns-then-alike_on c = rw (sym c.alike_on.ensures ∙ c.if-alike_on.true) c.say.ensures
@@ -24,26 +16,10 @@ pub same_each-requires : goal.same_each-requires
 unfolding last_text
 same_each-requires c = search rules
 
-pub say-requires-then-same_each : goal.say-requires-then-same_each
-unfolding last_text
-say-requires-then-same_each c = search rules
-
-pub shape_of-out-then-same_each : goal.shape_of-out-then-same_each
-unfolding last_text
-shape_of-out-then-same_each c = search rules
-
 pub returns-then-same_each : goal.returns-then-same_each
 unfolding last_text
 returns-then-same_each c = rw (sym c.alike_on.ensures ∙ c.if-alike_on.false, sym c.same_each.ensures ∙ c.if-same_each.true)
     c.say-then-same_each.ensures
-
-pub say-requires-2 : goal.say-requires-2
-unfolding last_text
-say-requires-2 c = search rules
-
-pub shape_of-out : goal.shape_of-out
-unfolding last_text
-shape_of-out c = search rules
 
 pub returns : goal.returns
 unfolding last_text

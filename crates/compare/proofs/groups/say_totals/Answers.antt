@@ -50,11 +50,7 @@ overflow_add-say_sum c = search rules
 
 pub say_sum-requires : goal.say_sum-requires
 unfolding total_text
-say_sum-requires c = (omega arith, omega arith)
-
-pub shape_of-out : goal.shape_of-out
-unfolding total_text
-shape_of-out c = search rules
+say_sum-requires c = omega arith
 
 pub returns : goal.returns
 unfolding total_text

@@ -1,15 +1,8 @@
-use native.Mathlib.Omega.{arith}
-use Rattle.printing.proofs.Sayings.{said-none}
+use Rattle.std.proofs.Common.{rules}
+use Rattle.printing.proofs.Texts.{said-from-start}
 use Rattle.compare.proofs.remarks.say_hint.Goals as goal
 
-pub returns-in-Book : goal.returns-in-Book
-returns-in-Book c = rw c.in-Book.is (said-none (omega arith))
-
-pub returns-in-Nothing : goal.returns-in-Nothing
-returns-in-Nothing c = let e = c.in-Nothing.is in rw e (rw e at c.say_with_hint.ensures)
-
-pub returns-in-Typed : goal.returns-in-Typed
-returns-in-Typed c = let e = c.in-Typed.is in rw e (rw e at c.say_with_hint-in-Typed.ensures)
-
-pub returns-in-Sheet : goal.returns-in-Sheet
-returns-in-Sheet c = let e = c.in-Sheet.is in rw e (rw e at c.say_with_hint-in-Sheet.ensures)
+pub returns : goal.returns
+returns c = let whole = c.tell_hint.ensures in
+    let same = whole.same in
+    said-from-start whole c.new-text.ensures.buffer c.new-text.ensures.empty (search rules)

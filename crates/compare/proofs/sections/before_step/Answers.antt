@@ -1,6 +1,6 @@
 -- Assumes nothing.
-use native.Mathlib.Omega.{arith}
-use Rattle.printing.proofs.Sayings.{◌⟫◌}
+use Rattle.std.proofs.Common.{rules}
+use Rattle.printing.proofs.Texts.{◌⟫◌, said-from-start}
 use Rattle.compare.proofs.Pieces.{before-silent, before-told}
 use Rattle.compare.proofs.sections.before_step.Goals as goal
 
@@ -13,9 +13,11 @@ is_silent-requires c = let o = c.open-d.ensures.opens in (o.old, o.new)
 pub returns-then-is_silent : goal.returns-then-is_silent
 returns-then-is_silent c = before-silent _ _ c.args.c _ _ _ c.open-d.ensures.value c.is_silent.ensures c.if-is_silent.true
 
-pub say_moved_in-end-requires : goal.say_moved_in-end-requires
-say_moved_in-end-requires c = let s = c.say-title.ensures in (omega (arith, s.put.room, s.long), c.open-d.ensures.opens)
+pub say_moved_in-requires : goal.say_moved_in-requires
+say_moved_in-requires c = c.open-d.ensures.opens
 
 pub returns : goal.returns
-returns c = before-told _ _ c.args.c _ _ _ _ _ c.open-d.ensures.value c.is_silent.ensures c.if-is_silent.false
-    (c.say-title.ensures ⟫ c.say_moved_in-end.ensures)
+returns c = let whole = c.say.ensures ⟫ c.say_moved_in.ensures in
+    let same = whole.same in
+    before-told _ _ c.args.c _ _ _ _ _ c.open-d.ensures.value c.is_silent.ensures c.if-is_silent.false
+    (said-from-start whole c.new-text.ensures.buffer c.new-text.ensures.empty (search rules))

@@ -2,7 +2,7 @@
 use Prim.Native.Nat.{◌<◌}
 use native.Mathlib.Omega.{arith}
 use borrow.Author.Rules.{rules}
-use Rattle.printing.proofs.Sayings.{said-none}
+use Rattle.printing.proofs.Texts.{says-none}
 use Rattle.compare.proofs.Pieces.{alone-none, alone-some}
 use Rattle.compare.proofs.Walks.{passed-left}
 use Rattle.compare.proofs.sections.say_next_alone.Goals as goal
@@ -15,7 +15,7 @@ turn-t-requires c = (c.requires.range, search rules)
 
 pub returns-then-t-eq0 : goal.returns-then-t-eq0
 returns-then-t-eq0 c = rw (alone-none c.args.new c.args.p.number _ ((rw c.rest_of-rest.ensures at c.turn-t.ensures.turned).ended c.if-t-eq0.true))
-    (said-none (omega arith))
+    says-none
 
 pub first_of-requires : goal.first_of-requires
 first_of-requires c = c.turn-t.ensures.turned.inside
@@ -24,7 +24,7 @@ pub first_of-requires-2 : goal.first_of-requires-2
 first_of-requires-2 c = c.turn-t.ensures.written.inside
 
 pub say_alone-requires : goal.say_alone-requires
-say_alone-requires c = (omega arith, rw c.first_of.ensures (c.turn-t.ensures.turned.readable (omega (arith, c.if-t-eq0.false))))
+say_alone-requires c = rw c.first_of.ensures (c.turn-t.ensures.turned.readable (omega (arith, c.if-t-eq0.false)))
 
 pub returns : goal.returns
 returns c = let k : 0 < c.turn-t.result.n = omega (arith, c.if-t-eq0.false) in

@@ -1,14 +1,8 @@
--- Kilograms or nothing, and a line end. Assumes nothing.
-use mathlib.Core.Path.{sym, ◌∙◌}
-use Rattle.printing.proofs.Sayings.{◌⟫◌}
-use Rattle.kilograms.specs.Lines.{line_text}
+use Rattle.std.proofs.Common.{rules}
+use Rattle.printing.proofs.Texts.{said-from-start}
 use Rattle.kilograms.proofs.lines.say_line.Goals as goal
 
-pub returns-then-has_grams : goal.returns-then-has_grams
-unfolding line_text
-returns-then-has_grams c =
-    rw (sym c.has_grams.ensures ∙ c.if-has_grams.true) (rw c.word.ensures at c.say_kilograms-end.ensures ⟫ c.say.ensures)
-
 pub returns : goal.returns
-unfolding line_text
-returns c = rw (sym c.has_grams.ensures ∙ c.if-has_grams.false) c.say-2.ensures
+returns c = let whole = c.tell_line.ensures in
+    let same = whole.same in
+    said-from-start whole c.new-text.ensures.buffer c.new-text.ensures.empty (search rules)

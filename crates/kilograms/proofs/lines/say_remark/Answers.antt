@@ -1,15 +1,8 @@
--- Nothing, or the number of the line. Assumes nothing.
-use native.Mathlib.Omega.{arith}
-use mathlib.Core.Path.{sym, ◌∙◌}
-use Rattle.printing.proofs.Sayings.{◌⟫◌, said-none}
-use Rattle.kilograms.specs.Lines.{remark_text}
+use Rattle.std.proofs.Common.{rules}
+use Rattle.printing.proofs.Texts.{said-from-start}
 use Rattle.kilograms.proofs.lines.say_remark.Goals as goal
 
-pub returns-then-is_right : goal.returns-then-is_right
-unfolding remark_text
-returns-then-is_right c = rw (sym c.is_right.ensures ∙ c.if-is_right.true) (said-none (omega arith))
-
 pub returns : goal.returns
-unfolding remark_text
-returns c =
-    rw (sym c.is_right.ensures ∙ c.if-is_right.false) (c.say-start.ensures ⟫ c.say_number-end.ensures ⟫ c.say.ensures)
+returns c = let whole = c.tell_remark.ensures in
+    let same = whole.same in
+    said-from-start whole c.new-text.ensures.buffer c.new-text.ensures.empty (search rules)

@@ -1,8 +1,8 @@
-use Rattle.printing.proofs.Sayings.{said-none}
+use Rattle.printing.proofs.Texts.{says-none}
 use Rattle.names.proofs.hints.say_hint.Goals as goal
 
 pub returns-in-Book : goal.returns-in-Book
-returns-in-Book c = rw c.in-Book.is (said-none c.requires)
+returns-in-Book c = rw c.in-Book.is says-none
 
 pub returns-in-Nothing : goal.returns-in-Nothing
 returns-in-Nothing c = rw c.in-Nothing.is c.say.ensures

@@ -1,4 +1,4 @@
-use Rattle.printing.proofs.Sayings.{◌⟫◌}
+use Rattle.printing.proofs.Texts.{◌⟫◌}
 use Rattle.names.specs.Usual.{usual_text}
 use Rattle.names.proofs.usual.say_usual.Goals as goal
 
@@ -6,9 +6,9 @@ pub returns : goal.returns
 unfolding usual_text
 returns c =
     rw (c.unwrap_or-u.ensures, c.usual_range.ensures) at (
-    c.say-word.ensures
-    ⟫ c.say_for-whom.ensures
-    ⟫ c.say-is.ensures
-    ⟫ c.say_value-low.ensures
+    c.say.ensures
+    ⟫ c.say_for.ensures
+    ⟫ c.say-2.ensures
+    ⟫ c.say_value.ensures
     ⟫ c.say_to.ensures
     )

@@ -1,5 +1,5 @@
 -- One text after the other. Assumes nothing.
-use Rattle.printing.proofs.Sayings.{◌⟫◌}
+use Rattle.printing.proofs.Texts.{◌⟫◌}
 use Rattle.page.specs.Bars.{bar_text}
 use Rattle.page.proofs.bars.say_bar.Goals as goal
 
@@ -8,8 +8,8 @@ unfolding bar_text
 returns c = rw (
   c.place-p.ensures,
   c.place-q.ensures,
-) at (c.say-first.ensures
-    ⟫ c.say_rect-second.ensures
-    ⟫ c.say-third.ensures
-    ⟫ c.say_mark-fourth.ensures
-    ⟫ c.say.ensures)
+) at (c.say.ensures
+    ⟫ c.say_rect.ensures
+    ⟫ c.say-2.ensures
+    ⟫ c.say_mark.ensures
+    ⟫ c.say-3.ensures)

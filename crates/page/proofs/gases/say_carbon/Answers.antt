@@ -1,13 +1,13 @@
 -- One text after the other. Assumes nothing.
-use Rattle.printing.proofs.Sayings.{◌⟫◌}
+use Rattle.printing.proofs.Texts.{◌⟫◌}
 use Rattle.page.specs.Parts.{carbon_text}
 use Rattle.page.proofs.gases.say_carbon.Goals as goal
 
 pub returns : goal.returns
 unfolding carbon_text
-returns c = c.say-first.ensures
-    ⟫ c.say_figure-second.ensures
-    ⟫ c.say-third.ensures
-    ⟫ c.say_kilograms-fourth.ensures
-    ⟫ c.say-fifth.ensures
+returns c = c.say.ensures
+    ⟫ c.say_figure.ensures
+    ⟫ c.say-2.ensures
     ⟫ c.say_kilograms.ensures
+    ⟫ c.say-3.ensures
+    ⟫ c.say_kilograms-2.ensures

@@ -1,11 +1,11 @@
 -- One text after the other. Assumes nothing.
-use Rattle.printing.proofs.Sayings.{◌⟫◌}
+use Rattle.printing.proofs.Texts.{◌⟫◌}
 use Rattle.page.specs.Parts.{groups_foot}
 use Rattle.page.proofs.rest.say_groups_foot.Goals as goal
 
 pub returns : goal.returns
 unfolding groups_foot
-returns c = c.say-first.ensures
-    ⟫ c.say_figures-second.ensures
-    ⟫ c.say_together-third.ensures
-    ⟫ c.say.ensures
+returns c = c.say.ensures
+    ⟫ c.say_figures.ensures
+    ⟫ c.say_together.ensures
+    ⟫ c.say-2.ensures

@@ -1,5 +1,5 @@
 -- By the spaces that are left, which fall. Assumes nothing.
-use Rattle.printing.proofs.Sayings.{◌⟫◌}
+use Rattle.printing.proofs.Texts.{◌⟫◌}
 use Rattle.page.proofs.Texts.{threes-none, threes-small, threes-more}
 use Rattle.page.proofs.text.+say_threes.Goals as goal
 
@@ -12,4 +12,4 @@ returns-then-v-lt1000 t c = rw (threes-small c.args.most c.args.v c.if-v-lt1000.
 pub returns : goal.returns
 returns t c =
     rw (threes-more c.args.most c.args.v c.if-most-eq0.false c.if-v-lt1000.false)
-    (c.say_threes-first.ensures ⟫ c.say-second.ensures ⟫ c.say_three.ensures)
+    (c.say_threes.ensures ⟫ c.say.ensures ⟫ c.say_three.ensures)

@@ -16,4 +16,4 @@ returns c = let e = c in
     let s = t in
     let v = t.turn-t.ensures in
     let h : 0 < t.turn-t.result.n = omega (arith, e.if-t-eq0.false) in
-    let r = tells-one v h s.requires.0 (omega (arith, s.requires.1)) _ _ _ _ s.requires.2 c.say_line-end.ensures in record { tells = r.0; written_bound = (r.1, v.inside, v.opened); number_bound = omega (arith, v.number h) }
+    let r = tells-one v h s.requires.0 (omega (arith, s.requires.1)) _ _ _ _ s.requires.2 c.put_line-end.ensures in record { tells = r.0; written_bound = (r.1, v.inside, v.opened); number_bound = omega (arith, v.number h) }

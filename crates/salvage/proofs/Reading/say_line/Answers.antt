@@ -1,4 +1,4 @@
-use Rattle.printing.proofs.Sayings.{◌⟫◌}
+use Rattle.printing.proofs.Texts.{◌⟫◌}
 use Rattle.salvage.specs.Lines.{dropped_text}
 use Rattle.salvage.proofs.Reading.say_line.Goals as goal
 
@@ -6,11 +6,11 @@ pub returns-in-Some : goal.returns-in-Some
 unfolding dropped_text
 returns-in-Some c =
     rw c.in-Some.is (
-    c.say-word.ensures
-    ⟫ c.say_number-which.ensures
-    ⟫ c.say-dropped.ensures
-    ⟫ c.say_number-why.ensures
-    ⟫ c.say-colon.ensures
-    ⟫ c.say_words-words.ensures
-    ⟫ c.say.ensures
+    c.say.ensures
+    ⟫ c.say_number.ensures
+    ⟫ c.say-in-Some.ensures
+    ⟫ c.say_number-in-Some.ensures
+    ⟫ c.say-in-Some-2.ensures
+    ⟫ c.say_words.ensures
+    ⟫ c.say-in-Some-3.ensures
     )

@@ -1,6 +1,8 @@
-use Rattle.printing.proofs.Sayings.{◌⟫◌}
+use Rattle.std.proofs.Common.{rules}
+use Rattle.printing.proofs.Texts.{said-from-start}
 use Rattle.salvage.proofs.remarks.say_end.Goals as goal
 
-pub returns-in-Ok : goal.returns-in-Ok
-returns-in-Ok c = rw c.in-Ok.is (c.say_reading-at.ensures ⟫ (rw c.kept_in.ensures at
-    c.say_saved.ensures))
+pub returns : goal.returns
+returns c = let whole = c.tell_end.ensures in
+    let same = whole.same in
+    said-from-start whole c.new-text.ensures.buffer c.new-text.ensures.empty (search rules)

@@ -1,6 +1,6 @@
-use Rattle.printing.proofs.Sayings.{◌⟫◌}
+use Rattle.printing.proofs.Texts.{◌⟫◌}
 use Rattle.salvage.proofs.remarks.say_place.Goals as goal
 
 pub returns : goal.returns
-returns c = c.say-word.ensures ⟫
-    c.say_number-byte.ensures ⟫ c.say.ensures
+returns c = c.say.ensures ⟫
+    c.say_number.ensures ⟫ c.say-2.ensures

@@ -1,6 +1,6 @@
-use Rattle.printing.proofs.Sayings.{◌⟫◌}
+use Rattle.printing.proofs.Texts.{◌⟫◌}
 use Rattle.salvage.proofs.remarks.say_unread.Goals as goal
 
 pub returns : goal.returns
-returns c = c.say-mark.ensures ⟫
-    c.say_number-count.ensures ⟫ c.say.ensures
+returns c = c.say.ensures ⟫
+    c.say_number.ensures ⟫ c.say-2.ensures

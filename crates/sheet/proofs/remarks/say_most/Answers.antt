@@ -1,5 +1,5 @@
-use Rattle.printing.proofs.Sayings.{◌⟫◌}
+use Rattle.printing.proofs.Texts.{◌⟫◌}
 use Rattle.sheet.proofs.remarks.say_most.Goals as goal
 
 pub returns : goal.returns
-returns c = c.say-word.ensures ⟫ c.say_number-number.ensures ⟫ c.say.ensures
+returns c = c.say.ensures ⟫ c.say_number.ensures ⟫ c.say-2.ensures

@@ -1,6 +1,5 @@
-use Rattle.printing.proofs.Sayings.{◌⟫◌}
+use Rattle.printing.proofs.Texts.{◌⟫◌}
 use Rattle.sheet.proofs.remarks.say_refused.Goals as goal
 
 pub returns : goal.returns
-returns c =
-    c.say_people-people.ensures ⟫ c.say-word.ensures ⟫ (rw c.code.ensures at c.say_number-number.ensures) ⟫ c.say_row-end.ensures ⟫ c.say.ensures
+returns c = c.say_people.ensures ⟫ c.say.ensures ⟫ c.say_number.ensures ⟫ c.say_row.ensures ⟫ c.say-2.ensures

@@ -1,17 +1,18 @@
 -- One text after another. Assumes nothing.
-use Rattle.std.proofs.Common.{◌≡◌, ℕ, Bool, List, drop, rules}
+use Rattle.std.proofs.Common.{◌≡◌, Bool, drop, rules}
 use Rattle.printing.specs.Ascii.{ascii}
-use Rattle.printing.specs.Said.{Said}
-use Rattle.printing.proofs.Sayings.{◌⟫◌}
+use Rattle.printing.specs.Says.{Says}
+use Rattle.printing.specs.declared.text.Text.{Text}
+use Rattle.printing.proofs.Texts.{◌⟫◌}
 use Rattle.table.specs.declared.Seen.{Seen}
 use Rattle.table.specs.Seen.{is_closed}
 use Rattle.table.specs.Rows.{cells_text, figures_text}
 use Rattle.table.proofs.rows.say_figures_of.Goals as goal
 
 -- the cells are those of a closed book where it is closed
-said-figures : {out mid new : List ℕ} {at n m : ℕ} (s : Seen) {b : Bool} → Said out mid at (cells_text b 2 (drop 2 s.numbers)) n
-    → Said mid new n (ascii "\r\n") m → b ≡ is_closed s → Said out new at (figures_text s) m
+said-figures : {t u v : Text} (s : Seen) {b : Bool} → Says t u (cells_text b 2 (drop 2 s.numbers)) → Says u v (ascii "\r\n") → b ≡ is_closed s
+    → Says t v (figures_text s)
 said-figures s p q e = rw (← e) (p ⟫ q)
 
 pub returns : goal.returns
-returns c = said-figures c.args.s c.say_figures-figures.ensures c.say.ensures (search rules)
+returns c = said-figures c.args.s c.say_figures.ensures c.say.ensures (search rules)

@@ -1,13 +1,8 @@
--- By what the line asks. Assumes nothing.
-use Rattle.std.proofs.Common.{arith}
-use Rattle.whatif.proofs.Tellings.{answer-by, said-nothing}
+use Rattle.std.proofs.Common.{rules}
+use Rattle.printing.proofs.Texts.{said-from-start}
 use Rattle.whatif.proofs.telling.say_answer.Goals as goal
 
-pub returns-in-Nothing : goal.returns-in-Nothing
-returns-in-Nothing c = answer-by c.args.line.now c.read_line-asked.ensures c.in-Nothing.is (said-nothing _ 0 (omega arith))
-
-pub returns-in-Estimate : goal.returns-in-Estimate
-returns-in-Estimate c = answer-by c.args.line.now c.read_line-asked.ensures c.in-Estimate.is c.say_slip.ensures
-
-pub returns-in-Wrong : goal.returns-in-Wrong
-returns-in-Wrong c = answer-by c.args.line.now c.read_line-asked.ensures c.in-Wrong.is (said-nothing _ 0 (omega arith))
+pub returns : goal.returns
+returns c = let whole = c.tell_answer.ensures in
+    let same = whole.same in
+    said-from-start whole c.new-text.ensures.buffer c.new-text.ensures.empty (search rules)

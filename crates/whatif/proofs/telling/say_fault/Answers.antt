@@ -1,5 +1,5 @@
 -- By the fault. Assumes nothing.
-use Rattle.printing.proofs.Sayings.{◌⟫◌}
+use Rattle.printing.proofs.Texts.{◌⟫◌}
 use Rattle.whatif.specs.Told.{fault_text}
 use Rattle.whatif.proofs.telling.say_fault.Goals as goal
 
@@ -13,11 +13,11 @@ returns-in-TooFew c = rw c.in-TooFew.is c.say-in-TooFew.ensures
 
 pub returns-in-TooMany : goal.returns-in-TooMany
 unfolding fault_text
-returns-in-TooMany c = rw c.in-TooMany.is (c.say-end.ensures ⟫ (rw c.word.ensures at c.say_quoted.ensures))
+returns-in-TooMany c = rw c.in-TooMany.is (c.say-in-TooMany.ensures ⟫ (rw c.word.ensures at c.say_quoted.ensures))
 
 pub returns-in-NoChange : goal.returns-in-NoChange
 unfolding fault_text
-returns-in-NoChange c = rw c.in-NoChange.is ((rw c.word-in-NoChange.ensures at c.say_quoted-end.ensures) ⟫ c.say-in-NoChange.ensures)
+returns-in-NoChange c = rw c.in-NoChange.is ((rw c.word-in-NoChange.ensures at c.say_quoted-in-NoChange.ensures) ⟫ c.say-in-NoChange.ensures)
 
 pub returns-in-NoNumber : goal.returns-in-NoNumber
 unfolding fault_text

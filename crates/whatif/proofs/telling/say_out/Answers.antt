@@ -1,10 +1,10 @@
 -- The parts, one behind the other. Assumes nothing.
-use Rattle.printing.proofs.Sayings.{◌⟫◌}
+use Rattle.printing.proofs.Texts.{◌⟫◌}
 use Rattle.whatif.proofs.telling.say_out.Goals as goal
 
 pub returns : goal.returns
 returns c =
-    c.say_changed-changed.ensures
-    ⟫ (rw c.out_place-place.ensures at c.say_column-name.ensures)
-    ⟫ c.say-end.ensures
+    c.say_changed.ensures
+    ⟫ (rw c.out_place-place.ensures at c.say_column.ensures)
+    ⟫ c.say.ensures
     ⟫ (rw (c.row_of-row.ensures, c.out_place-place.ensures) at c.say_expected.ensures)

@@ -1,10 +1,10 @@
-use Rattle.printing.proofs.Sayings.{◌⟫◌}
+use Rattle.printing.proofs.Texts.{◌⟫◌}
 use Rattle.why.proofs.remarks.say_place.Goals as goal
 
 pub returns : goal.returns
-returns c = c.say-a.ensures
-    ⟫ c.say_number-b.ensures
-    ⟫ c.say-c.ensures
-    ⟫ c.say_number-d.ensures
-    ⟫ c.say-e.ensures
+returns c = c.say.ensures
     ⟫ c.say_number.ensures
+    ⟫ c.say-2.ensures
+    ⟫ c.say_number-2.ensures
+    ⟫ c.say-3.ensures
+    ⟫ c.say_number-3.ensures

@@ -1,7 +1,7 @@
 use borrow.Author.Tests.{ne_eqb}
-use Rattle.printing.proofs.Sayings.{◌⟫◌}
+use Rattle.printing.proofs.Texts.{◌⟫◌}
 use Rattle.why.proofs.remarks.say_position.Goals as goal
 
 pub returns : goal.returns
 returns c = rw (ne_eqb _ _ c.if-field-eq0.false)
-    (c.say-a.ensures ⟫ c.say_number.ensures)
+    (c.say.ensures ⟫ c.say_number.ensures)

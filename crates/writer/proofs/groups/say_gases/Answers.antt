@@ -1,6 +1,6 @@
 -- One text after another. Assumes nothing.
-use Rattle.printing.proofs.Sayings.{◌⟫◌}
+use Rattle.printing.proofs.Texts.{◌⟫◌}
 use Rattle.writer.proofs.groups.say_gases.Goals as goal
 
 pub returns : goal.returns
-returns c = rw c.grams-n2o.ensures at (c.say_gas-first.ensures ⟫ c.say_gas.ensures)
+returns c = rw c.grams-n2o.ensures at (c.say_gas.ensures ⟫ c.say_gas-2.ensures)

@@ -1,7 +1,7 @@
 -- By what the word is. Assumes nothing.
 use mathlib.Core.Path.{sym, ◌∙◌}
 use borrow.Author.Tests.{eq-eqb, ne_eqb}
-use Rattle.printing.proofs.Sayings.{◌⟫◌}
+use Rattle.printing.proofs.Texts.{◌⟫◌}
 use Rattle.writer.specs.Remarks.{none_text}
 use Rattle.writer.proofs.lines.say_none.Goals as goal
 
@@ -18,7 +18,7 @@ returns-then-is_number c = rw (
   sym c.is_number.ensures
       ∙ c.if-is_number.true,
 ) (rw c.decimals-decimals.ensures.value at
-    (c.say-head.ensures ⟫ c.say_number.ensures))
+    (c.say-then-is_number.ensures ⟫ c.say_number.ensures))
 
 pub returns-then-has_comma : goal.returns-then-has_comma
 unfolding none_text

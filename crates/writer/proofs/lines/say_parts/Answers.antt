@@ -1,6 +1,6 @@
 -- One text after another. Assumes nothing.
-use Rattle.printing.proofs.Sayings.{◌⟫◌}
+use Rattle.printing.proofs.Texts.{◌⟫◌}
 use Rattle.writer.proofs.lines.say_parts.Goals as goal
 
 pub returns : goal.returns
-returns c = rw c.sum.ensures at (c.say-head.ensures ⟫ c.say_pointed.ensures)
+returns c = rw c.sum.ensures at (c.say.ensures ⟫ c.say_pointed.ensures)

@@ -1,6 +1,6 @@
 -- One text behind another. Assumes nothing.
-use Rattle.printing.proofs.Sayings.{◌⟫◌}
+use Rattle.printing.proofs.Texts.{◌⟫◌}
 use Rattle.writer.proofs.lines.say_sentence.Goals as goal
 
 pub returns : goal.returns
-returns c = c.say-colon.ensures ⟫ c.say_sentence.ensures
+returns c = c.say.ensures ⟫ c.say_sentence.ensures

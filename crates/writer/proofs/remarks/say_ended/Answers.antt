@@ -1,5 +1,5 @@
 -- A heading or the close. Assumes nothing.
-use Rattle.printing.proofs.Sayings.{said-none}
+use Rattle.printing.proofs.Texts.{says-none}
 use Rattle.writer.specs.Remarks.{ended_text}
 use Rattle.writer.proofs.remarks.say_ended.Goals as goal
 
@@ -9,4 +9,4 @@ returns-then-kind c = rw c.if-kind.true c.say_group.ensures
 
 pub returns : goal.returns
 unfolding ended_text
-returns c = rw c.if-kind.false (said-none c.requires)
+returns c = rw c.if-kind.false says-none

@@ -1,11 +1,11 @@
 -- By the cause. Assumes nothing.
-use Rattle.printing.proofs.Sayings.{◌⟫◌}
+use Rattle.printing.proofs.Texts.{◌⟫◌}
 use Rattle.writer.specs.Remarks.{lost_text}
 use Rattle.writer.proofs.remarks.say_lost.Goals as goal
 
 pub returns-in-Heading : goal.returns-in-Heading
 unfolding lost_text
-returns-in-Heading c = rw c.in-Heading.is (c.say-head.ensures ⟫ c.say_number-line.ensures ⟫ c.say.ensures)
+returns-in-Heading c = rw c.in-Heading.is (c.say.ensures ⟫ c.say_number.ensures ⟫ c.say-in-Heading.ensures)
 
 pub returns-in-Unread : goal.returns-in-Unread
 unfolding lost_text

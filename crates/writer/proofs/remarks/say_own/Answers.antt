@@ -1,7 +1,7 @@
 -- Twenty are told. Assumes nothing.
 use mathlib.Core.Path.{sym, ◌∙◌}
 use borrow.Author.Tests.{le-leb, lt-leb}
-use Rattle.printing.proofs.Sayings.{◌⟫◌, said-none}
+use Rattle.printing.proofs.Texts.{◌⟫◌, says-none}
 use Rattle.writer.specs.Remarks.{own_text}
 use Rattle.writer.proofs.remarks.say_own.Goals as goal
 
@@ -17,8 +17,7 @@ returns-then-c-ge20 c = rw (
   sym c.is_told.ensures
       ∙ c.if-not-is_told.false,
   le-leb _ _ c.if-c-ge20.true,
-) (said-none
-    c.requires.0)
+) says-none
 
 pub returns : goal.returns
 unfolding own_text
@@ -27,4 +26,4 @@ returns c = rw (
       ∙ c.if-not-is_told.false,
   lt-leb _ _ c.if-c-ge20.false,
 )
-    (c.say_line-head.ensures ⟫ c.say_words-words.ensures ⟫ c.say.ensures)
+    (c.say_line.ensures ⟫ c.say_words.ensures ⟫ c.say.ensures)

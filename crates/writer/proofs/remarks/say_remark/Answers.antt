@@ -1,15 +1,8 @@
--- A line with a word. Assumes nothing.
-use native.Mathlib.Omega.{arith}
-use mathlib.Core.Path.{sym, ◌∙◌}
-use Rattle.printing.proofs.Sayings.{◌⟫◌, said-none}
-use Rattle.writer.specs.Remarks.{remark_text}
+use Rattle.std.proofs.Common.{rules}
+use Rattle.printing.proofs.Texts.{said-from-start}
 use Rattle.writer.proofs.remarks.say_remark.Goals as goal
 
-pub returns-then-not-has_word : goal.returns-then-not-has_word
-unfolding remark_text
-returns-then-not-has_word c = rw (sym c.has_word.ensures ∙ c.if-not-has_word.true) (said-none (omega arith))
-
 pub returns : goal.returns
-unfolding remark_text
-returns c = rw (sym c.has_word.ensures ∙ c.if-not-has_word.false) (rw c.early.ensures at
-    (c.say_early-head.ensures ⟫ c.say_rest.ensures))
+returns c = let whole = c.tell_remark.ensures in
+    let same = whole.same in
+    said-from-start whole c.new-said.ensures.buffer c.new-said.ensures.empty (search rules)

@@ -1,6 +1,6 @@
 -- One line or more. Assumes nothing.
 use borrow.Author.Tests.{eq-eqb, ne_eqb}
-use Rattle.printing.proofs.Sayings.{◌⟫◌}
+use Rattle.printing.proofs.Texts.{◌⟫◌}
 use Rattle.writer.proofs.remarks.say_run_head.Goals as goal
 
 pub returns-then-first-last : goal.returns-then-first-last
@@ -8,4 +8,4 @@ returns-then-first-last c = rw (eq-eqb _ _ c.if-first-last.true) c.say_line.ensu
 
 pub returns : goal.returns
 returns c = rw (ne_eqb _ _ c.if-first-last.false)
-    (c.say-word.ensures ⟫ c.say_number-from.ensures ⟫ c.say-to.ensures ⟫ c.say_number-end.ensures ⟫ c.say.ensures)
+    (c.say.ensures ⟫ c.say_number.ensures ⟫ c.say-2.ensures ⟫ c.say_number-2.ensures ⟫ c.say-3.ensures)

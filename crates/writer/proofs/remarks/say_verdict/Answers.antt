@@ -1,9 +1,12 @@
 -- One text after another. Assumes nothing.
-use Rattle.printing.proofs.Sayings.{◌⟫◌}
+use Rattle.std.proofs.Common.{rules}
+use Rattle.printing.proofs.Texts.{said-from-start, ◌⟫◌}
 use Rattle.writer.specs.Remarks.{verdict_text}
 use Rattle.writer.proofs.remarks.say_verdict.Goals as goal
 
 pub returns : goal.returns
 unfolding verdict_text
-returns c = c.say_open-group.ensures ⟫ c.say_left_out-more.ensures ⟫ c.say_no_close-none.ensures ⟫ c.say_outcome-outcome.ensures
-    ⟫ c.say_counts.ensures
+returns c = let whole = c.say_open.ensures ⟫ c.say_left_out.ensures ⟫ c.say_no_close.ensures ⟫ c.say_outcome.ensures
+    ⟫ c.say_counts.ensures in
+    let same = whole.same in
+    said-from-start whole c.new-text.ensures.buffer c.new-text.ensures.empty (search rules)

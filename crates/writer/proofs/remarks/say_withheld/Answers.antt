@@ -1,6 +1,6 @@
 -- One text behind another. Assumes nothing.
-use Rattle.printing.proofs.Sayings.{◌⟫◌}
+use Rattle.printing.proofs.Texts.{◌⟫◌}
 use Rattle.writer.proofs.remarks.say_withheld.Goals as goal
 
 pub returns : goal.returns
-returns c = c.say-head.ensures ⟫ c.say_number-line.ensures ⟫ c.say.ensures
+returns c = c.say.ensures ⟫ c.say_number.ensures ⟫ c.say-2.ensures

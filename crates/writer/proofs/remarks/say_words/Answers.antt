@@ -1,5 +1,5 @@
 -- By what became of the line. Assumes nothing.
-use Rattle.printing.proofs.Sayings.{said-none}
+use Rattle.printing.proofs.Texts.{says-none}
 use Rattle.writer.specs.Remarks.{words_of}
 use Rattle.writer.proofs.remarks.say_words.Goals as goal
 
@@ -17,16 +17,16 @@ returns-in-Refused c = rw c.in-Refused.is c.say_refused.ensures
 
 pub returns-in-Nothing : goal.returns-in-Nothing
 unfolding words_of
-returns-in-Nothing c = rw c.in-Nothing.is (said-none c.requires.0)
+returns-in-Nothing c = rw c.in-Nothing.is says-none
 
 pub returns-in-Waits : goal.returns-in-Waits
 unfolding words_of
-returns-in-Waits c = rw c.in-Waits.is (said-none c.requires.0)
+returns-in-Waits c = rw c.in-Waits.is says-none
 
 pub returns-in-Without : goal.returns-in-Without
 unfolding words_of
-returns-in-Without c = rw c.in-Without.is (said-none c.requires.0)
+returns-in-Without c = rw c.in-Without.is says-none
 
 pub returns-in-Wrote : goal.returns-in-Wrote
 unfolding words_of
-returns-in-Wrote c = rw c.in-Wrote.is (said-none c.requires.0)
+returns-in-Wrote c = rw c.in-Wrote.is says-none

@@ -3,7 +3,7 @@ use mathlib.Core.Path.{◌≡◌}
 use lib.ListN.{length, take}
 use Rattle.printing.specs.Decimal.{Put}
 use Rattle.names.specs.Names.{shown}
-use Rattle.names.proofs.say_shown.Given as goal
+use Rattle.names.proofs.put_shown.Given as goal
 
 -- so much of the word stands in the buffer
 abbrev pub invariant-loop-i : goal.invariant-loop-i

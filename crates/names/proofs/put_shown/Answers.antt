@@ -4,7 +4,7 @@ use native.Mathlib.Nat.{add-zero}
 use lib.ListN.{length-set}
 use Rattle.printing.proofs.Puts.{none}
 use Rattle.names.proofs.Shown.{one_more, all_shown}
-use Rattle.names.proofs.say_shown.Goals as goal
+use Rattle.names.proofs.put_shown.Goals as goal
 
 pub loop-i-preserved : goal.loop-i-preserved
 loop-i-preserved c =

@@ -1,0 +1,8 @@
+use Rattle.std.proofs.Common.{rules}
+use Rattle.printing.proofs.Texts.{said-from-start}
+use Rattle.names.proofs.hints.say_hint_alone.Goals as goal
+
+pub returns : goal.returns
+returns c = let whole = c.say_hint.ensures in
+    let same = whole.same in
+    said-from-start whole c.new-text.ensures.buffer c.new-text.ensures.empty (search rules)
