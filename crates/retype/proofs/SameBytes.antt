@@ -29,7 +29,7 @@ use Rattle.writer.specs.Typist.{beginning, hears, waits, written_as, Turn, turn,
 use Rattle.writer.specs.Text.{line_turn}
 use Rattle.writer.specs.Parts.{Output, output, whole}
 use Rattle.std.specs.Prelude.{None, is_some}
-use Rattle.writer.proofs.Remembered.{no_some, some_of}
+use Rattle.writer.proofs.Remembered.{no_some, some_of, line-is}
 use Rattle.writer.proofs.Fates.{end-closing, end-open}
 use Rattle.retype.specs.Typed.{line_typed, text_typed, Accepted, AllAccepted, account_behind, typed_whole, SameBytes}
 use Rattle.make_record.specs.Write.{Ready}
@@ -143,8 +143,9 @@ module _ (a : Account) (f : AccountInRange a) (r : List ℕ) (q : Accepted a r)
       let ls = lines_from (one_more_lem n) [] in
       let turn_is = line-turn (close-again (holding a []) state-ready r q.whole q.bytes q.taken t e c n k) in
       let waiting = waits (hears t (kind_byte r)) n in
+      let some : waiting.waiting.close ≡ None → ⊥ = λ z. no_some (sym (line-is n h) ∙ z) in
       let closing =
-      one-waits waiting no_some c.run ∙ closed-again (holding a []) state-ready r q.whole q.bytes q.taken waiting e k in
+      one-waits waiting some c.run ∙ closed-again (holding a []) state-ready r q.whole q.bytes q.taken waiting e k in
       let typist = first-typist t line ls turn_is ∙ end-typist waiting (one_more_lem n) ∙ ap (λ (x : Turn). x.typist) closing in
       rw (lines_are []) (record {
         bytes =

@@ -33,7 +33,7 @@ use Rattle.writer.specs.Line.{line_said, completed_of, values_in, write_entry}
 use Rattle.writer.specs.declared.Typist.{Typist}
 use Rattle.std.specs.Prelude.{Option, None, Some, is_some}
 use Rattle.writer.specs.declared.Run.{Run}
-use Rattle.writer.proofs.Remembered.{no_some, none_of, some_of, some_not}
+use Rattle.writer.proofs.Remembered.{no_some, none_of, some_of, some_not, line-is}
 use Rattle.writer.specs.Typist.{first_failed, beginning, hears, early_by, early, ended_by, run_ended, withheld, headless, Turn, by_answer, by_write}
 use Rattle.writer.specs.Typist.{close_by}
 use Rattle.writer.specs.Typist.{judged_turn, record_turn, by_said, turn, own_close, end_by, end_turn}
@@ -117,8 +117,9 @@ pub record Settled (t v : Typist) : Type 0 where
   pub close : v.waiting.close ≡ None
   pub failed : v.failed ≡ None → (t.failed ≡ None) × (t.waiting.close ≡ None)
 
-first-not : (f : Option ℕ) (n : ℕ) → first_failed f n ≡ None → ⊥
-first-not f n = no_some
+first-not : (f : Option ℕ) (n : ℕ) → 1 ≤ n → first_failed f n ≡ None → ⊥
+first-not None n l z = no_some (sym (line-is n l) ∙ z)
+first-not (Some first) n l z = no_some z
 
 settled-early : (t : Typist) (k : ℕ) → Settled t (early (hears t k))
 unfolding early
@@ -126,7 +127,7 @@ settled-early t k = go t.waiting.close refl
   where
     go : (o : Option ℕ) → t.waiting.close ≡ o → Settled t (early_by o (hears t k))
     go None z = record { state = refl; close = z; failed = λ f. (f, z) }
-    go (Some close) z = record { state = refl; close = refl; failed = λ e. absurd (first-not t.failed close e) }
+    go (Some close) z = record { state = refl; close = refl; failed = λ e. absurd (no_some e) }
 
 settled-ended : (t u : Typist) → Settled t u → Settled t (run_ended u)
 unfolding run_ended
@@ -169,7 +170,7 @@ module _ (m : Mark) (h : List ℕ) (t v : Typist) (kept : Kept m h t) (open-yet 
   close-after eight g = go (write_entry v.state e 28).answer refl
     where
       go : (a : Answer) → (write_entry v.state e 28).answer ≡ a → After t e (close_by a v n e)
-      go (Err r) q = fails _ refl set.close (first-not v.failed n)
+      go (Err r) q = fails _ refl set.close (first-not v.failed n l)
       go (Ok u) q =
           let d = completed_of e v.state.account.records in
           let kind : d.kind ≡ 8 = completed-kind e v.state.account.records ∙ eight in
@@ -185,7 +186,7 @@ module _ (m : Mark) (h : List ℕ) (t v : Typist) (kept : Kept m h t) (open-yet 
               inr (record {
                 bytes = refl;
                 state = set.state;
-                close = no_some;
+                close = λ z. no_some (sym (line-is n l) ∙ z);
                 own =
                     ap (λ (x : State). record_said x.account.records e) (sym set.state)
                     ∙ close-said d v.state.account.records kind (right-count v.state (values_in d) 28 so)
@@ -228,7 +229,7 @@ module _ (m : Mark) (h : List ℕ) (t v : Typist) (kept : Kept m h t) (open-yet 
       go : (a : Answer) → (write_entry v.state e 28).answer ≡ a
           → After t e (by_answer a v n e (write_entry v.state e 28).state (write_entry v.state e 28).bytes)
       go (Ok u) q = wrote_after k q
-      go (Err r) q = fails _ refl set.close (first-not v.failed n)
+      go (Err r) q = fails _ refl set.close (first-not v.failed n l)
 
   turn-after : After t e (judged_turn v n e 28)
   unfolding judged_turn
@@ -240,7 +241,7 @@ record-after : (m : Mark) (h : List ℕ) (t u : Typist) → Kept m h t → t.sta
     → After t e (record_turn u n e 28)
 unfolding record_turn
 record-after m h t u k o s e n l =
-    of-choice (After t e) (headless u e) (λ _. fails m h t u k o s e n l _ refl s.close (first-not u.failed n))
+    of-choice (After t e) (headless u e) (λ _. fails m h t u k o s e n l _ refl s.close (first-not u.failed n l))
     (λ _. turn-after m h t (run_ended u) k o (settled-ended t u s) e n l)
 
 -- ---- a line
@@ -257,7 +258,7 @@ said-did m h t k o said.Nothing e n l = (refl, refl)
 said-did m h t k o said.Record e n l = record-after m h t (early (hears t e.kind)) k o (settled-early t e.kind) e n l
 said-did m h t k o (said.Wrong kind place) e n l =
     let s = settled-ended t (early (hears t kind)) (settled-early t kind) in
-    (rw s.state o, (s.close, first-not (run_ended (early (hears t kind))).failed n))
+    (rw s.state o, (s.close, first-not (run_ended (early (hears t kind))).failed n l))
 
 -- ---- all lines
 

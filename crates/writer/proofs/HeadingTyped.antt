@@ -40,13 +40,13 @@ use Rattle.writer.specs.declared.Cause.{Cause}
 use Rattle.writer.specs.declared.Cause.TheVariants as causes
 use Rattle.writer.specs.declared.Lost.{Lost}
 use Rattle.writer.specs.declared.Run.{Run}
-use Rattle.std.specs.Prelude.{Option, None, Some, is_some}
+use Rattle.std.specs.Prelude.{Option, None, Some, is_some, option_map}
 use Rattle.writer.specs.Typist.{may_head, not_lost, lost_by, beginning, hears, early_by, early, ended_by, run_ended, refused_at, written_as, withheld}
-use Rattle.writer.specs.Typist.{headless}
+use Rattle.writer.specs.Typist.{headless, lost_in}
 use Rattle.writer.specs.Typist.{Turn, by_answer, by_write, close_by, judged_turn, record_turn, by_said, turn}
 use Rattle.writer.specs.Remarks.{kind_written}
 use Rattle.writer.specs.Text.{line_turn, typed_by}
-use Rattle.writer.proofs.Remembered.{no_some, none_of}
+use Rattle.writer.proofs.Remembered.{no_some, none_of, line-is}
 use Rattle.writer.specs.Headings.{Mark, none, unknown, heading, mark_said, mark_line, text_of, last_mark, last_heading, Under}
 
 -- ---- kinds
@@ -101,11 +101,14 @@ pub record Kept (m : Mark) (h : List ℕ) (t : Typist) : Type 0 where
   pub empty : t.state.count ≡ 0
   pub under : t.lost ≡ None → t.state.account.stage < 2 → (t.state.account.heading.class ≡ 0) ⊎ Under m h
 
+lost-some : (n : ℕ) (cause : Cause) → 1 ≤ n → lost_in n cause ≡ None → ⊥
+lost-some n cause l z = no_some (sym (ap (option_map (λ line. lost_by line cause)) (line-is n l)) ∙ z)
+
 -- a line that may have been a heading loses it
-still-lost : (b : Bool) (n : ℕ) (cause : Cause) (lost : Option Lost) (m : Mark) (h : List ℕ) (A : Type 0)
-    → pick b (Some (lost_by n cause)) lost ≡ None → (lost ≡ None → A ⊎ Under m h) → A ⊎ Under (pick b unknown m) h
-still-lost true n cause lost m h A z f = absurd (no_some z)
-still-lost false n cause lost m h A z f = f z
+still-lost : (b : Bool) (n : ℕ) (cause : Cause) (lost : Option Lost) (m : Mark) (h : List ℕ) (A : Type 0) → 1 ≤ n
+    → pick b (lost_in n cause) lost ≡ None → (lost ≡ None → A ⊎ Under m h) → A ⊎ Under (pick b unknown m) h
+still-lost true n cause lost m h A l z f = absurd (lost-some n cause l z)
+still-lost false n cause lost m h A l z f = f z
 
 -- what is kept goes by the state and the lost heading alone
 kept_same : (m : Mark) (h : List ℕ) (t x : Typist) → Kept m h t → x.state ≡ t.state → x.lost ≡ t.lost → Kept m h x
@@ -195,7 +198,7 @@ module _ (m : Mark) (h : List ℕ) (t : Typist) (k : Kept m h t) (e : Entry) whe
   -- refused by the number code, which is 3 for a kind that the book has not
   refused-keeps : (n : ℕ) → 1 ≤ n → (code : ℕ) → (t.state.account.stage < 2 → ltb e.kind 1 || ltb last_kind e.kind ≡ true → code ≡ 3)
       → (x : Typist)
-      → x.state ≡ t.state → x.lost ≡ pick (eqb e.kind 2 || eqb code 3) (Some (lost_by n (pick (eqb e.kind 2) causes.Heading causes.Refused))) t.lost
+      → x.state ≡ t.state → x.lost ≡ pick (eqb e.kind 2 || eqb code 3) (lost_in n (pick (eqb e.kind 2) causes.Heading causes.Refused)) t.lost
       → Kept (mark_said said.Record e m) h x
   refused-keeps n l code g x a b =
       record {
@@ -207,12 +210,12 @@ module _ (m : Mark) (h : List ℕ) (t : Typist) (k : Kept m h t) (e : Entry) whe
             (λ o. eq-eqb code 3 (g (rw a at early) o)) (λ y. k.under y (rw a at early)));
       }
     where
-      marks : {A : Type 0} (two out three' : Bool) (cause : Cause) → pick (two || three') (Some (lost_by n cause)) t.lost ≡ None
+      marks : {A : Type 0} (two out three' : Bool) (cause : Cause) → pick (two || three') (lost_in n cause) t.lost ≡ None
           → (out ≡ true → three' ≡ true) → (t.lost ≡ None → A ⊎ Under m h)
           → A ⊎ Under (pick two (heading e) (pick (two || out) unknown m)) h
-      marks true out c cause z g f = absurd (no_some z)
-      marks false true c cause z g f = absurd (no_some (rw (g refl) at z))
-      marks false false true cause z g f = absurd (no_some z)
+      marks true out c cause z g f = absurd (lost-some n cause l z)
+      marks false true c cause z g f = absurd (lost-some n cause l (rw (g refl) at z))
+      marks false false true cause z g f = absurd (lost-some n cause l z)
       marks false false false cause z g f = f z
 
   -- written: a heading is the one marked, and any other record keeps what was
@@ -315,7 +318,7 @@ said-keeps m h t k n l (said.Wrong kind place) e =
     record {
       range = y.range;
       empty = y.empty;
-      under = λ z early'. still-lost (may_head kind) n (pick (eqb kind 2) causes.Heading causes.Unread) x.lost m h _ z (λ w. y.under w early');
+      under = λ z early'. still-lost (may_head kind) n (pick (eqb kind 2) causes.Heading causes.Unread) x.lost m h _ l z (λ w. y.under w early');
     }
 
 pub line-keeps : (m : Mark) (h : List ℕ) (t : Typist) → Kept m h t → (l : Numbered) → 1 ≤ l.number

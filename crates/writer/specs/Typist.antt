@@ -4,7 +4,7 @@
 -- book's, by a heading that is refused and by a line refused by 3, and found again by a heading that is written. A close that waits is written at the
 -- end of the text; a line with a word that comes after it makes it too early: it is not written, and counts as a line that failed.
 use Rattle.std.specs.Prelude.{ℕ, ◌%◌, Bool, true, false, ◌&&◌, ◌||◌, not, List, [], ◌++◌, length, get_or, drop, eqb, ltb}
-use Rattle.std.specs.Prelude.{Option, None, Some, Ok, Err, is_some, unwrap_or}
+use Rattle.std.specs.Prelude.{Option, None, Some, Ok, Err, is_some, option_map, unwrap_or}
 use Rattle.base.specs.Choice.{pick, one_more_lem}
 use Rattle.codec.specs.Table.{last_kind, record_most}
 use Rattle.account.specs.Sorts.{is_of_group}
@@ -35,9 +35,16 @@ may_head k = eqb k 2 || (ltb k 1 || ltb last_kind k)
 
 -- ---- what a typist remembers, part by part
 
+-- a line numbered 0 is none
+abbrev pub line_named : ℕ → Option ℕ
+line_named n = pick (eqb n 0) None (Some n)
+
 -- line n lost the heading: its kind is a heading, or it may have been one and was not read or refused
 abbrev pub lost_by : ℕ → Cause → Lost
 lost_by n cause = record { line = n; cause = cause }
+
+abbrev pub lost_in : ℕ → Cause → Option Lost
+lost_in n cause = option_map (λ line. lost_by line cause) (line_named n)
 
 abbrev pub not_lost : Option Lost
 not_lost = None
@@ -47,9 +54,9 @@ abbrev pub waiting_for : Option ℕ → Option Run → Waiting
 waiting_for close run = record { close = close; run = run }
 
 -- a run goes on with line n, or begins with it
-abbrev pub run_with : Option Run → ℕ → Run
-run_with None n = record { first = n; last = n }
-run_with (Some r) n = record { first = r.first; last = n }
+abbrev pub run_with : Option Run → ℕ → Option Run
+run_with None n = option_map (λ line. record { first = line; last = line }) (line_named n)
+run_with (Some r) n = Some (record { first = r.first; last = n })
 
 -- one message more
 abbrev pub one_told : Counts → Counts
@@ -90,7 +97,8 @@ one_written c unusual =
 
 -- the first line that failed
 abbrev pub first_failed : Option ℕ → ℕ → Option ℕ
-first_failed failed n = Some (unwrap_or failed n)
+first_failed None n = line_named n
+first_failed (Some first) n = Some first
 
 -- ---- the typist
 
@@ -120,7 +128,7 @@ hears t k =
       heard = record { words = true; close = t.heard.close || eqb k 8 };
     }
 
--- the close that waits is too early
+-- the close that waits is too early, and its line has failed
 abbrev pub early_by : Option ℕ → Typist → Typist
 early_by None t = t
 early_by (Some close) t =
@@ -128,7 +136,7 @@ early_by (Some close) t =
       state = t.state;
       year = t.year;
       lost = t.lost;
-      failed = first_failed t.failed close;
+      failed = Some (unwrap_or t.failed close);
       waiting = waiting_for None t.waiting.run;
       counts = one_told t.counts;
       heard = t.heard;
@@ -160,7 +168,7 @@ not_read t n k =
     record {
       state = t.state;
       year = t.year;
-      lost = pick (may_head k) (Some (lost_by n (pick (eqb k 2) causes.Heading causes.Unread))) t.lost;
+      lost = pick (may_head k) (lost_in n (pick (eqb k 2) causes.Heading causes.Unread)) t.lost;
       failed = first_failed t.failed n;
       waiting = t.waiting;
       counts = one_unread t.counts;
@@ -188,7 +196,7 @@ waits t n =
       year = t.year;
       lost = t.lost;
       failed = t.failed;
-      waiting = waiting_for (Some n) t.waiting.run;
+      waiting = waiting_for (line_named n) t.waiting.run;
       counts = t.counts;
       heard = t.heard;
     }
@@ -201,7 +209,7 @@ unheaded t n =
       year = t.year;
       lost = t.lost;
       failed = first_failed t.failed n;
-      waiting = waiting_for t.waiting.close (Some (run_with t.waiting.run n));
+      waiting = waiting_for t.waiting.close (run_with t.waiting.run n);
       counts = one_without t.counts;
       heard = t.heard;
     }
@@ -212,7 +220,7 @@ refused_at t n k code =
     record {
       state = t.state;
       year = t.year;
-      lost = pick (eqb k 2 || eqb code 3) (Some (lost_by n (pick (eqb k 2) causes.Heading causes.Refused))) t.lost;
+      lost = pick (eqb k 2 || eqb code 3) (lost_in n (pick (eqb k 2) causes.Heading causes.Refused)) t.lost;
       failed = first_failed t.failed n;
       waiting = t.waiting;
       counts = one_refused t.counts;

@@ -5,8 +5,8 @@ ghost use Rattle.codec.specs.Table.{record_most};
 ghost use Rattle.writer.specs.declared.typed_line.Line.{Line};
 ghost use Rattle.writer.specs.declared.Cause.TheVariants as causes;
 ghost use Rattle.writer.specs.Line.{write_entry};
-ghost use Rattle.writer.specs.Typist.{one_told, one_unread, one_refused, one_without, one_written};
-ghost use Rattle.writer.specs.Typist.{may_head, first_failed, lost_by, run_with, hears, early, run_ended, not_read, withholding, waits, unheaded};
+ghost use Rattle.writer.specs.Typist.{one_told, one_unread, one_refused, one_without, one_written, line_named};
+ghost use Rattle.writer.specs.Typist.{may_head, first_failed, lost_in, run_with, hears, early, run_ended, not_read, withholding, waits, unheaded};
 ghost use Rattle.writer.specs.Typist.{refused_at, days_of_year, written_as, withheld, headless, close_by, judged_turn, record_turn, by_said};
 ghost use Rattle.writer.specs.Typist.{closing_turn, end_turn, entered_of, entered_by, turn_laid};
 
@@ -19,25 +19,38 @@ use book::State;
 use codec::kinds::{CLOSE, FARM, HEADING};
 use make_record::Written;
 
+// A line numbered 0 is none.
+fn line_named(number: u64) -> Option<u64>
+    ensures { result ≡ line_named number }
+{
+    if number == 0 {
+        return None;
+    }
+    Some(number)
+}
+
 fn first_failed(failed: Option<u64>, number: u64) -> Option<u64>
     ensures { result ≡ first_failed failed number }
 {
-    Some(failed.unwrap_or(number))
+    match failed {
+        None => line_named(number),
+        Some(first) => Some(first),
+    }
 }
 
 // A run goes on with line `number`, or begins with it.
-fn run_with(run: Option<Run>, number: u64) -> Run
+fn run_with(run: Option<Run>, number: u64) -> Option<Run>
     ensures { result ≡ run_with run number }
 {
     match run {
-        None => Run {
-            first: number,
-            last: number,
-        },
-        Some(open) => Run {
+        None => line_named(number).map(|line| Run {
+            first: line,
+            last: line,
+        }),
+        Some(open) => Some(Run {
             first: open.first,
             last: number,
-        },
+        }),
     }
 }
 
@@ -117,7 +130,7 @@ pub(crate) fn early(mut t: Typist) -> Typist
         Some(close) => {
             let counts = t.counts;
             let told = one_told(counts);
-            t.failed = first_failed(t.failed, close);
+            t.failed = Some(t.failed.unwrap_or(close));
             t.waiting = Waiting {
                 close: None,
                 run: w.run,
@@ -165,11 +178,18 @@ fn cause_of(kind: u64, other: Cause) -> Cause
     other
 }
 
+// The heading lost in a line; one numbered 0 loses none.
+fn lost_in(line: u64, cause: Cause) -> Option<Lost>
+    ensures { result ≡ lost_in line cause }
+{
+    line_named(line).map(|line| Lost { line, cause })
+}
+
 fn lost_by(may: bool, line: u64, cause: Cause, before: Option<Lost>) -> Option<Lost>
-    ensures { result ≡ pick may (Some (lost_by line cause)) before }
+    ensures { result ≡ pick may (lost_in line cause) before }
 {
     if may {
-        return Some(Lost { line, cause });
+        return lost_in(line, cause);
     }
     before
 }
@@ -226,7 +246,7 @@ fn waits(mut t: Typist, number: u64) -> Typist
     ensures { result ≡ waits t number }
 {
     let mut w = t.waiting;
-    w.close = Some(number);
+    w.close = line_named(number);
     t.waiting = w;
     t
 }
@@ -237,7 +257,7 @@ fn unheaded(mut t: Typist, number: u64) -> Typist
     let mut w = t.waiting;
     let counts = t.counts;
     let counted = one_without(counts);
-    w.run = Some(run_with(w.run, number));
+    w.run = run_with(w.run, number);
     t.failed = first_failed(t.failed, number);
     t.waiting = w;
     t.counts = counted;

@@ -9,4 +9,4 @@ returns-in-None c = rw c.in-None.is refl
 
 pub returns-in-Some : goal.returns-in-Some
 unfolding early
-returns-in-Some c = rw (c.in-Some.is, c.first_failed-t.ensures, c.one_told-told.ensures) refl
+returns-in-Some c = rw (c.in-Some.is, c.unwrap_or.ensures, c.one_told-told.ensures) refl

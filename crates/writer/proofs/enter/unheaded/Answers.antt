@@ -3,4 +3,4 @@ use mathlib.Core.Path.{refl}
 use Rattle.writer.proofs.enter.unheaded.Goals as goal
 
 pub returns : goal.returns
-returns c = rw (c.first_failed-t.ensures, c.run_with.ensures, c.one_without-counted.ensures) refl
+returns c = rw (c.first_failed-t.ensures, c.run_with-w.ensures, c.one_without-counted.ensures) refl

@@ -3,4 +3,4 @@ use mathlib.Core.Path.{refl}
 use Rattle.writer.proofs.enter.waits.Goals as goal
 
 pub returns : goal.returns
-returns c = refl
+returns c = rw c.line_named-w.ensures refl
