@@ -19,6 +19,8 @@ use Rattle.salvage.proofs.lines.report_lines.Kinds as dropped
 use Rattle.salvage.proofs.lines.report_lines.Reads as dropped-contract
 use Rattle.salvage.proofs.remarks.say_end.Kinds as last
 use Rattle.salvage.proofs.remarks.say_end.Reads as last-contract
+use Rattle.salvage.proofs.remarks.say_answer.Kinds as answered
+use Rattle.salvage.proofs.remarks.say_answer.Reads as answered-contract
 use Rattle.salvage.proofs.remarks.say_too_long.Kinds as too_long
 use Rattle.salvage.proofs.remarks.say_too_long.Reads as too-long-contract
 use Rattle.salvage.proofs.remarks.status.Kinds as digit
@@ -75,6 +77,13 @@ say-end-asks-nothing κs args = tt
 -- The last word.
 pub one-say-end : OneAnswerWith last.ps last.r last-contract.Learnt (λ κs e. e.0.now)
 one-say-end κs args f g e e' p q = one-put p.put q.put
+
+pub say-answer-asks-nothing : AsksNothing answered.ps answered-contract.Asked
+say-answer-asks-nothing κs args = tt
+
+-- The last words of an answer as it is given.
+pub one-say-answer : OneAnswerWith answered.ps answered.r answered-contract.Learnt (λ κs e. e.0.now)
+one-say-answer κs args f g e e' p q = one-put p.put q.put
 
 pub say-too-long-asks-nothing : AsksNothing too_long.ps too-long-contract.Asked
 say-too-long-asks-nothing κs args = tt

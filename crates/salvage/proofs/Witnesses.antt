@@ -17,7 +17,7 @@ use Rattle.book.specs.WholeRecords.{records_by, records_of}
 use Rattle.book.specs.State.{no_record_yet}
 use Rattle.book.specs.Run.{book_by, book, run}
 use Rattle.salvage.specs.declared.Unsaved.TheVariants.{NoFarm, NoRoom}
-use Rattle.salvage.specs.Salvage.{dropped_by, found, list_of, farm_among, refusing, saving, answering, salvage_of}
+use Rattle.salvage.specs.Salvage.{dropped_by, found, list_of, farm_among, numbers, refusing, saving, answering, salvage_of}
 use Rattle.salvage.specs.declared.how_far.Ending.TheVariants.{AtEnd, AtClose, NoLength, NotWhole}
 use Rattle.salvage.specs.HowFar.{reached, end_of}
 use Rattle.salvage.specs.Promised.{under_headings, details}
@@ -93,6 +93,10 @@ pub no-farm-19 : salvage_of (joined (heading 1 ∷ close 1 ∷ [])) 0 0 ≡ refu
 unfolding salvage_of answering found records_of records_by front val_at dropped_by first judge accepted sort_of table size values_at first_bad in_place_lem
     farm_among
 no-farm-19 = refl
+
+-- the paper's numbers of both
+pub paper-codes : (numbers (refusing NoRoom).answer ≡ 16 ∷ []) × (numbers (refusing NoFarm).answer ≡ 19 ∷ [])
+paper-codes = (refl, refl)
 
 -- ---- farm records of version 2
 

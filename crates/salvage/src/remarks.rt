@@ -3,10 +3,10 @@ ghost use Rattle.std.specs.Prelude.{◌≡◌, ◌≤◌, length};
 ghost use Rattle.printing.specs.Said.{Said};
 ghost use Rattle.printing.specs.Says.{Says};
 ghost use Rattle.salvage.specs.Remarks.{ending_text, place_text, unread_text, reading_text};
-ghost use Rattle.salvage.specs.Remarks.{kept_in, saved_text, refused_text, end_text, too_long_text, status_byte};
+ghost use Rattle.salvage.specs.Remarks.{kept_in, saved_text, refused_text, end_text, by_number, too_long_text, status_byte};
 
-use crate::Lengths;
 use crate::how_far::{Ending, ReadingEnd};
+use crate::{Lengths, Unsaved};
 use codec::numbers::be16;
 use printing::text::Text;
 use printing::{say, say_number};
@@ -103,6 +103,21 @@ pub fn say_end(out: &mut [u8], answer: Result<Lengths, u8>, end: ReadingEnd, boo
     let mut text = Text::new(out);
     tell_end(&mut text, answer, end, book);
     text.len
+}
+
+// The same of an answer as `salvage` gives it: a refusal is told by its number.
+pub fn say_answer(
+    out: &mut [u8],
+    answer: Result<Lengths, Unsaved>,
+    end: ReadingEnd,
+    book: &[u8],
+) -> usize
+    ensures { Said out.old out.new 0 (end_text (by_number answer) end book.now) result }
+{
+    match answer {
+        Ok(lengths) => say_end(out, Ok(lengths), end, book),
+        Err(why) => say_end(out, Err(why.number()), end, book),
+    }
 }
 
 // That the book is longer than the program has room for, from the start of out.

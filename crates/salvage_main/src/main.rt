@@ -150,11 +150,7 @@ fn tell_end(
     book: &[u8],
 ) -> bool {
     let mut text = [0u8; 512];
-    let told = match answer {
-        Ok(lengths) => Ok(lengths),
-        Err(why) => Err(why.number()),
-    };
-    let n = remarks::say_end(&mut text, told, end, book);
+    let n = remarks::say_answer(&mut text, answer, end, book);
     report(rt, &text[..n])
 }
 

@@ -45,6 +45,8 @@ use Rattle.sheet.proofs.lines.row_size.Kinds as row-long
 use Rattle.sheet.proofs.lines.row_size.Reads as row-long-contract
 use Rattle.sheet.proofs.remarks.say_end.Kinds as last
 use Rattle.sheet.proofs.remarks.say_end.Reads as last-contract
+use Rattle.sheet.proofs.remarks.say_answer.Kinds as answered
+use Rattle.sheet.proofs.remarks.say_answer.Reads as answered-contract
 use Rattle.sheet.proofs.remarks.say_too_long.Kinds as too_long
 use Rattle.sheet.proofs.remarks.say_too_long.Reads as too-long-contract
 use Rattle.sheet.proofs.remarks.say_lines_too_long.Kinds as lines_long
@@ -165,6 +167,13 @@ say-end-asks-nothing κs args = tt
 -- The last word: its length, and the buffer at the end.
 pub one-say-end : OneAnswerWith last.ps last.r last-contract.Learnt (λ κs e. e.0.now)
 one-say-end κs args f g e e' p q = one-put p.put q.put
+
+pub say-answer-asks-nothing : AsksNothing answered.ps answered-contract.Asked
+say-answer-asks-nothing κs args = tt
+
+-- The last word of an answer as it is given.
+pub one-say-answer : OneAnswerWith answered.ps answered.r answered-contract.Learnt (λ κs e. e.0.now)
+one-say-answer κs args f g e e' p q = one-put p.put q.put
 
 pub say-too-long-asks-nothing : AsksNothing too_long.ps too-long-contract.Asked
 say-too-long-asks-nothing κs args = tt

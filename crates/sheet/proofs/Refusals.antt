@@ -18,13 +18,19 @@ use Rattle.sheet.specs.declared.Refusal.{Refusal}
 use Rattle.sheet.specs.declared.Refusal.TheVariants.{Full, WrongForm, OutsideField, NoLines}
 use Rattle.sheet.specs.declared.Refused.{Refused}
 use Rattle.sheet.specs.Rows.{columns, starts_with, kind_in, row_in}
-use Rattle.sheet.specs.Sheets.{Item, item, wrong, Made, made, refused, before, goes_on_lem, each_by, each, line_item, no_row, rows_of, export_of}
+use Rattle.sheet.specs.Sheets.{code_of, Item, item, wrong, Made, made, refused, before, goes_on_lem, each_by, each, line_item, no_row, rows_of, export_of}
 use Rattle.sheet.specs.Sheets.{row_item, import_of, no_room, answer, buffer}
 use Rattle.sheet.specs.Refusals.{is_right, past, Right, behind, FirstWrong, NoRoom}
 use Rattle.sheet.proofs.AsColumns.{row_text}
 use Rattle.sheet.proofs.Columns.{row_reads}
 use Rattle.sheet.proofs.Runs.{not_made}
 use Rattle.sheet.proofs.RoundTrip.{sounds, row-some, other, is-line}
+
+-- ---- the numbers
+
+-- the paper's number of each: 20 where it is not of the form, 21 for a number outside its field, 23 for no whole line, 16 for no room
+pub paper-codes : (code_of WrongForm ≡ 20) × (code_of OutsideField ≡ 21) × (code_of NoLines ≡ 23) × (code_of Full ≡ 16)
+paper-codes = (refl, refl, refl, refl)
 
 -- ---- the first wrong item
 

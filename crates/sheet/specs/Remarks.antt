@@ -6,7 +6,9 @@ use Rattle.printing.specs.Ascii.{ascii}
 use Rattle.printing.specs.Decimal.{decimal}
 use Rattle.names.specs.Names.{sentence}
 use Rattle.sheet.specs.Faults.{fault_text}
+use Rattle.sheet.specs.declared.Refused.{Refused}
 use Rattle.sheet.specs.declared.Numbered.{Numbered}
+use Rattle.sheet.specs.Sheets.{numbered_of}
 
 -- how many line feeds a text has: one for each row
 unfoldable pub feeds : List ℕ → ℕ
@@ -41,6 +43,11 @@ refused_text code row = ascii "refused " ++ (decimal code ++ (row_word row ++ as
 abbrev pub end_text : List ℕ → Result ℕ Numbered → List ℕ
 end_text text (Ok n) = lines_text (line_count text)
 end_text text (Err r) = people_text text r.code r.row ++ refused_text r.code r.row
+
+-- an answer as it is told: a refusal by its number
+abbrev pub by_number : Result ℕ Refused → Result ℕ Numbered
+by_number (Ok n) = Ok n
+by_number (Err r) = Err (numbered_of r)
 
 -- what is longer than the most bytes that the program has room for
 abbrev pub most_text : ℕ → List ℕ

@@ -4,10 +4,10 @@ ghost use Rattle.base.specs.Choice.{pick};
 ghost use Rattle.printing.specs.Said.{Said};
 ghost use Rattle.printing.specs.Says.{Says};
 ghost use Rattle.sheet.specs.Remarks.{feeds, line_count, lines_text, row_head, people_text, row_word, refused_text, end_text};
-ghost use Rattle.sheet.specs.Remarks.{most_text, too_long_text, lines_too_long_text, status_byte};
+ghost use Rattle.sheet.specs.Remarks.{by_number, most_text, too_long_text, lines_too_long_text, status_byte};
 
-use crate::Numbered;
 use crate::faults::say_fault;
+use crate::{Numbered, Refused};
 use printing::text::Text;
 use printing::{say, say_number};
 
@@ -95,6 +95,16 @@ pub fn say_end(out: &mut [u8], text: &[u8], answer: Result<usize, Numbered>) -> 
     let mut said = Text::new(out);
     tell_end(&mut said, text, answer);
     said.len
+}
+
+// The same of an answer as `import` and `export` give it: a refusal is told by its number.
+pub fn say_answer(out: &mut [u8], text: &[u8], answer: Result<usize, Refused>) -> usize
+    ensures { Said out.old out.new 0 (end_text text.now (by_number answer)) result }
+{
+    match answer {
+        Ok(n) => say_end(out, text, Ok(n)),
+        Err(refused) => say_end(out, text, Err(refused.numbered())),
+    }
 }
 
 // What is said of a text that is longer than the program has room for, from a place on.

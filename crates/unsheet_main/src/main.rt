@@ -37,7 +37,7 @@ fn lines_buffer() -> [u8; MOST_LINES]
 // A sentence where it is refused, and the last word, which is part of the answer: whether it went out.
 fn tell_end(rt: &impl System, text: &[u8], answer: Result<usize, Refused>) -> bool {
     let mut said = [0u8; 512];
-    let n = remarks::say_end(&mut said, text, answer.map_err(Refused::numbered));
+    let n = remarks::say_answer(&mut said, text, answer);
     report(rt, &said[..n])
 }
 
