@@ -34,6 +34,9 @@ one-put-lines κs args f g e e' p q = one-put p q
 pub one-put-header : OneAnswerWith head.ps head.r head-contract.Learnt (λ κs e. e.0.now)
 one-put-header κs args f g e e' p q = one-put p q
 
+pub say-form-asks-nothing : AsksNothing form.ps form-contract.Asked
+say-form-asks-nothing κs args = tt
+
 -- A sheet's form in words.
 pub one-say-form : OneAnswerWith form.ps form.r form-contract.Learnt (λ κs e. left_by e.0.now)
 one-say-form κs args f g e e' p q = (refl, one-says p q)

@@ -30,9 +30,15 @@ look-asks-nothing κs args = tt
 pub one-look : OneAnswer look.ps look.r look-contract.Learnt
 one-look κs args f g e e' p q = p ∙ sym q
 
+pub say-hint-asks-nothing : AsksNothing hint.ps hint-contract.Asked
+say-hint-asks-nothing κs args = tt
+
 -- The hint: its end, and the buffer at the end.
 pub one-say-hint : OneAnswerWith hint.ps hint.r hint-contract.Learnt (λ κs e. left_by e.0.now)
 one-say-hint κs args f g e e' p q = (refl, one-says p q)
+
+pub say-hint-alone-asks-nothing : AsksNothing alone.ps alone-contract.Asked
+say-hint-alone-asks-nothing κs args = tt
 
 -- The hint alone: its end, and the buffer at the end.
 pub one-say-hint-alone : OneAnswerWith alone.ps alone.r alone-contract.Learnt (λ κs e. e.0.now)

@@ -1,7 +1,8 @@
--- One answer of each public function (base, specs/Answers): the index past the text, and the buffer at the end (the first parameter, out). Each asks
--- its caller for room: the functions named put for all of the text, those named say for where it begins. Assumes nothing.
+-- One answer of each public function (base, specs/Answers): the index past the text, and the buffer at the end (the first parameter, out). What writes
+-- into a buffer asks its caller for room: the functions named put for all of the text, those named say for where it begins. What begins a text, or
+-- says words or a number into one, asks nothing. Assumes nothing.
 use mathlib.Core.Path.{◌≡◌, refl, sym, ◌∙◌}
-use Rattle.base.specs.Answers.{OneAnswerWith, TwoAnswers}
+use Rattle.base.specs.Answers.{AsksNothing, OneAnswerWith, TwoAnswers}
 use Rattle.printing.specs.Says.{left_by}
 use Rattle.printing.proofs.Texts.{one-says, same-left}
 use Rattle.printing.proofs.Examples.{one-put}
@@ -76,6 +77,9 @@ one-put-pointed κs args f g e e' p q = one-put p.0 q.0
 pub one-say-pointed : OneAnswerWith shown.ps shown.r shown-contract.Learnt (λ κs e. e.0.now)
 one-say-pointed κs args f g e e' p q = one-put p.put q.put
 
+pub text-new-asks-nothing : AsksNothing text-start.ps text-start-contract.Asked
+text-new-asks-nothing κs args = tt
+
 -- A text at a buffer's start: the bytes, and that none is said.
 pub one-text-new : TwoAnswers text-start.ps text-start.r text-start-contract.Learnt (λ κs args f g e e'. left_by f ≡ left_by g)
 one-text-new κs args f g e e' p q = same-left f g (p.1.0 ∙ sym q.1.0) (p.1.1 ∙ sym q.1.1)
@@ -84,9 +88,15 @@ one-text-new κs args f g e e' p q = same-left f g (p.1.0 ∙ sym q.1.0) (p.1.1 
 pub one-text-behind : TwoAnswers text-behind.ps text-behind.r text-behind-contract.Learnt (λ κs args f g e e'. left_by f ≡ left_by g)
 one-text-behind κs args f g e e' p q = same-left f g (p.1.0 ∙ sym q.1.0) (p.1.1 ∙ sym q.1.1)
 
+pub text-say-asks-nothing : AsksNothing text-words.ps text-words-contract.Asked
+text-say-asks-nothing κs args = tt
+
 -- Words said into it.
 pub one-text-say : OneAnswerWith text-words.ps text-words.r text-words-contract.Learnt (λ κs e. left_by e.0.now)
 one-text-say κs args f g e e' p q = (refl, one-says p q)
+
+pub text-say-number-asks-nothing : AsksNothing text-count.ps text-count-contract.Asked
+text-say-number-asks-nothing κs args = tt
 
 -- A number.
 pub one-text-say-number : OneAnswerWith text-count.ps text-count.r text-count-contract.Learnt (λ κs e. left_by e.0.now)
