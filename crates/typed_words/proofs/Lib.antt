@@ -6,3 +6,4 @@ mod Quotient
 mod Same
 pub mod TypedExact
 pub mod OneAnswer
+mod Values

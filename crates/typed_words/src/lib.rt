@@ -3,7 +3,7 @@
 
 ghost use Rattle.std.specs.Prelude.{◌≡◌, ◌+◌, ◌^◌, ◌≤◌, ◌<◌, length, take, drop, replicate, IfSome, Some};
 ghost use Rattle.typed_words.specs.Words.{is_blank, leading_of, trimmed, first_word, past_word, nth_word, same_text_lem, lowered, nth_part};
-ghost use Rattle.typed_words.specs.Numbers.{digits_from, whole_of, decimal_of, double};
+ghost use Rattle.typed_words.specs.Numbers.{takes, digits_from, whole_of, decimal_of, double};
 ghost use Rattle.typed_words.specs.Amounts.{with_digit, number_from, amount_of};
 
 use base::{find, first_of, rest_of};
@@ -83,15 +83,26 @@ fn number(start: u64, s: &[u8]) -> Option<u64>
     Some(v)
 }
 
-// The digits of s behind those of start, at most 15 of them in all, leading zeros not counted.
+// Whether b is a digit that v can take behind its own, of which there are at most 14.
+fn takes_digit(v: u64, b: u8) -> bool
+    ensures { result ≡ takes v b }
+{
+    b.is_ascii_digit() & (v < 100_000_000_000_000)
+}
+
+// The digits of s behind those of start, at most 15 of them in all, leading zeros not counted. No twin of `number`: it stops at the first that is one
+// too many, however many come after it.
 fn digits(start: u64, s: &[u8]) -> Option<u64>
     requires { start < 1000000000000000 }
     ensures value { result ≡ digits_from start s.now }
     ensures value_bound { IfSome result (λ v. v < 1000000000000000) }
 {
-    let v = number(start, s)?;
-    if ALL_MORE <= v {
-        return None;
+    let mut v = start;
+    for &b in s {
+        if !takes_digit(v, b) {
+            return None;
+        }
+        v = v * 10 + (b - 48) as u64;
     }
     Some(v)
 }
