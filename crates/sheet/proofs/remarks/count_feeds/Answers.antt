@@ -1,30 +1,29 @@
-use Prim.Native.Nat.{ℕ, ◌+◌}
-use mathlib.Core.Path.{◌≡◌, refl, sym, ◌∙◌}
+use Prim.Native.Nat.{ℕ, ◌+◌, ◌≤◌, ◌<◌}
 use native.Mathlib.Omega.{arith}
-use mathlib.Core.Bool.{Bool, true, false, cond}
+use native.Mathlib.Numerals.{add-one}
+use mathlib.Core.Path.{◌≡◌}
 use mathlib.Core.List.{List}
+use lib.ListN.{length, get_or, drop, drop_of_length-le}
+use lib.Seq.{drop-cons}
 use lib.Dec.{eqb}
-use Rattle.std.proofs.Common.{rules, tests}
-use Rattle.std.proofs.lemmas.Iterator.{YieldsList-from_slice}
-use Rattle.std.proofs.lemmas.Iterator.Consumers.{YieldsList-from_filter, count_from_yields_List}
-use Rattle.std.proofs.lemmas.List.Sums.{length-filter}
-use Rattle.std.proofs.lemmas.List.Recursion.{is_count_by}
-use Rattle.std.specs.List.{count_by}
 use Rattle.base.specs.Choice.{pick}
 use Rattle.sheet.specs.Remarks.{feeds}
 use Rattle.sheet.proofs.remarks.count_feeds.Goals as goal
 
-one-more : (b : Bool) (n : ℕ) → pick b 1 0 + n ≡ cond b (1 + n) n
-one-more true n = refl
-one-more false n = omega arith
-
--- as std's words say it
-feeds-as : (s : List ℕ) → feeds s ≡ count_by (λ x. eqb x 10) s
+one_on : (text : List ℕ) (i : ℕ) → i < length text → feeds (drop i text) ≡ pick (eqb (get_or text i 0) 10) 1 0 + feeds (drop (i + 1) text)
 unfolding feeds
-feeds-as = is_count_by feeds (λ x. eqb x 10) refl (λ x xs. one-more (eqb x 10) (feeds xs))
+one_on text i h = rw (add-one i, drop-cons text i 0 h)
+
+none_left : (text : List ℕ) (i : ℕ) → length text ≤ i → feeds (drop i text) ≡ 0
+unfolding feeds
+none_left text i h = rw (drop_of_length-le text h)
+
+pub loop-b-preserved : goal.loop-b-preserved
+loop-b-preserved c =
+    let turn = c.loop-b in
+    let on = one_on c.args.text.now turn.b-index c.loop-b-test.true in
+    let one = c.one_if_feed-n.ensures in
+    record { few = omega (arith, turn.invariant.few, one.upper_bound); so_far = omega (arith, turn.invariant.so_far, on, one.value) }
 
 pub returns : goal.returns
-returns c = let s = c.args.text.now in
-    count_from_yields_List c.filter.result c.count.result c.count.ensures.ran
-    (YieldsList-from_filter _ (λ x. eqb x 10) (YieldsList-from_slice s cc) c.filter.ensures.closure (λ x b q k. search (rules, tests)))
-    ∙ length-filter (λ x. eqb x 10) s ∙ sym (feeds-as s)
+returns c = let turn = c.loop-b in omega (arith, turn.invariant.so_far, none_left c.args.text.now turn.b-index c.loop-b-test.false)
